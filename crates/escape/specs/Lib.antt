@@ -1,0 +1,2 @@
+-- Escapes (TriG, section 4.4).
+pub mod Escape

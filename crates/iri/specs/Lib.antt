@@ -1,0 +1,4 @@
+-- IRIs: schemes, and resolution of references.
+pub mod Iri
+pub mod Dots
+pub mod Resolve

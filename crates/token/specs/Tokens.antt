@@ -1,0 +1,70 @@
+-- Cutting a document into tokens.
+use mathlib.Core.List.{List, [], _∷_}
+use mathlib.Core.Bool.{Bool, true, false, _||_}
+use Prim.Native.Nat.{ℕ, zero, suc, _+_, _-_}
+use lib.ListN.{take, drop, length}
+use Rattle.text.specs.Text.{Text, cond, is, one-of}
+use Rattle.utf8.specs.Utf8.{width, decode, computing as utf8-computing}
+use Rattle.token.specs.Kind.{Kind, kind-of-code, among}
+use Rattle.token.specs.Regular.{Match, nothing, hit}
+use Rattle.token.specs.Terminals.{token-at}
+
+-- A token: its kind, the place of its first byte, and its bytes.
+pub record Token : Type 0 where
+  pub kind : Kind
+  pub start : ℕ
+  pub text : Text
+
+abbrev pub has-kind : List Kind → Token → Bool
+has-kind ks t = among ks (t .kind)
+
+-- What stands at a place: a token, or nothing that can be read.
+pub data Lexeme : Type 0 where
+  token : Token → Lexeme
+  unreadable : ℕ → Lexeme
+
+-- Where the cutting is: between tokens, in a comment, or in a token that has so many bytes left.
+pub data Cutting : Type 0 where
+  between comment : Cutting
+  inside : ℕ → Cutting
+
+-- [161s] WS ::= #x20 | #x9 | #xD | #xA
+abbrev pub white-space : ℕ → Bool
+white-space c = one-of " \t\r\n" c
+
+-- 4.2: a comment goes to the end of line, "marked by characters U+000D or U+000A".
+abbrev pub line-end : ℕ → Bool
+line-end c = one-of "\r\n" c
+
+abbrev pub in-comment : ℕ → Cutting
+in-comment c = cond (line-end c) between comment
+
+-- Where the cutting is when a token has so many bytes left.
+abbrev pub passed : ℕ → Cutting
+passed zero = between
+passed (suc k) = inside (suc k)
+
+-- The tokens of the document from the place `at` on, where these code points stand; up to the first place where none can be read.
+unfoldable pub lexemes-from : Text → Cutting → ℕ → List ℕ → List Lexeme
+lexemes-from doc state at [] = []
+lexemes-from doc (inside k) at (c ∷ cs) = lexemes-from doc (passed (k - width c)) (at + width c) cs
+lexemes-from doc comment at (c ∷ cs) = lexemes-from doc (in-comment c) (at + width c) cs
+lexemes-from doc between at (c ∷ cs) =
+    elim (white-space c || is "#" c) [
+      | true ↦ lexemes-from doc (cond (is "#" c) comment between) (at + 1) cs
+      | false ↦
+          elim (token-at (c ∷ cs)) [
+            | nothing ↦ unreadable at ∷ []
+            | hit k n ↦
+                token (record { kind = kind-of-code k; start = at; text = take n (drop at doc) })
+                ∷ lexemes-from doc (passed (n - width c)) (at + width c) cs
+          ]
+    ]
+
+unfoldable pub lexemes : Text → List Lexeme
+lexemes doc = lexemes-from doc between 0 (decode doc)
+
+-- All that computes here; an example that is checked by evaluation names it.
+unfoldable pub computing : ℕ
+unfolding utf8-computing token-at lexemes-from lexemes
+computing = 0
