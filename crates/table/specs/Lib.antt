@@ -1,0 +1,6 @@
+-- The lent tables: rows, terms and store; numbering; usable tables, a term's text, and the long form.
+pub mod Layout
+pub mod Tables
+pub mod Usable
+pub mod TermText
+pub mod LongForm

@@ -1,0 +1,18 @@
+// The sizes of rows and terms in a lent slice of 32-bit words.
+pub struct Layout {}
+
+impl Layout {
+    pub const ROW_WORDS: usize = 5;
+
+    pub const TERM_WORDS: usize = 5;
+
+    // How many rows so many words have room for.
+    pub fn row_room(words: usize) -> usize {
+        words / Layout::ROW_WORDS
+    }
+
+    // How many terms so many words have room for.
+    pub fn term_room(words: usize) -> usize {
+        words / Layout::TERM_WORDS
+    }
+}
