@@ -6,6 +6,7 @@ use Prim.Native.Nat.{ℕ, zero, suc, _+_, _*_}
 use lib.Dec.{eqb, leb, ltb}
 use lib.ListN.{length}
 use Rattle.text.specs.Text.{Text, cond, between}
+use Rattle.limits.specs.Limits.{iri-limit}
 use Rattle.utf8.specs.Utf8.{first-bad}
 use Rattle.token.specs.Kind.{kind-code, LANGTAG}
 use Rattle.token.specs.Regular.{Match, nothing, hit}
@@ -13,10 +14,6 @@ use Rattle.token.specs.Terminals.{token-at}
 use Rattle.iri.specs.Iri.{has-scheme}
 use Rattle.dataset.specs.Terms.{Blank, numbered, Term, iri, blank, literal, tagged, Triple, Quad}
 use Rattle.table.specs.Layout.{Row, row-size, row-at, Entry, term-size, entry-at, iri-kind, blank-kind, literal-kind, tagged-kind, Slices, span}
-
--- "over 1,024 bytes": the limit on an IRI.
-abbrev pub iri-limit : ℕ
-iri-limit = 1024
 
 abbrev pub is-none : Option ℕ → Bool
 is-none none = true
