@@ -47,8 +47,12 @@ abbrev pub new-term : Term → Write ℕ
 new-term t m = (suc (length (m .terms)), record { environment = m .environment; graph = m .graph; rows = m .rows; terms = m .terms ++ t ∷ [] })
 
 -- "Equal terms share a number, except that each [ and each list cell is new": the number of the equal term, or of a new one.
+abbrev pub term-by : Option ℕ → Term → Write ℕ
+term-by (some n) t m = (n, m)
+term-by none t m = new-term t m
+
 abbrev pub term : Term → Write ℕ
-term t m = elim (number t (m .terms)) [ some n ↦ (n, m) | none ↦ new-term t m ]
+term t m = term-by (number t (m .terms)) t m
 
 -- A literal of a datatype: "a datatype is numbered before its literal".
 abbrev pub typed : Text → Text → Write ℕ

@@ -64,7 +64,25 @@ lexemes-from doc between at (c ∷ cs) =
 unfoldable pub lexemes : Text → List Lexeme
 lexemes doc = lexemes-from doc between 0 (decode doc)
 
+-- The tokens, up to the first place where none can be read; whether there is no such place.
+unfoldable pub tokens-of : List Lexeme → List Token
+tokens-of [] = []
+tokens-of (token t ∷ ls) = t ∷ tokens-of ls
+tokens-of (unreadable p ∷ ls) = []
+
+unfoldable pub readable : List Lexeme → Bool
+readable [] = true
+readable (token t ∷ ls) = readable ls
+readable (unreadable p ∷ ls) = false
+
+-- The place of token i, from 0 on; of the first unreadable place or of the document's end, n, where there are fewer.
+unfoldable pub place-of : ℕ → List Lexeme → ℕ → ℕ
+place-of n [] i = n
+place-of n (unreadable p ∷ ls) i = p
+place-of n (token t ∷ ls) zero = t .start
+place-of n (token t ∷ ls) (suc i) = place-of n ls i
+
 -- All that computes here; an example that is checked by evaluation names it.
 unfoldable pub computing : ℕ
-unfolding utf8-computing token-at lexemes-from lexemes
+unfolding utf8-computing token-at lexemes-from lexemes tokens-of readable place-of
 computing = 0

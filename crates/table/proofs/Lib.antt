@@ -1,0 +1,3 @@
+-- Laws of the tables.
+pub mod Numbers
+pub mod Held
