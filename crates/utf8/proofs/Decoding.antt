@@ -14,7 +14,7 @@ use lib.ListN.{length, getD, take, drop, length-append, length-drop, drop-of-len
 use lib.Seq.{take-at, take-all, drop-at, drop-drop, drop-cons, getD-drop}
 use Rattle.text.specs.Text.{Text, cond}
 use Rattle.utf8.specs.Utf8.{sequences, fits, first-fit, sequence-size, lead-bits, more-bits, code-point, decode-from, decode, bad-from, first-bad, encode, encodes, width}
-use Rattle.utf8.specs.Scalar.{Scalar, Scalars}
+use Rattle.utf8.specs.Scalar.{Scalar, Scalars, Encodes}
 use Rattle.utf8.proofs.Tests.{by, split}
 use Rattle.utf8.proofs.Encoding.{by-width, length-encode, width-pos, width-most, size-encode, size-one, size-reads, Reads}
 
@@ -99,21 +99,16 @@ valid-encodes cs s = bad-encodes cs s 0
 
 -- ---- Encoding what was decoded
 
--- A text is the encoding of its code points, which are scalar values.
-pub record Good (s : Text) (cs : List ℕ) : Type 0 where
-  pub scalars : Scalars cs
-  pub bytes : s ≡ encodes cs
-
-good-from : (s : Text) (at k : ℕ) → bad-from at k s ≡ none → Good (drop k s) (decode-from k s)
+encodes-from : (s : Text) (at k : ℕ) → bad-from at k s ≡ none → Encodes (drop k s) (decode-from k s)
 unfolding bad-from decode-from encodes
-good-from [] at zero e = record { scalars = tt; bytes = refl }
-good-from [] at (suc k) e = record { scalars = tt; bytes = refl }
-good-from (b ∷ s) at (suc k) e = good-from s (suc at) k e
-good-from (b ∷ s) at zero e = go (sequence-size (b ∷ s)) refl (λ k. good-from s (suc at) k) e
+encodes-from [] at zero e = record { scalars = tt; bytes = refl }
+encodes-from [] at (suc k) e = record { scalars = tt; bytes = refl }
+encodes-from (b ∷ s) at (suc k) e = encodes-from s (suc at) k e
+encodes-from (b ∷ s) at zero e = go (sequence-size (b ∷ s)) refl (λ k. encodes-from s (suc at) k) e
   where
-    go : (n : ℕ) → sequence-size (b ∷ s) ≡ n → ((k : ℕ) → bad-from (suc at) k s ≡ none → Good (drop k s) (decode-from k s))
+    go : (n : ℕ) → sequence-size (b ∷ s) ≡ n → ((k : ℕ) → bad-from (suc at) k s ≡ none → Encodes (drop k s) (decode-from k s))
         → cond (eqb n 0) (some at) (bad-from (suc at) (pred n) s) ≡ none
-        → Good (b ∷ s) (code-point (take n (b ∷ s)) ∷ decode-from (pred n) s)
+        → Encodes (b ∷ s) (code-point (take n (b ∷ s)) ∷ decode-from (pred n) s)
     go zero f ih e = let z : _≡_ {A = ℕ} 0 1 = cc in absurd (omega arith)
     go (suc k) f ih e =
         let r = size-reads (b ∷ s) k f in
@@ -125,12 +120,12 @@ good-from (b ∷ s) at zero e = go (sequence-size (b ∷ s)) refl (λ k. good-fr
           bytes = r .whole ∙ ap (λ (x : Text). encode (code-point (take (suc k) (b ∷ s))) ++ x) (sym d ∙ g .bytes);
         }
 
-pub valid-good : (s : Text) → first-bad s ≡ none → Good s (decode s)
+pub valid-encoded : (s : Text) → first-bad s ≡ none → Encodes s (decode s)
 unfolding first-bad decode
-valid-good s e = good-from s 0 0 e
+valid-encoded s e = encodes-from s 0 0 e
 
-pub good-valid : (s : Text) (cs : List ℕ) → Good s cs → (first-bad s ≡ none) × (decode s ≡ cs)
-good-valid s cs g = (ap first-bad (g .bytes) ∙ valid-encodes cs (g .scalars), ap decode (g .bytes) ∙ decode-encodes cs (g .scalars))
+pub encoded-valid : (s : Text) (cs : List ℕ) → Encodes s cs → (first-bad s ≡ none) × (decode s ≡ cs)
+encoded-valid s cs g = (ap first-bad (g .bytes) ∙ valid-encodes cs (g .scalars), ap decode (g .bytes) ∙ decode-encodes cs (g .scalars))
 
 -- ---- Parts of a text
 

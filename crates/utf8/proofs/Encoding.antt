@@ -12,7 +12,7 @@ use lib.ListN.{length, getD, take}
 use lib.Count.{leadingZeros}
 use Rattle.text.specs.Text.{Text, cond, between}
 use Rattle.utf8.specs.Utf8.{Range, _–_, sequences, fits, first-fit, sequence-size, lead-bits, more-bits, code-point, encode, width}
-use Rattle.utf8.specs.Scalar.{Scalar}
+use Rattle.utf8.specs.Scalar.{Scalar, Highs}
 use Rattle.utf8.specs.Code.{lead-size, second-low, second-high, sized}
 use Rattle.utf8.proofs.Tests.{by, split, below, below-at, and-true, between-true}
 use Rattle.utf8.proofs.Size.{first-tail, rows-of, more-tails, size-rows, lead-small, size-sized, no-byte}
@@ -59,11 +59,6 @@ head c t =
     (λ h h′. inr (h, simp (le-ltb c 0x80 h, lt-ltb c 0x800 h′) (omega arith)))
     (λ h h′. inr (omega arith, simp (le-ltb c 0x80 (omega arith), le-ltb c 0x800 h, lt-ltb c 0x10000 h′) (omega arith)))
     (λ h. inr (omega arith, simp (le-ltb c 0x80 (omega arith), le-ltb c 0x800 (omega arith), le-ltb c 0x10000 h) (omega arith)))
-
--- Bytes from 128 on.
-abbrev pub Highs : Text → Type 0
-Highs [] = Unit {0}
-Highs (b ∷ s) = (128 ≤ b) × Highs s
 
 pub highs-encode : (c : ℕ) → 128 ≤ c → Highs (encode c)
 highs-encode c h =
