@@ -1,0 +1,164 @@
+-- The run of the automaton from the beginning gives the token at the front; nothing comes after a dead end.
+use mathlib.Core.Path.{_≡_, refl, subst, sym, ap, _∙_}
+use mathlib.Core.Logic.{_⊎_, inl, inr, ⊎-elim}
+use mathlib.Core.Bool.{Bool, true, false, _&&_}
+use mathlib.Core.List.{List, [], _∷_, _++_}
+use Prim.Native.Nat.{ℕ, zero, suc, _+_, _≤_, _<_}
+use native.Mathlib.Omega.{arith}
+use native.Mathlib.Nat.{add-zero, zero-add, add-assoc}
+use borrow.Author.Tests.{lt-ltb, ne-eqb}
+use lib.Dec.{eqb}
+use lib.ListN.{length, getD, drop, length-append, length-drop}
+use Rattle.text.specs.Text.{Text, cond}
+use Rattle.utf8.specs.Utf8.{encode, encodes, width}
+use Rattle.utf8.specs.Scalar.{Scalars, Encodes}
+use Rattle.utf8.proofs.Tests.{by, split, and-false}
+use Rattle.utf8.proofs.Encoding.{head, length-encode, width-pos}
+use Rattle.token.specs.Regular.{Item, item, Match, nothing, hit, nullable, step, least-of, now-at, later, best}
+use Rattle.token.specs.Terminals.{terminals, long-terminals, tripled, token-at}
+use Rattle.automaton.specs.States.{State}
+use Rattle.automaton.specs.Run.{tok, answer, seen-kind, seen-len, run, Rest}
+use Rattle.automaton.specs.declared.Token.{Token}
+
+-- ---- The run is the longest match
+
+-- The last token seen, where a match at the place i comes after it.
+abbrev over : ℕ → ℕ → ℕ → Match → Token
+over i kind len nothing = tok kind len
+over i kind len (hit k n) = tok k (i + n)
+
+-- A match of the empty text has no bytes.
+abbrev Flat : Match → Type 0
+Flat nothing = Unit {0}
+Flat (hit k n) = n ≡ 0
+
+now-flat : (q : State) → Flat (now-at q)
+now-flat [] = tt
+now-flat (item k r ∷ xs) = by (nullable r) (λ e. rw e (least (now-at xs) (now-flat xs))) (λ e. rw e (now-flat xs))
+  where
+    least : (m : Match) → Flat m → Flat (least-of k m)
+    least nothing f = refl
+    least (hit j n) f = f
+
+settle : (m : Match) (i kind len : ℕ) → Flat m → tok (seen-kind m kind) (seen-len m i len) ≡ over i kind len m
+settle nothing i kind len f = refl
+settle (hit k n) i kind len f = ap (tok k) (sym (ap (λ (x : ℕ). i + x) f ∙ add-zero i))
+
+over-later : (n i kind len : ℕ) (m a : Match) → Flat m → over (i + n) (seen-kind m kind) (seen-len m i len) a ≡ over i kind len (later n a m)
+over-later n i kind len m nothing f = settle m i kind len f
+over-later n i kind len m (hit k x) f = ap (tok k) (add-assoc i n x)
+
+run-best : (cs : List ℕ) (q : State) (i kind len : ℕ)
+    → run q i (seen-kind (now-at q) kind) (seen-len (now-at q) i len) cs ≡ over i kind len (best width q cs)
+run-best [] q i kind len = settle (now-at q) i kind len (now-flat q)
+run-best (c ∷ cs) q i kind len =
+    run-best cs (step c q) (i + width c) (seen-kind (now-at q) kind) (seen-len (now-at q) i len)
+    ∙ over-later (width c) i kind len (now-at q) (best width (step c q) cs) (now-flat q)
+
+over-answer : (m : Match) → over 0 0 0 m ≡ answer m
+over-answer nothing = refl
+over-answer (hit k n) = ap (tok k) (zero-add n)
+
+-- The state in which a text begins.
+abbrev pub start-of : Text → State
+start-of s = cond (tripled s) long-terminals terminals
+
+start-nothing : (b : Bool) → now-at (cond b long-terminals terminals) ≡ nothing
+start-nothing true = refl
+start-nothing false = refl
+
+run-token : (cs : List ℕ) → run (start-of cs) 0 0 0 cs ≡ answer (token-at cs)
+unfolding token-at
+run-token cs =
+    ap (λ (m : Match). run (start-of cs) 0 (seen-kind m 0) (seen-len m 0 0) cs) (sym (start-nothing (tripled cs)))
+    ∙ run-best cs (start-of cs) 0 0 0 ∙ over-answer (best width (start-of cs) cs)
+
+-- ---- Nothing is left
+
+pub dead-run : (cs : List ℕ) (i kind len : ℕ) → run [] i kind len cs ≡ tok kind len
+dead-run [] i kind len = refl
+dead-run (c ∷ cs) i kind len = dead-run cs (i + width c) kind len
+
+-- ---- Three equal quotes among the bytes are three among the code points
+
+no-quote : (a k : ℕ) → 128 ≤ a → k < 128 → eqb a k ≡ false
+no-quote a k h l = ne-eqb a k (omega arith)
+
+first-no : (a : ℕ) (s : Text) → 128 ≤ a → tripled (a ∷ s) ≡ false
+first-no a [] h = refl
+first-no a (b ∷ []) h = refl
+first-no a (b ∷ c ∷ t) h = simp (no-quote a 34 h (omega arith), no-quote a 39 h (omega arith))
+
+second-no : (a b : ℕ) (s : Text) → 128 ≤ b → tripled (a ∷ b ∷ s) ≡ false
+second-no a b [] h = refl
+second-no a b (c ∷ t) h = simp (no-quote b 34 h (omega arith), no-quote b 39 h (omega arith), and-false)
+
+third-no : (a b c : ℕ) (s : Text) → 128 ≤ c → tripled (a ∷ b ∷ c ∷ s) ≡ false
+third-no a b c s h = simp (no-quote c 34 h (omega arith), no-quote c 39 h (omega arith), and-false)
+
+record Far (c : ℕ) (s : Text) : Type 0 where
+  byte : ℕ
+  more : Text
+  far : 128 ≤ c
+  high : 128 ≤ byte
+  eq : s ≡ byte ∷ more
+
+-- An encoding is the code point itself, or begins with a byte from 128 on.
+shape : (c : ℕ) (t : Text) → (encode c ++ t ≡ c ∷ t) ⊎ Far c (encode c ++ t)
+shape c t = ⊎-elim (λ h. inl (simp (lt-ltb c 0x80 h))) (λ h. inr (go h (encode c ++ t) refl)) (split c 0x80)
+  where
+    go : 0x80 ≤ c → (s : Text) → s ≡ encode c ++ t → Far c (encode c ++ t)
+    go h [] e =
+        let m = ap length e ∙ length-append (encode c) t in
+        let n = length-encode c in
+        let o = width-pos c in
+        absurd (omega arith)
+    go h (b ∷ r) e =
+        let m : 0x80 ≤ b =
+                ⊎-elim (λ v. let x = v .0 in absurd (omega arith)) (λ v. subst (λ (x : Text). 0x80 ≤ getD x 0 0) (sym e) (v .1)) (head c t) in
+        record { byte = b; more = r; far = h; high = m; eq = sym e }
+
+tri-third : (c d : ℕ) (es : List ℕ) → tripled (c ∷ d ∷ encodes es) ≡ tripled (c ∷ d ∷ es)
+unfolding encodes
+tri-third c d [] = refl
+tri-third c d (e ∷ es) =
+    ⊎-elim (λ z. ap (λ (x : Text). tripled (c ∷ d ∷ x)) z)
+    (λ z. ap (λ (x : Text). tripled (c ∷ d ∷ x)) (z .eq) ∙ third-no c d (z .byte) (z .more) (z .high) ∙ sym (third-no c d e es (z .far)))
+    (shape e (encodes es))
+
+tri-second : (c : ℕ) (ds : List ℕ) → tripled (c ∷ encodes ds) ≡ tripled (c ∷ ds)
+unfolding encodes
+tri-second c [] = refl
+tri-second c (d ∷ ds) =
+    ⊎-elim (λ z. ap (λ (x : Text). tripled (c ∷ x)) z ∙ tri-third c d ds)
+    (λ z. ap (λ (x : Text). tripled (c ∷ x)) (z .eq) ∙ second-no c (z .byte) (z .more) (z .high) ∙ sym (second-no c d ds (z .far)))
+    (shape d (encodes ds))
+
+tri-first : (cs : List ℕ) → tripled (encodes cs) ≡ tripled cs
+unfolding encodes
+tri-first [] = refl
+tri-first (c ∷ cs) =
+    ⊎-elim (λ z. ap tripled z ∙ tri-second c cs)
+    (λ z. ap tripled (z .eq) ∙ first-no (z .byte) (z .more) (z .high) ∙ sym (first-no c cs (z .far)))
+    (shape c (encodes cs))
+
+-- ---- The beginning and the end of a run
+
+pub rest-start : (s : Text) (cs : List ℕ) → Encodes s cs → Rest s (start-of s) 0 0 0 cs
+rest-start s cs g = record {
+  ds = cs;
+  left = g;
+  same = ap (λ (b : Bool). run (cond b long-terminals terminals) 0 0 0 cs) (ap tripled (g .bytes) ∙ tri-first cs) ∙ run-token cs
+}
+
+pub rest-end : (s : Text) (q : State) (i kind len : ℕ) (cs : List ℕ) → length s ≤ i → Rest s q i kind len cs → tok kind len ≡ answer (token-at cs)
+unfolding encodes
+rest-end s q i kind len cs h r = fin (r .ds) (r .left .bytes) (r .same)
+  where
+    fin : (ds : List ℕ) → drop i s ≡ encodes ds → run q i kind len ds ≡ answer (token-at cs) → tok kind len ≡ answer (token-at cs)
+    fin [] e z = z
+    fin (c ∷ ds) e z =
+        let m = sym (length-drop i s) ∙ ap length e ∙ length-append (encode c) (encodes ds) in
+        let n = length-encode c in
+        let o = width-pos c in
+        absurd (omega arith)

@@ -1,0 +1,81 @@
+-- `first_bad` meets its contract. The invariant: what is left of the search is that of the rest, from there on.
+use native.Mathlib.Omega.{arith}
+use borrow.Author.Needs.{needs}
+use denote.Ref.{now}
+use mathlib.Core.Path.{_≡_, refl, sym, _∙_}
+use Prim.Native.Nat.{_≤_, _-_}
+use lib.ListN.{length, drop}
+use Rattle.utf8.specs.Utf8.{first-bad, bad-from, sequence-size}
+use Rattle.utf8.proofs.Decoding.{bad-on, bad-ascii, bad-here, bad-none}
+use Rattle.utf8.proofs.first_bad.Statement.{statement}
+use Rattle.utf8.proofs.first_bad.Tie as tie
+
+abbrev Inv-loop : tie.InvT-loop
+Inv-loop s i₀ i = (i ≤ length s) × (first-bad s ≡ bad-from i 0 (drop i s))
+
+abbrev μ-loop : tie.MeasureT-loop
+μ-loop s i₀ i = length s - i
+
+loop-holds : tie.Need-loop-holds Inv-loop μ-loop
+unfolding first-bad
+loop-holds c = (omega arith, refl)
+
+shared-slice-read-if1 : tie.Need-shared-slice-read-if1 Inv-loop μ-loop
+shared-slice-read-if1 c = search needs
+
+add-i : tie.Need-add-i Inv-loop μ-loop
+add-i c = search needs
+
+loop-less : tie.Need-loop-less Inv-loop μ-loop
+loop-less c = search needs
+
+loop-again : tie.Need-loop-again Inv-loop μ-loop
+loop-again c = (omega arith, (c .before .before .before .loop .inv .1) ∙ bad-ascii (now (c .before .before .before .before .before .args .s)) (c .before .before .before .loop .i) (c .before .before .loop-test .taken) (c .if1 .taken))
+
+sub-sequence-size : tie.Need-sub-sequence-size Inv-loop μ-loop
+sub-sequence-size c = search needs
+
+part-sequence-size-start : tie.Need-part-sequence-size-start Inv-loop μ-loop
+part-sequence-size-start c = search needs
+
+part-sequence-size-end : tie.Need-part-sequence-size-end Inv-loop μ-loop
+part-sequence-size-end c = search needs
+
+sequence-size-requires : tie.Need-sequence-size-requires Inv-loop μ-loop
+sequence-size-requires c κs = search needs
+
+returns : tie.Need-returns Inv-loop μ-loop
+returns c = sym ((c .before .before .before .before .before .before .loop .inv .1) ∙ bad-here (now (c .before .before .before .before .before .before .before .before .args .s)) (c .before .before .before .before .before .before .loop .i) (c .before .before .before .before .before .loop-test .taken) (sym (c .before .sequence-size .ensures) ∙ (c .if2 .taken)))
+
+add-i-2 : tie.Need-add-i-2 Inv-loop μ-loop
+add-i-2 c = omega (arith, bad-on (now (c .before .before .before .before .before .before .before .before .args .s)) (c .before .before .before .before .before .before .loop .i) (c .before .sequence-size .result) (c .before .sequence-size .ensures) (c .if2 .left) .0)
+
+loop-less-2 : tie.Need-loop-less-2 Inv-loop μ-loop
+loop-less-2 c = omega (arith, bad-on (now (c .before .before .before .before .before .before .before .before .args .s)) (c .before .before .before .before .before .before .loop .i) (c .before .sequence-size .result) (c .before .sequence-size .ensures) (c .if2 .left) .0)
+
+loop-again-2 : tie.Need-loop-again-2 Inv-loop μ-loop
+loop-again-2 c = (bad-on (now (c .before .before .before .before .before .before .before .before .args .s)) (c .before .before .before .before .before .before .loop .i) (c .before .sequence-size .result) (c .before .sequence-size .ensures) (c .if2 .left) .0, (c .before .before .before .before .before .before .loop .inv .1) ∙ bad-on (now (c .before .before .before .before .before .before .before .before .args .s)) (c .before .before .before .before .before .before .loop .i) (c .before .sequence-size .result) (c .before .sequence-size .ensures) (c .if2 .left) .1)
+
+returns-2 : tie.Need-returns-2 Inv-loop μ-loop
+returns-2 c = sym ((c .before .loop .inv .1) ∙ bad-none (now (c .before .before .before .args .s)) (c .before .loop .i) (c .loop-test .left))
+
+pub first-bad-spec : {M : Type 1} → statement M
+first-bad-spec =
+    tie.close
+    (tie.spec
+    Inv-loop
+    μ-loop
+    loop-holds
+    shared-slice-read-if1
+    add-i
+    loop-less
+    loop-again
+    sub-sequence-size
+    part-sequence-size-start
+    part-sequence-size-end
+    sequence-size-requires
+    returns
+    add-i-2
+    loop-less-2
+    loop-again-2
+    returns-2)
