@@ -1,17 +1,16 @@
 -- Laws of the scan: each byte moves it as the definitions of escapes say.
-use Prim.Native.Nat.{ℕ, zero, suc, _+_, _*_, _-_, _/_, _%_, _≤_, _<_}
+use Prim.Native.Nat.{ℕ, zero, suc, _+_, _*_, _-_, _%_, _≤_, _<_}
 use mathlib.Core.Path.{_≡_, refl, ap, sym, subst, _∙_}
-use mathlib.Core.List.{List, [], _∷_, _++_, append-nil}
-use mathlib.Core.Bool.{Bool, true, false, _||_}
+use mathlib.Core.List.{List, [], _∷_, _++_}
+use mathlib.Core.Bool.{true, false, _||_}
 use native.Mathlib.Nat.{mod-eq-of-lt}
 use native.Mathlib.Omega.{arith}
-use lib.ListN.{length, take, drop, getD, length-append}
 use lib.Dec.{eqb, ltb, leb}
-use borrow.Author.Tests.{eq-eqb, ne-eqb, eqb-true, eqb-false, lt-ltb, le-ltb, ltb-true, ltb-false, lt-leb}
-use Rattle.text.specs.Text.{Text, cond}
+use borrow.Author.Tests.{eq-eqb, ne-eqb, eqb-true, eqb-false, le-ltb, ltb-true, ltb-false, lt-leb}
+use Rattle.text.specs.Text.{Text}
 use Rattle.text.proofs.Compare.{by}
 use Rattle.utf8.specs.Utf8.{encode, width}
-use Rattle.escape.specs.Escape.{Piece, plain, numeric, letter, outside, behind, digits, hex-value, letter-value, pieces-from, pieces, unescape-piece, unescape-pieces, unescape, bad-pieces, bad-escape, no-character, unreserve}
+use Rattle.escape.specs.Escape.{Piece, plain, numeric, letter, outside, behind, digits, hex-value, letter-value, pieces-from, pieces, unescape-piece, unescape-pieces, bad-pieces, no-character, unreserve}
 use Rattle.escape.specs.Escape as escape
 use Rattle.escape.specs.Code.{inside, gives, step-outside, step-behind, step-name, step-digit, step, four, piece, bad, place, undone, most, Fair}
 use Rattle.escape.specs.declared.Scan.{Scan}
@@ -31,23 +30,23 @@ unfolding piece
 piece-none left v = refl
 
 -- What the scan of the definition does at a byte.
-at-backslash : (c : ℕ) (cs : Text) → eqb c 92 ≡ true → pieces-from outside (c ∷ cs) ≡ pieces-from behind cs
+pub at-backslash : (c : ℕ) (cs : Text) → eqb c 92 ≡ true → pieces-from outside (c ∷ cs) ≡ pieces-from behind cs
 unfolding pieces-from
 at-backslash c cs e = rw (e, pieces-from)
 
-at-plain : (c : ℕ) (cs : Text) → eqb c 92 ≡ false → pieces-from outside (c ∷ cs) ≡ plain c ∷ pieces-from outside cs
+pub at-plain : (c : ℕ) (cs : Text) → eqb c 92 ≡ false → pieces-from outside (c ∷ cs) ≡ plain c ∷ pieces-from outside cs
 unfolding pieces-from
 at-plain c cs e = rw (e, pieces-from)
 
-at-short : (c : ℕ) (cs : Text) → eqb c 117 ≡ true → pieces-from behind (c ∷ cs) ≡ pieces-from (digits 3 0) cs
+pub at-short : (c : ℕ) (cs : Text) → eqb c 117 ≡ true → pieces-from behind (c ∷ cs) ≡ pieces-from (digits 3 0) cs
 unfolding pieces-from
 at-short c cs e = rw (e, pieces-from)
 
-at-long : (c : ℕ) (cs : Text) → eqb c 117 ≡ false → eqb c 85 ≡ true → pieces-from behind (c ∷ cs) ≡ pieces-from (digits 7 0) cs
+pub at-long : (c : ℕ) (cs : Text) → eqb c 117 ≡ false → eqb c 85 ≡ true → pieces-from behind (c ∷ cs) ≡ pieces-from (digits 7 0) cs
 unfolding pieces-from
 at-long c cs e f = rw (e, f, pieces-from)
 
-at-letter : (c : ℕ) (cs : Text) → eqb c 117 ≡ false → eqb c 85 ≡ false → pieces-from behind (c ∷ cs) ≡ letter c ∷ pieces-from outside cs
+pub at-letter : (c : ℕ) (cs : Text) → eqb c 117 ≡ false → eqb c 85 ≡ false → pieces-from behind (c ∷ cs) ≡ letter c ∷ pieces-from outside cs
 unfolding pieces-from
 at-letter c cs e f = rw (e, f, pieces-from)
 
@@ -112,6 +111,7 @@ digit-step (suc n) v c cs h = let p : suc (suc n) - 1 ≡ suc n = omega arith in
   where
     w : ℕ
     w = v * 16 + hex-value c
+
     at : place (inside (suc n) w) ≡ digits n w
     at = digits-place n w 0 (omega arith)
 
@@ -168,6 +168,7 @@ where-is s f =
         between-lo : (n : ℕ) → (n ≡ 0 → ⊥) → 1 ≤ n
         between-lo zero e = absurd (e refl)
         between-lo (suc n) e = omega arith
+
         between-hi : (n : ℕ) → n ≤ 10 → (n ≡ 9 → ⊥) → (n ≡ 10 → ⊥) → n ≤ 8
         between-hi n l g h = by (ltb n 9) (λ q. omega (arith, ltb-true n 9 q)) (λ q. by (ltb n 10) (λ r. absurd (g (omega (arith, ltb-false n 9 q, ltb-true n 10 r)))) (λ r. absurd (h (omega (arith, ltb-false n 10 r)))))
 
@@ -277,11 +278,11 @@ stays-text s c f no-name = go (where-is s f)
     go (in-name e) = absurd (no-name e)
     go (in-digits n l e m) = rw (step-at-digit s n c l e m) (text-digit n (s .value * 16 + hex-value c) l)
 
-undone-name : (s : Scan) (cs : Text) → s .left ≡ 10 → undone s cs ≡ unreserve cs
+pub undone-name : (s : Scan) (cs : Text) → s .left ≡ 10 → undone s cs ≡ unreserve cs
 unfolding undone
 undone-name s cs e = rw (eq-eqb (s .left) 10 e)
 
-undone-text : (s : Scan) (cs : Text) → eqb (s .left) 10 ≡ false → undone s cs ≡ unescape-pieces (pieces-from (place s) cs)
+pub undone-text : (s : Scan) (cs : Text) → eqb (s .left) 10 ≡ false → undone s cs ≡ unescape-pieces (pieces-from (place s) cs)
 unfolding undone
 undone-text s cs e = rw e
 
@@ -291,5 +292,6 @@ undone-step s c cs f = by (eqb (s .left) 10) (λ e. at-name (eqb-true (s .left) 
   where
     at-name : s .left ≡ 10 → undone s (c ∷ cs) ≡ piece (step s c) ++ undone (step s c) cs
     at-name e = undone-name s (c ∷ cs) e ∙ (name-step c cs ∙ rw (step-at-name s c e))
+
     at-text : eqb (s .left) 10 ≡ false → (s .left ≡ 10 → ⊥) → undone s (c ∷ cs) ≡ piece (step s c) ++ undone (step s c) cs
     at-text e g = undone-text s (c ∷ cs) e ∙ (step-agrees s c cs f g .text ∙ ap (λ (l : Text). piece (step s c) ++ l) (sym (undone-text (step s c) cs (stays-text s c f g))))

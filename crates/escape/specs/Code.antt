@@ -1,14 +1,14 @@
 -- The scan of an escaped text byte by byte, as the code does it.
-use mathlib.Core.List.{List, [], _∷_}
+use mathlib.Core.List.{[], _∷_}
 use mathlib.Core.Path.{_≡_}
-use mathlib.Core.Bool.{Bool, true, false}
+use mathlib.Core.Bool.{Bool, false}
 use Prim.Native.Nat.{ℕ, zero, suc, _+_, _*_, _-_, _/_, _%_, _≤_}
 use lib.Dec.{eqb, ltb}
 use lib.ListN.{length, take}
 use Rattle.text.specs.Text.{Text, cond}
 use Rattle.text.specs.Slice.{over}
 use Rattle.utf8.specs.Utf8.{width}
-use Rattle.escape.specs.Escape.{outside, behind, digits, hex-value, letter-value, pieces-from, unescape-pieces, bad-pieces, no-character, unescape, bad-escape, unreserve}
+use Rattle.escape.specs.Escape.{outside, behind, digits, hex-value, letter-value, pieces-from, unescape-pieces, no-character, unreserve}
 use Rattle.escape.specs.Escape as escape
 use Rattle.escape.specs.declared.Scan.{Scan}
 
@@ -78,7 +78,12 @@ unfoldable pub low : Text → Text
 low [] = []
 low (b ∷ s) = b % 256 ∷ low s
 
--- What writing the text t over the front of x answers and leaves, where each number of t is a byte just if `bytes` says so.
+-- A scan before the first byte of a text: what it stands for is no longer than the text.
+pub record Starts (s : Scan) : Type 0 where
+  pub fair : Fair s
+  pub short : (cs : Text) → length (undone s cs) ≤ length cs
+
+-- What writing the text t over the front of x answers and leaves, if `bytes` (then each number of t is a byte).
 pub record Written (bytes : Type 0) (t x y : Text) (r : ℕ) : Type 0 where
   pub long : r ≡ length t
   pub size : length y ≡ length x

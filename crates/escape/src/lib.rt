@@ -7,7 +7,7 @@ ghost use Rattle.text.specs.Text.{same-text, begins};
 ghost use Rattle.text.specs.Slice.{over, over-at};
 ghost use Rattle.utf8.specs.Utf8.{width};
 ghost use Rattle.escape.specs.Escape.{hex-value, letter-value, no-character, bad-escape, unescape, unreserve};
-ghost use Rattle.escape.specs.Code.{step-outside, step-behind, step-name, step-digit, step, four, undone, low, Fair, Written};
+ghost use Rattle.escape.specs.Code.{step-outside, step-behind, step-name, step-digit, step, four, bad, undone, low, Fair, Starts, Written};
 
 // A place in an escaped text. left: 0 outside an escape, 9 behind a backslash, 1 to 8 where so many hex digits
 // are to come, 10 in a local name. n: how many bytes the piece that has just ended stands for; value: its
@@ -220,4 +220,163 @@ impl Scan {
         }
         [0xF0 + v / 262144, 0x80 + v / 4096 % 64, third, last]
     }
+}
+
+// Whether the piece that has just ended names no character.
+fn is_bad(scan: Scan) -> bool
+    ensures { λ r. ⌜ r ≡ bad scan ⌝ }
+{
+    let value = scan.value;
+    if 2 < scan.n {
+        return names_no_character(value);
+    }
+    false
+}
+
+// Whether t goes on with these numbers from j on.
+fn goes_on(t: &[u8], j: usize, b: &[usize]) -> bool
+    requires { ⌜ j ≤ length (now t) ⌝ }
+    ensures { λ r. ⌜ r ≡ begins (now (b .entry)) (drop j (now (t .entry))) ⌝ }
+{
+    if t.len() - j < b.len() {
+        return false;
+    }
+    let mut i: usize = 0;
+    while i < b.len() {
+        if wide(t[j + i]) != b[i] {
+            return false;
+        }
+        i += 1;
+    }
+    true
+}
+
+// Writes these numbers as bytes from j on, as far as out goes.
+fn put(out: &mut [u8], j: usize, b: &[usize])
+    requires { ⌜ j + length (now b) < 18446744073709551616 ⌝ }
+    ensures { λ r. ⌜ now (out .exit) ≡ over-at j (low (now (b .entry))) (now (out .entry)) ⌝ }
+{
+    let mut i: usize = 0;
+    while i < b.len() {
+        if out.len() <= j + i {
+            return;
+        }
+        out[j + i] = (b[i] % 256) as u8;
+        i += 1;
+    }
+}
+
+// How long the text is from the scan on.
+fn length_from(start: Scan, s: &[u8]) -> usize
+    requires { ⌜ Starts start ⌝ }
+    ensures { λ r. ⌜ r ≡ length (undone start (now (s .entry))) ⌝ }
+{
+    let mut scan = start;
+    let mut i: usize = 0;
+    let mut total: usize = 0;
+    while i < s.len() {
+        scan = scan.step(s[i]);
+        total += scan.n;
+        i += 1;
+    }
+    total
+}
+
+// Whether t is the text from the scan on.
+fn same_from(start: Scan, s: &[u8], t: &[u8]) -> bool
+    requires { ⌜ Starts start ⌝ }
+    ensures { λ r. ⌜ r ≡ same-text (undone start (now (s .entry))) (now (t .entry)) ⌝ }
+{
+    let mut scan = start;
+    let mut i: usize = 0;
+    let mut j: usize = 0;
+    while i < s.len() {
+        scan = scan.step(s[i]);
+        let n = scan.n;
+        let b = scan.bytes();
+        if goes_on(t, j, &b[..n]) {
+            j += n;
+            i += 1;
+        } else {
+            return false;
+        }
+    }
+    j == t.len()
+}
+
+// Writes the text from the scan on, as far as out goes; its length.
+fn write_from(start: Scan, s: &[u8], out: &mut [u8]) -> usize
+    requires { ⌜ Starts start ⌝ }
+    ensures { λ r. ⌜ (r ≡ length (undone start (now (s .entry)))) × (now (out .exit) ≡ over (low (undone start (now (s .entry)))) (now (out .entry))) ⌝ }
+{
+    let mut scan = start;
+    let mut i: usize = 0;
+    let mut j: usize = 0;
+    while i < s.len() {
+        scan = scan.step(s[i]);
+        let n = scan.n;
+        let b = scan.bytes();
+        put(out, j, &b[..n]);
+        j += n;
+        i += 1;
+    }
+    j
+}
+
+// Whether a numeric escape of the text names no character.
+pub fn has_bad_escape(s: &[u8]) -> bool
+    ensures { λ r. ⌜ r ≡ bad-escape (now (s .entry)) ⌝ }
+{
+    let mut scan = Scan::text();
+    let mut i: usize = 0;
+    while i < s.len() {
+        scan = scan.step(s[i]);
+        if is_bad(scan) {
+            return true;
+        }
+        i += 1;
+    }
+    false
+}
+
+// How long a string or a reference is with its escapes undone.
+pub fn unescaped_length(s: &[u8]) -> usize
+    ensures { λ r. ⌜ r ≡ length (unescape (now (s .entry))) ⌝ }
+{
+    length_from(Scan::text(), s)
+}
+
+// Whether t is the string or the reference with its escapes undone.
+pub fn same_unescaped(s: &[u8], t: &[u8]) -> bool
+    ensures { λ r. ⌜ r ≡ same-text (unescape (now (s .entry))) (now (t .entry)) ⌝ }
+{
+    same_from(Scan::text(), s, t)
+}
+
+// Writes a string or a reference with its escapes undone over the front of out, as far as out goes; its length.
+pub fn write_unescaped(s: &[u8], out: &mut [u8]) -> usize
+    ensures { λ r. ⌜ Written (bad-escape (now (s .entry)) ≡ false) (unescape (now (s .entry))) (now (out .entry)) (now (out .exit)) r ⌝ }
+{
+    write_from(Scan::text(), s, out)
+}
+
+// How long a local name is with its escapes undone.
+pub fn unreserved_length(s: &[u8]) -> usize
+    ensures { λ r. ⌜ r ≡ length (unreserve (now (s .entry))) ⌝ }
+{
+    length_from(Scan::name(), s)
+}
+
+// Whether t is the local name with its escapes undone.
+pub fn same_unreserved(s: &[u8], t: &[u8]) -> bool
+    ensures { λ r. ⌜ r ≡ same-text (unreserve (now (s .entry))) (now (t .entry)) ⌝ }
+{
+    same_from(Scan::name(), s, t)
+}
+
+// Writes a local name with its escapes undone over the front of out, as far as out goes; its length.
+pub fn write_unreserved(s: &[u8], out: &mut [u8]) -> usize
+    ensures { λ r. ⌜ (r ≡ length (unreserve (now (s .entry)))) × (now (out .exit) ≡ over (unreserve (now (s .entry))) (now (out .entry))) ⌝ }
+{
+    write_from(Scan::name(), s, out)
 }

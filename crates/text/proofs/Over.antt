@@ -1,11 +1,11 @@
 -- Laws of writing a text over the front of a slice.
-use Prim.Native.Nat.{ℕ, zero, suc, _+_, _-_, _≤_, _<_}
+use Prim.Native.Nat.{ℕ, zero, suc, _+_, _≤_, _<_}
 use mathlib.Core.Path.{_≡_, refl, ap, sym, _∙_}
-use mathlib.Core.List.{List, [], _∷_, _++_}
+use mathlib.Core.List.{[], _∷_, _++_}
 use native.Mathlib.Numerals.{add-one}
 use native.Mathlib.Nat.{zero-add, suc-add}
 use native.Mathlib.Omega.{arith}
-use lib.ListN.{length, getD, take, drop, set}
+use lib.ListN.{length, getD, take, drop, set, length-drop}
 use lib.Seq.{take-nil, take-all}
 use Rattle.text.specs.Text.{Text}
 use Rattle.text.specs.Slice.{over, over-at}
@@ -81,3 +81,17 @@ over-next s x y i h e = rw (e, add-one i) (sym (over-more s x i h))
 
 pub over-whole : (s x : Text) (i : ℕ) → length s ≤ i → over (take i s) x ≡ over s x
 over-whole s x i h = rw (take-all i s h)
+
+-- The same from a place on.
+pub over-at-start : (at : ℕ) (s x : Text) → x ≡ over-at at (take 0 s) x
+over-at-start at s x = sym (over-at-none at x)
+
+pub over-at-next : (at : ℕ) (s x y : Text) (i v : ℕ) → i < length s → v ≡ getD s i 0 → y ≡ over-at at (take i s) x → set y (at + i) v ≡ over-at at (take (i + 1) s) x
+over-at-next at s x y i v h f e = rw (e, add-one i, f) (sym (over-at-more at s x i h))
+
+pub over-at-whole : (at : ℕ) (s x : Text) (i : ℕ) → length s ≤ i → over-at at (take i s) x ≡ over-at at s x
+over-at-whole at s x i h = rw (take-all i s h)
+
+pub over-at-enough : (at : ℕ) (s x : Text) (i : ℕ) → length x ≤ at + i → over-at at (take i s) x ≡ over-at at s x
+unfolding over-at
+over-at-enough at s x i h = rw (over-enough s (drop at x) i (omega (arith, length-drop at x)))

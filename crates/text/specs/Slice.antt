@@ -1,5 +1,5 @@
 -- What a slice holds after a text was written over its front.
-use mathlib.Core.List.{List, [], _∷_, _++_}
+use mathlib.Core.List.{[], _∷_, _++_}
 use Prim.Native.Nat.{ℕ}
 use lib.ListN.{take, drop}
 use Rattle.text.specs.Text.{Text}

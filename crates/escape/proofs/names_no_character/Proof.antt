@@ -1,23 +1,17 @@
-use borrow.Author.Tests.{lt-ltb, le-ltb, le-leb, lt-leb, eq-eqb, ne-eqb}
+use borrow.Author.Tests.{le-ltb, le-leb, lt-leb}
 use native.Mathlib.Omega.{arith}
 use Rattle.escape.specs.Escape.{no-character}
-use borrow.Author.Needs.{needs}
 use Rattle.escape.proofs.names_no_character.Statement.{statement}
 use Rattle.escape.proofs.names_no_character.Tie as tie
-use Rattle.escape.proofs.names_no_character.Reads as reads
-use Rattle.escape.proofs.names_no_character.Lts as lts
 
--- src/lib.rt:79:9
 returns : tie.Need-returns
 unfolding no-character
 returns c = simp (lt-leb 0xD800 (c .before .args .v) (c .if1 .taken), le-ltb 0x10FFFF (c .before .args .v) (omega arith))
 
--- src/lib.rt:82:9
 returns-2 : tie.Need-returns-2
 unfolding no-character
 returns-2 c = simp (le-leb 0xD800 (c .before .before .args .v) (c .before .if1 .left), le-leb (c .before .before .args .v) 0xDFFF (c .if2 .taken))
 
--- src/lib.rt:75:1
 returns-3 : tie.Need-returns-3
 unfolding no-character
 returns-3 c = simp (le-leb 0xD800 (c .before .before .args .v) (c .before .if1 .left), lt-leb (c .before .before .args .v) 0xDFFF (c .if2 .left))

@@ -1,33 +1,24 @@
-use borrow.Author.Tests.{lt-ltb, le-ltb, le-leb, lt-leb, eq-eqb, ne-eqb}
+use borrow.Author.Tests.{eq-eqb, ne-eqb}
 use Rattle.escape.specs.Code.{step-behind}
 use Rattle.escape.specs.Escape.{letter-value}
 use borrow.Author.Needs.{needs}
 use Rattle.escape.proofs.step_behind.Statement.{statement}
 use Rattle.escape.proofs.step_behind.Tie as tie
-use Rattle.escape.proofs.step_behind.Reads as reads
-use Rattle.escape.proofs.step_behind.Lts as lts
-use Rattle.escape.proofs.letter_value.Reads as letter-value-reads
-use Rattle.escape.proofs.wide.Reads as wide-reads
 
--- src/lib.rt:108:9
 returns : tie.Need-returns
 unfolding step-behind
 returns c = simp (eq-eqb _ _ (c .if1 .taken))
 
--- src/lib.rt:115:9
 returns-2 : tie.Need-returns-2
 unfolding step-behind
 returns-2 c = simp (eq-eqb _ _ (c .if2 .taken), ne-eqb _ _ (c .before .if1 .left))
 
--- src/lib.rt:123:21
 letter-value-requires : tie.Need-letter-value-requires
 letter-value-requires c κs = search needs
 
--- src/lib.rt:123:16
 wide-requires : tie.Need-wide-requires
 wide-requires c κs = search needs
 
--- src/lib.rt:104:1
 returns-3 : tie.Need-returns-3
 unfolding step-behind
 returns-3 c = simp (ne-eqb _ _ (c .before .before .if2 .left), ne-eqb _ _ (c .before .before .before .if1 .left), c .wide .ensures, c .before .letter-value .ensures)

@@ -1,26 +1,19 @@
-use borrow.Author.Tests.{lt-ltb, le-ltb, le-leb, lt-leb, eq-eqb, ne-eqb}
+use borrow.Author.Tests.{eq-eqb, ne-eqb}
 use Rattle.escape.specs.Code.{step-digit}
 use borrow.Author.Needs.{needs}
 use Rattle.escape.proofs.step_digit.Statement.{statement}
 use Rattle.escape.proofs.step_digit.Tie as tie
-use Rattle.escape.proofs.step_digit.Reads as reads
-use Rattle.escape.proofs.step_digit.Lts as lts
-use Rattle.escape.proofs.width_of.Reads as width-of-reads
 
--- src/lib.rt:153:16
 width-of-requires : tie.Need-width-of-requires
 width-of-requires c κs = search needs
 
--- src/lib.rt:150:9
 returns : tie.Need-returns
 unfolding step-digit
 returns c = simp (eq-eqb _ _ (c .before .if1 .taken), c .width-of .ensures .0)
 
--- src/lib.rt:157:15
 sub-t5 : tie.Need-sub-t5
 sub-t5 c = search needs
 
--- src/lib.rt:145:1
 returns-2 : tie.Need-returns-2
 unfolding step-digit
 returns-2 c = simp (ne-eqb _ _ (c .if1 .left))

@@ -1,22 +1,16 @@
-use borrow.Author.Tests.{lt-ltb, le-ltb, le-leb, lt-leb, eq-eqb, ne-eqb}
+use borrow.Author.Tests.{eq-eqb, ne-eqb}
 use Rattle.escape.specs.Code.{step-name}
 use borrow.Author.Needs.{needs}
 use Rattle.escape.proofs.step_name.Statement.{statement}
 use Rattle.escape.proofs.step_name.Tie as tie
-use Rattle.escape.proofs.step_name.Reads as reads
-use Rattle.escape.proofs.step_name.Lts as lts
-use Rattle.escape.proofs.wide.Reads as wide-reads
 
--- src/lib.rt:132:9
 returns : tie.Need-returns
 unfolding step-name
 returns c = simp (eq-eqb _ _ (c .if1 .taken))
 
--- src/lib.rt:140:16
 wide-requires : tie.Need-wide-requires
 wide-requires c κs = search needs
 
--- src/lib.rt:128:1
 returns-2 : tie.Need-returns-2
 unfolding step-name
 returns-2 c = simp (ne-eqb _ _ (c .before .if1 .left), c .wide .ensures)

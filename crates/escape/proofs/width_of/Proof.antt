@@ -1,24 +1,17 @@
-use borrow.Author.Tests.{lt-ltb, le-ltb, le-leb, lt-leb, eq-eqb, ne-eqb}
+use borrow.Author.Tests.{lt-ltb, le-ltb}
 use native.Mathlib.Omega.{arith}
-use borrow.Author.Needs.{needs}
 use Rattle.escape.proofs.width_of.Statement.{statement}
 use Rattle.escape.proofs.width_of.Tie as tie
-use Rattle.escape.proofs.width_of.Reads as reads
-use Rattle.escape.proofs.width_of.Lts as lts
 
--- src/lib.rt:64:9
 returns : tie.Need-returns
 returns c = (simp (lt-ltb _ _ (c .if1 .taken)), omega arith)
 
--- src/lib.rt:67:9
 returns-2 : tie.Need-returns-2
 returns-2 c = (simp (lt-ltb _ _ (c .if2 .taken), le-ltb _ _ (c .before .if1 .left)), omega arith)
 
--- src/lib.rt:70:9
 returns-3 : tie.Need-returns-3
 returns-3 c = (simp (lt-ltb _ _ (c .if3 .taken), le-ltb _ _ (c .before .if2 .left), le-ltb _ _ (c .before .before .if1 .left)), omega arith)
 
--- src/lib.rt:60:1
 returns-4 : tie.Need-returns-4
 returns-4 c = (simp (le-ltb _ _ (c .if3 .left), le-ltb _ _ (c .before .if2 .left), le-ltb _ _ (c .before .before .if1 .left)), omega arith)
 

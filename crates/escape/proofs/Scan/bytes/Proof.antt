@@ -1,51 +1,39 @@
-use borrow.Author.Tests.{lt-ltb, le-ltb, le-leb, lt-leb, eq-eqb, ne-eqb}
+use borrow.Author.Tests.{lt-ltb, le-ltb, eq-eqb, ne-eqb}
 use Rattle.escape.specs.Code.{four}
 use borrow.Author.Needs.{needs}
 use Rattle.escape.proofs.Scan.bytes.Statement.{statement}
 use Rattle.escape.proofs.Scan.bytes.Tie as tie
-use Rattle.escape.proofs.Scan.bytes.Reads as reads
-use Rattle.escape.proofs.Scan.bytes.Lts as lts
 
--- src/lib.rt:211:13
 returns : tie.Need-returns
 unfolding four
 returns c = simp (lt-ltb _ _ (c .if1 .taken))
 
--- src/lib.rt:213:20
 add-last : tie.Need-add-last
 add-last c = search needs
 
--- src/lib.rt:215:21
 add-t9 : tie.Need-add-t9
 add-t9 c = search needs
 
--- src/lib.rt:215:13
 returns-2 : tie.Need-returns-2
 unfolding four
 returns-2 c = simp (eq-eqb _ _ (c .if2 .taken), le-ltb _ _ (c .before .if1 .left))
 
--- src/lib.rt:217:21
 add-third : tie.Need-add-third
 add-third c = search needs
 
--- src/lib.rt:219:21
 add-t12 : tie.Need-add-t12
 add-t12 c = search needs
 
--- src/lib.rt:219:13
 returns-3 : tie.Need-returns-3
 unfolding four
 returns-3 c = simp (eq-eqb _ _ (c .if3 .taken), ne-eqb _ _ (c .before .if2 .left), le-ltb _ _ (c .before .before .if1 .left))
 
--- src/lib.rt:221:10
 add-t7 : tie.Need-add-t7
 add-t7 c = search needs
 
--- src/lib.rt:221:29
 add-t15 : tie.Need-add-t15
 add-t15 c = search needs
 
--- src/lib.rt:205:5
 returns-4 : tie.Need-returns-4
 unfolding four
 returns-4 c = simp (ne-eqb _ _ (c .if3 .left), ne-eqb _ _ (c .before .if2 .left), le-ltb _ _ (c .before .before .if1 .left))
