@@ -1,4 +1,382 @@
-// The byte that an escape begins with.
-pub fn backslash() -> u8 {
-    92
+// Escapes: numeric and string escapes in references and strings, reserved character escapes in local names.
+ghost use mathlib.Core.Path.{_≡_};
+ghost use mathlib.Core.Bool.{true, false};
+ghost use Prim.Native.Nat.{_+_, _≤_, _<_};
+ghost use lib.ListN.{length, drop};
+ghost use Rattle.text.specs.Text.{same-text, begins};
+ghost use Rattle.text.specs.Slice.{over, over-at};
+ghost use Rattle.utf8.specs.Utf8.{width};
+ghost use Rattle.escape.specs.Escape.{hex-value, letter-value, no-character, bad-escape, unescape, unreserve};
+ghost use Rattle.escape.specs.Code.{step-outside, step-behind, step-name, step-digit, step, four, bad, undone, low, Fair, Starts, Written};
+
+// A place in an escaped text. left: 0 outside an escape, 9 behind a backslash, 1 to 8 where so many hex digits
+// are to come, 10 in a local name. n: how many bytes the piece that has just ended stands for; value: its
+// character or byte, or the number so far.
+pub struct Scan {
+    pub left: usize,
+    pub value: usize,
+    pub n: usize,
+}
+
+fn wide(b: u8) -> usize
+    ensures { λ r. ⌜ r ≡ b ⌝ }
+{
+    b as usize
+}
+
+fn hex_value(c: u8) -> usize
+    ensures { λ r. ⌜ (r ≡ hex-value c) × (r ≤ 168) ⌝ }
+{
+    if c < 48 {
+        return 0;
+    }
+    if c < 58 {
+        return wide(c - 48);
+    }
+    if c < 71 {
+        return wide(c - 55);
+    }
+    if c < 87 {
+        return 0;
+    }
+    wide(c - 87)
+}
+
+// The character that a letter behind a backslash stands for.
+fn letter_value(c: u8) -> u8
+    ensures { λ r. ⌜ r ≡ letter-value c ⌝ }
+{
+    match c {
+        b't' => 9,
+        b'b' => 8,
+        b'n' => 10,
+        b'r' => 13,
+        b'f' => 12,
+        _ => c,
+    }
+}
+
+// How many bytes the character has in UTF-8.
+fn width_of(v: usize) -> usize
+    ensures { λ r. ⌜ (r ≡ width v) × (r ≤ 4) ⌝ }
+{
+    if v < 0x80 {
+        return 1;
+    }
+    if v < 0x800 {
+        return 2;
+    }
+    if v < 0x10000 {
+        return 3;
+    }
+    4
+}
+
+fn names_no_character(v: usize) -> bool
+    ensures { λ r. ⌜ r ≡ no-character v ⌝ }
+{
+    if v < 0xD800 {
+        return false;
+    }
+    if v <= 0xDFFF {
+        return true;
+    }
+    0x10FFFF < v
+}
+
+fn step_outside(c: u8) -> Scan
+    ensures { λ r. ⌜ r ≡ step-outside c ⌝ }
+{
+    if c == 92 {
+        return Scan {
+            left: 9,
+            value: 0,
+            n: 0,
+        };
+    }
+    Scan {
+        left: 0,
+        value: wide(c),
+        n: 1,
+    }
+}
+
+fn step_behind(c: u8) -> Scan
+    ensures { λ r. ⌜ r ≡ step-behind c ⌝ }
+{
+    if c == 117 {
+        return Scan {
+            left: 4,
+            value: 0,
+            n: 0,
+        };
+    }
+    if c == 85 {
+        return Scan {
+            left: 8,
+            value: 0,
+            n: 0,
+        };
+    }
+    Scan {
+        left: 0,
+        value: wide(letter_value(c)),
+        n: 1,
+    }
+}
+
+fn step_name(c: u8) -> Scan
+    ensures { λ r. ⌜ r ≡ step-name c ⌝ }
+{
+    if c == 92 {
+        return Scan {
+            left: 10,
+            value: 0,
+            n: 0,
+        };
+    }
+    Scan {
+        left: 10,
+        value: wide(c),
+        n: 1,
+    }
+}
+
+fn step_digit(left: usize, value: usize) -> Scan
+    requires { ⌜ 0 < left ⌝ }
+    ensures { λ r. ⌜ r ≡ step-digit left value ⌝ }
+{
+    if left == 1 {
+        return Scan {
+            left: 0,
+            value: value,
+            n: width_of(value),
+        };
+    }
+    Scan {
+        left: left - 1,
+        value: value,
+        n: 0,
+    }
+}
+
+impl Scan {
+    // Before the first byte of a string's or an IRIREF's text.
+    pub fn text() -> Scan
+        ensures { λ r. ⌜ (r .left ≡ 0) × ((r .value ≡ 0) × (r .n ≡ 0)) ⌝ }
+    {
+        Scan {
+            left: 0,
+            value: 0,
+            n: 0,
+        }
+    }
+
+    // Before the first byte of a local name.
+    pub fn name() -> Scan
+        ensures { λ r. ⌜ (r .left ≡ 10) × ((r .value ≡ 0) × (r .n ≡ 0)) ⌝ }
+    {
+        Scan {
+            left: 10,
+            value: 0,
+            n: 0,
+        }
+    }
+
+    // After one byte more.
+    pub fn step(self, c: u8) -> Scan
+        ensures { λ r. ⌜ r ≡ step self c ⌝ }
+    {
+        let left = self.left;
+        let value = self.value;
+        if left == 0 {
+            return step_outside(c);
+        }
+        if left == 9 {
+            return step_behind(c);
+        }
+        if left == 10 {
+            return step_name(c);
+        }
+        step_digit(left, value % 1099511627776 * 16 + hex_value(c))
+    }
+
+    // The first n are the bytes of the piece that has just ended. (They are bytes unless it names no character.)
+    pub fn bytes(self) -> [usize; 4]
+        ensures { λ r. ⌜ r ≡ four self ⌝ }
+    {
+        let v = self.value;
+        let n = self.n;
+        if n < 2 {
+            return [v, 0, 0, 0];
+        }
+        let last = 0x80 + v % 64;
+        if n == 2 {
+            return [0xC0 + v / 64, last, 0, 0];
+        }
+        let third = 0x80 + v / 64 % 64;
+        if n == 3 {
+            return [0xE0 + v / 4096, third, last, 0];
+        }
+        [0xF0 + v / 262144, 0x80 + v / 4096 % 64, third, last]
+    }
+}
+
+// Whether the piece that has just ended names no character.
+fn is_bad(scan: Scan) -> bool
+    ensures { λ r. ⌜ r ≡ bad scan ⌝ }
+{
+    let value = scan.value;
+    if 2 < scan.n {
+        return names_no_character(value);
+    }
+    false
+}
+
+// Whether t goes on with these numbers from j on.
+fn goes_on(t: &[u8], j: usize, b: &[usize]) -> bool
+    requires { ⌜ j ≤ length (now t) ⌝ }
+    ensures { λ r. ⌜ r ≡ begins (now (b .entry)) (drop j (now (t .entry))) ⌝ }
+{
+    if t.len() - j < b.len() {
+        return false;
+    }
+    let mut i: usize = 0;
+    while i < b.len() {
+        if wide(t[j + i]) != b[i] {
+            return false;
+        }
+        i += 1;
+    }
+    true
+}
+
+// Writes these numbers as bytes from j on, as far as out goes.
+fn put(out: &mut [u8], j: usize, b: &[usize])
+    requires { ⌜ j + length (now b) < 18446744073709551616 ⌝ }
+    ensures { λ r. ⌜ now (out .exit) ≡ over-at j (low (now (b .entry))) (now (out .entry)) ⌝ }
+{
+    let mut i: usize = 0;
+    while i < b.len() {
+        if out.len() <= j + i {
+            return;
+        }
+        out[j + i] = (b[i] % 256) as u8;
+        i += 1;
+    }
+}
+
+// How long the text is from the scan on.
+fn length_from(start: Scan, s: &[u8]) -> usize
+    requires { ⌜ Starts start ⌝ }
+    ensures { λ r. ⌜ r ≡ length (undone start (now (s .entry))) ⌝ }
+{
+    let mut scan = start;
+    let mut i: usize = 0;
+    let mut total: usize = 0;
+    while i < s.len() {
+        scan = scan.step(s[i]);
+        total += scan.n;
+        i += 1;
+    }
+    total
+}
+
+// Whether t is the text from the scan on.
+fn same_from(start: Scan, s: &[u8], t: &[u8]) -> bool
+    requires { ⌜ Starts start ⌝ }
+    ensures { λ r. ⌜ r ≡ same-text (undone start (now (s .entry))) (now (t .entry)) ⌝ }
+{
+    let mut scan = start;
+    let mut i: usize = 0;
+    let mut j: usize = 0;
+    while i < s.len() {
+        scan = scan.step(s[i]);
+        let n = scan.n;
+        let b = scan.bytes();
+        if goes_on(t, j, &b[..n]) {
+            j += n;
+            i += 1;
+        } else {
+            return false;
+        }
+    }
+    j == t.len()
+}
+
+// Writes the text from the scan on, as far as out goes; its length.
+fn write_from(start: Scan, s: &[u8], out: &mut [u8]) -> usize
+    requires { ⌜ Starts start ⌝ }
+    ensures { λ r. ⌜ (r ≡ length (undone start (now (s .entry)))) × (now (out .exit) ≡ over (low (undone start (now (s .entry)))) (now (out .entry))) ⌝ }
+{
+    let mut scan = start;
+    let mut i: usize = 0;
+    let mut j: usize = 0;
+    while i < s.len() {
+        scan = scan.step(s[i]);
+        let n = scan.n;
+        let b = scan.bytes();
+        put(out, j, &b[..n]);
+        j += n;
+        i += 1;
+    }
+    j
+}
+
+// Whether a numeric escape of the text names no character.
+pub fn has_bad_escape(s: &[u8]) -> bool
+    ensures { λ r. ⌜ r ≡ bad-escape (now (s .entry)) ⌝ }
+{
+    let mut scan = Scan::text();
+    let mut i: usize = 0;
+    while i < s.len() {
+        scan = scan.step(s[i]);
+        if is_bad(scan) {
+            return true;
+        }
+        i += 1;
+    }
+    false
+}
+
+// How long a string or a reference is with its escapes undone.
+pub fn unescaped_length(s: &[u8]) -> usize
+    ensures { λ r. ⌜ r ≡ length (unescape (now (s .entry))) ⌝ }
+{
+    length_from(Scan::text(), s)
+}
+
+// Whether t is the string or the reference with its escapes undone.
+pub fn same_unescaped(s: &[u8], t: &[u8]) -> bool
+    ensures { λ r. ⌜ r ≡ same-text (unescape (now (s .entry))) (now (t .entry)) ⌝ }
+{
+    same_from(Scan::text(), s, t)
+}
+
+// Writes a string or a reference with its escapes undone over the front of out, as far as out goes; its length.
+pub fn write_unescaped(s: &[u8], out: &mut [u8]) -> usize
+    ensures { λ r. ⌜ Written (bad-escape (now (s .entry)) ≡ false) (unescape (now (s .entry))) (now (out .entry)) (now (out .exit)) r ⌝ }
+{
+    write_from(Scan::text(), s, out)
+}
+
+// How long a local name is with its escapes undone.
+pub fn unreserved_length(s: &[u8]) -> usize
+    ensures { λ r. ⌜ r ≡ length (unreserve (now (s .entry))) ⌝ }
+{
+    length_from(Scan::name(), s)
+}
+
+// Whether t is the local name with its escapes undone.
+pub fn same_unreserved(s: &[u8], t: &[u8]) -> bool
+    ensures { λ r. ⌜ r ≡ same-text (unreserve (now (s .entry))) (now (t .entry)) ⌝ }
+{
+    same_from(Scan::name(), s, t)
+}
+
+// Writes a local name with its escapes undone over the front of out, as far as out goes; its length.
+pub fn write_unreserved(s: &[u8], out: &mut [u8]) -> usize
+    ensures { λ r. ⌜ (r ≡ length (unreserve (now (s .entry)))) × (now (out .exit) ≡ over (unreserve (now (s .entry))) (now (out .entry))) ⌝ }
+{
+    write_from(Scan::name(), s, out)
 }

@@ -8,12 +8,15 @@ use native.Mathlib.Omega.{arith}
 use lib.Dec.{T, eqb, eqb→eq}
 use lib.ListN.{length}
 use Rattle.text.specs.Text.{Text, cond, same-text}
-use Rattle.text.proofs.Booleans.{and-0, and-1}
-use Rattle.text.proofs.Texts.{same-text-eq}
+use Rattle.text.proofs.Booleans.{and-0, and-1, is-true}
+use Rattle.text.proofs.Compare.{same-eq}
 use Rattle.dataset.specs.Terms.{Blank, label, bracket, cell, numbered, Term, iri, blank, literal, tagged}
 use Rattle.table.specs.Tables.{same-blank, same-term, number-from, number, term-at}
 
 -- What the tests find equal is equal.
+same-text-eq : (s t : Text) → T (same-text s t) → s ≡ t
+same-text-eq s t h = same-eq s t (is-true (same-text s t) h)
+
 same-blank-eq : (b c : Blank) → T (same-blank b c) → b ≡ c
 unfolding same-blank
 same-blank-eq (label s) (label t) h = ap label (same-text-eq s t h)

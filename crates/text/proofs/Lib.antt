@@ -1,3 +1,4 @@
 -- Laws that more than one crate cites.
 pub mod Booleans
-pub mod Texts
+pub mod Compare
+pub mod Over

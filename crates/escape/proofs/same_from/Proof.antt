@@ -1,0 +1,77 @@
+-- The invariant: t is the text just if it is, from the place reached on, what the rest stands for.
+use Prim.Native.Nat.{_≤_, _-_}
+use mathlib.Core.Path.{_≡_, refl, sym, _∙_}
+use native.Mathlib.Omega.{arith}
+use lib.ListN.{length, drop}
+use lib.Seq.{length-take-le}
+use Rattle.text.specs.Text.{same-text}
+use Rattle.escape.specs.Code.{undone, Fair}
+use Rattle.escape.proofs.Walk.{fair-more, same-more, same-not, same-fits, same-done, four-fits}
+use borrow.Author.Needs.{needs}
+use Rattle.escape.proofs.same_from.Statement.{statement}
+use Rattle.escape.proofs.same_from.Tie as tie
+
+abbrev Inv-loop : tie.InvT-loop
+Inv-loop s t scan₀ i₀ j₀ scan i j = ((i ≤ length s) × Fair scan) × ((j ≤ length t) × (same-text (undone scan₀ s) t ≡ same-text (undone scan (drop i s)) (drop j t)))
+
+abbrev μ-loop : tie.MeasureT-loop
+μ-loop s t scan₀ i₀ j₀ scan i j = length s - i
+
+loop-holds : tie.Need-loop-holds Inv-loop μ-loop
+loop-holds c = ((omega arith, c .before .before .pre .fair), (omega arith, refl))
+
+shared-slice-read-step : tie.Need-shared-slice-read-step Inv-loop μ-loop
+shared-slice-read-step c = search needs
+
+step-requires : tie.Need-step-requires Inv-loop μ-loop
+step-requires c κs = search needs
+
+bytes-requires : tie.Need-bytes-requires Inv-loop μ-loop
+bytes-requires c κs = search needs
+
+array-share-prefix-b : tie.Need-array-share-prefix-b Inv-loop μ-loop
+array-share-prefix-b c = four-fits (c .before .step .result) (c .bytes .result) (c .bytes .ensures) (fair-more (c .before .before .before .before .loop .scan) (c .before .step .result) (c .before .before .before .before .before .before .before .args .s .now) (c .before .before .before .before .loop .i) (omega arith) (c .before .before .before .before .loop .inv .0 .1) (c .before .step .ensures) (c .before .before .shared-slice-known3 .given (c .before .before .before .before .loop .i) .fits) .small)
+
+slice-aggregate-goes-on : tie.Need-slice-aggregate-goes-on Inv-loop μ-loop
+slice-aggregate-goes-on c = sym (length-take-le (c .before .before .step .result .n) (c .before .bytes .result) (four-fits (c .before .before .step .result) (c .before .bytes .result) (c .before .bytes .ensures) (fair-more (c .before .before .before .before .before .loop .scan) (c .before .before .step .result) (c .before .before .before .before .before .before .before .before .args .s .now) (c .before .before .before .before .before .loop .i) (omega arith) (c .before .before .before .before .before .loop .inv .0 .1) (c .before .before .step .ensures) (c .before .before .before .shared-slice-known3 .given (c .before .before .before .before .before .loop .i) .fits) .small)))
+
+goes-on-requires : tie.Need-goes-on-requires Inv-loop μ-loop
+goes-on-requires c κs = search needs
+
+add-j : tie.Need-add-j Inv-loop μ-loop
+add-j c = omega (arith, same-fits (c .before .before .before .before .before .before .before .loop .scan) (c .before .before .before .before .step .result) (c .before .before .before .before .before .before .before .before .before .before .args .s .now) (c .before .before .before .before .before .before .before .loop .i) (omega arith) (c .before .before .before .before .before .before .before .loop .inv .0 .1) (c .before .before .before .before .step .ensures) (c .before .before .before .before .before .shared-slice-known3 .given (c .before .before .before .before .before .before .before .loop .i) .fits) (c .before .before .before .bytes .result) (c .before .before .before .bytes .ensures) (c .before .before .before .before .before .before .before .before .before .before .args .t .now) (c .before .before .before .before .before .before .before .loop .j) (c .before .goes-on .result) (c .before .goes-on .ensures) (omega arith) (c .if1 .taken))
+
+add-i : tie.Need-add-i Inv-loop μ-loop
+add-i c = search needs
+
+loop-less : tie.Need-loop-less Inv-loop μ-loop
+loop-less c = search needs
+
+loop-again : tie.Need-loop-again Inv-loop μ-loop
+loop-again c = ((omega arith, fair-more (c .before .before .before .before .before .before .before .loop .scan) (c .before .before .before .before .step .result) (c .before .before .before .before .before .before .before .before .before .before .args .s .now) (c .before .before .before .before .before .before .before .loop .i) (omega arith) (c .before .before .before .before .before .before .before .loop .inv .0 .1) (c .before .before .before .before .step .ensures) (c .before .before .before .before .before .shared-slice-known3 .given (c .before .before .before .before .before .before .before .loop .i) .fits)), (same-fits (c .before .before .before .before .before .before .before .loop .scan) (c .before .before .before .before .step .result) (c .before .before .before .before .before .before .before .before .before .before .args .s .now) (c .before .before .before .before .before .before .before .loop .i) (omega arith) (c .before .before .before .before .before .before .before .loop .inv .0 .1) (c .before .before .before .before .step .ensures) (c .before .before .before .before .before .shared-slice-known3 .given (c .before .before .before .before .before .before .before .loop .i) .fits) (c .before .before .before .bytes .result) (c .before .before .before .bytes .ensures) (c .before .before .before .before .before .before .before .before .before .before .args .t .now) (c .before .before .before .before .before .before .before .loop .j) (c .before .goes-on .result) (c .before .goes-on .ensures) (omega arith) (c .if1 .taken), c .before .before .before .before .before .before .before .loop .inv .1 .1 ∙ same-more (c .before .before .before .before .before .before .before .loop .scan) (c .before .before .before .before .step .result) (c .before .before .before .before .before .before .before .before .before .before .args .s .now) (c .before .before .before .before .before .before .before .loop .i) (omega arith) (c .before .before .before .before .before .before .before .loop .inv .0 .1) (c .before .before .before .before .step .ensures) (c .before .before .before .before .before .shared-slice-known3 .given (c .before .before .before .before .before .before .before .loop .i) .fits) (c .before .before .before .bytes .result) (c .before .before .before .bytes .ensures) (c .before .before .before .before .before .before .before .before .before .before .args .t .now) (c .before .before .before .before .before .before .before .loop .j) (c .before .goes-on .result) (c .before .goes-on .ensures) (c .if1 .taken)))
+
+returns : tie.Need-returns Inv-loop μ-loop
+returns c = sym (c .before .before .before .before .before .before .before .loop .inv .1 .1 ∙ same-not (c .before .before .before .before .before .before .before .loop .scan) (c .before .before .before .before .step .result) (c .before .before .before .before .before .before .before .before .before .before .args .s .now) (c .before .before .before .before .before .before .before .loop .i) (omega arith) (c .before .before .before .before .before .before .before .loop .inv .0 .1) (c .before .before .before .before .step .ensures) (c .before .before .before .before .before .shared-slice-known3 .given (c .before .before .before .before .before .before .before .loop .i) .fits) (c .before .before .before .bytes .result) (c .before .before .before .bytes .ensures) (c .before .before .before .before .before .before .before .before .before .before .args .t .now) (c .before .before .before .before .before .before .before .loop .j) (c .before .goes-on .result) (c .before .goes-on .ensures) (c .if1 .left))
+
+returns-2 : tie.Need-returns-2 Inv-loop μ-loop
+returns-2 c = sym (c .before .loop .inv .1 .1 ∙ same-done (c .before .loop .scan) (c .before .before .before .before .args .s .now) (c .before .before .before .before .args .t .now) (c .before .loop .i) (c .before .loop .j) (omega arith) (omega arith))
+
+pub same-from-spec : {M : Type 1} → statement M
+same-from-spec =
+    tie.close
+    (tie.spec
+    Inv-loop
+    μ-loop
+    loop-holds
+    shared-slice-read-step
+    step-requires
+    bytes-requires
+    array-share-prefix-b
+    slice-aggregate-goes-on
+    goes-on-requires
+    add-j
+    add-i
+    loop-less
+    loop-again
+    returns
+    returns-2)

@@ -1,0 +1,95 @@
+-- Laws of comparing texts.
+use Prim.Native.Nat.{ℕ, _+_, _≤_, _<_}
+use mathlib.Core.Path.{_≡_, refl, ap, sym}
+use mathlib.Core.List.{[], _∷_, _++_}
+use mathlib.Core.Bool.{Bool, true, false, _&&_}
+use native.Mathlib.Numerals.{add-one}
+use native.Mathlib.Omega.{arith}
+use lib.ListN.{length, getD, drop, drop-of-length-le}
+use lib.Seq.{drop-cons}
+use lib.Dec.{eqb, ltb}
+use borrow.Author.Tests.{eq-eqb, ne-eqb, eqb-true, eqb-false, ltb-true, ltb-false}
+use Rattle.text.specs.Text.{Text, same-text, begins}
+
+-- Cases on a test, with its equation.
+pub by : {X : Type 0} (b : Bool) → (b ≡ true → X) → (b ≡ false → X) → X
+by true f g = f refl
+by false f g = g refl
+
+pub contrary : {X : Type 0} → true ≡ false → X
+contrary e = absurd (let z : _≡_ {A = ℕ} 0 1 = cc in omega arith)
+
+pub and-left : (a b : Bool) → (a && b) ≡ true → a ≡ true
+and-left true b e = refl
+and-left false b e = e
+
+pub and-right : (a b : Bool) → (a && b) ≡ true → b ≡ true
+and-right true b e = e
+and-right false b e = contrary (sym e)
+
+pub same-eq : (s t : Text) → same-text s t ≡ true → s ≡ t
+unfolding same-text
+same-eq [] [] e = refl
+same-eq [] (b ∷ t) e = contrary (sym e)
+same-eq (a ∷ s) [] e = contrary (sym e)
+same-eq (a ∷ s) (b ∷ t) e = let p = eqb-true a b (and-left (eqb a b) (same-text s t) e) in let q = same-eq s t (and-right (eqb a b) (same-text s t) e) in cc
+
+pub same-refl : (s : Text) → same-text s s ≡ true
+unfolding same-text
+same-refl [] = refl
+same-refl (a ∷ s) = rw (eq-eqb a a refl, same-refl s)
+
+pub begins-length : (s t : Text) → begins s t ≡ true → length s ≤ length t
+unfolding begins
+begins-length [] t e = omega arith
+begins-length (a ∷ s) [] e = contrary (sym e)
+begins-length (a ∷ s) (b ∷ t) e = omega (arith, begins-length s t (and-right (eqb a b) (begins s t) e))
+
+-- A text in two parts is compared part by part.
+pub same-append : (s u t : Text) → same-text (s ++ u) t ≡ (begins s t && same-text u (drop (length s) t))
+unfolding same-text begins
+same-append [] u t = refl
+same-append (a ∷ s) u [] = refl
+same-append (a ∷ s) u (b ∷ t) = by (eqb a b) (λ e. rw e (same-append s u t)) (λ e. rw e)
+
+-- One byte further in a comparison.
+module _ (s t : Text) (i j : ℕ) (h : i < length s) (g : j < length t) where
+  pub begins-more : getD t j 0 ≡ getD s i 0 → begins (drop i s) (drop j t) ≡ begins (drop (i + 1) s) (drop (j + 1) t)
+  unfolding begins
+  begins-more e = rw (add-one i, add-one j, drop-cons s i 0 h, drop-cons t j 0 g, eq-eqb (getD s i 0) (getD t j 0) (sym e))
+
+  pub begins-not : (getD t j 0 ≡ getD s i 0 → ⊥) → begins (drop i s) (drop j t) ≡ false
+  unfolding begins
+  begins-not e = rw (drop-cons s i 0 h, drop-cons t j 0 g, ne-eqb (getD s i 0) (getD t j 0) (λ q. e (sym q)))
+
+  pub same-more : getD t j 0 ≡ getD s i 0 → same-text (drop i s) (drop j t) ≡ same-text (drop (i + 1) s) (drop (j + 1) t)
+  unfolding same-text
+  same-more e = rw (add-one i, add-one j, drop-cons s i 0 h, drop-cons t j 0 g, eq-eqb (getD s i 0) (getD t j 0) (sym e))
+
+  pub same-not : (getD t j 0 ≡ getD s i 0 → ⊥) → same-text (drop i s) (drop j t) ≡ false
+  unfolding same-text
+  same-not e = rw (drop-cons s i 0 h, drop-cons t j 0 g, ne-eqb (getD s i 0) (getD t j 0) (λ q. e (sym q)))
+
+pub begins-end : (s t : Text) (i : ℕ) → length s ≤ i → begins (drop i s) t ≡ true
+unfolding begins
+begins-end s t i h = rw (drop-of-length-le s h)
+
+pub begins-short : (s t : Text) → length t < length s → begins s t ≡ false
+begins-short s t h = by (begins s t) (λ e. absurd (omega (arith, begins-length s t e))) (λ e. e)
+
+pub same-length : (s t : Text) → (length s ≡ length t → ⊥) → same-text s t ≡ false
+same-length s t h = by (same-text s t) (λ e. absurd (h (ap length (same-eq s t e)))) (λ e. e)
+
+-- Where the first text has ended, the second is the same if it has ended too.
+pub same-end : (t : Text) (j : ℕ) → j ≤ length t → same-text [] (drop j t) ≡ eqb j (length t)
+unfolding same-text
+same-end t j g =
+    by (eqb j (length t)) (λ e. rw (drop-of-length-le t {i = j} (omega (arith, eqb-true j (length t) e)), e))
+    (λ e. rw (drop-cons t j 0 (less j (length t) g (eqb-false j (length t) e)), e))
+  where
+    less : (a b : ℕ) → a ≤ b → (a ≡ b → ⊥) → a < b
+    less a b k n = by (ltb a b) (ltb-true a b) (λ e. absurd (n (omega (arith, ltb-false a b e))))
+
+pub same-ends : (s t : Text) (i : ℕ) → length s ≤ i → length t ≤ i → same-text (drop i s) (drop i t) ≡ true
+unfolding same-text
+same-ends s t i h g = rw (drop-of-length-le s {i = i} h, drop-of-length-le t {i = i} g)

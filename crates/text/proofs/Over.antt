@@ -1,0 +1,97 @@
+-- Laws of writing a text over the front of a slice.
+use Prim.Native.Nat.{ℕ, zero, suc, _+_, _≤_, _<_}
+use mathlib.Core.Path.{_≡_, refl, ap, sym, _∙_}
+use mathlib.Core.List.{[], _∷_, _++_}
+use native.Mathlib.Numerals.{add-one}
+use native.Mathlib.Nat.{zero-add, suc-add}
+use native.Mathlib.Omega.{arith}
+use lib.ListN.{length, getD, take, drop, set, length-drop}
+use lib.Seq.{take-nil, take-all}
+use Rattle.text.specs.Text.{Text}
+use Rattle.text.specs.Slice.{over, over-at}
+
+pub over-nothing : (s : Text) → over s [] ≡ []
+unfolding over
+over-nothing [] = refl
+over-nothing (a ∷ s) = refl
+
+pub over-length : (s x : Text) → length (over s x) ≡ length x
+unfolding over
+over-length [] x = refl
+over-length (a ∷ s) [] = refl
+over-length (a ∷ s) (b ∷ x) = ap suc (over-length s x)
+
+-- Where there is room, the text is followed by what stood behind it.
+pub over-fits : (s x : Text) → length s ≤ length x → over s x ≡ s ++ drop (length s) x
+unfolding over
+over-fits [] x h = refl
+over-fits (a ∷ s) [] h = absurd (omega arith)
+over-fits (a ∷ s) (b ∷ x) h = ap (λ (l : Text). a ∷ l) (over-fits s x (omega arith))
+
+-- One byte more is written.
+pub over-more : (s x : Text) (i : ℕ) → i < length s → over (take (suc i) s) x ≡ set (over (take i s) x) i (getD s i 0)
+unfolding over
+over-more [] x i h = absurd (omega arith)
+over-more (a ∷ s) [] zero h = refl
+over-more (a ∷ s) [] (suc i) h = refl
+over-more (a ∷ s) (b ∷ x) zero h = refl
+over-more (a ∷ s) (b ∷ x) (suc i) h = ap (λ (l : Text). a ∷ l) (over-more s x i (omega arith))
+
+-- One text after another.
+pub over-append : (s t x : Text) → over (s ++ t) x ≡ over-at (length s) t (over s x)
+unfolding over over-at
+over-append [] t x = refl
+over-append (a ∷ s) t [] = sym (over-nothing t)
+over-append (a ∷ s) t (b ∷ x) = ap (λ (l : Text). a ∷ l) (over-append s t x)
+
+pub over-at-length : (at : ℕ) (s x : Text) → length (over-at at s x) ≡ length x
+unfolding over-at
+over-at-length zero s x = over-length s x
+over-at-length (suc at) s [] = ap length (over-nothing s)
+over-at-length (suc at) s (b ∷ x) = ap suc (over-at-length at s x)
+
+pub over-at-none : (at : ℕ) (x : Text) → over-at at [] x ≡ x
+unfolding over-at over
+over-at-none zero x = refl
+over-at-none (suc at) [] = refl
+over-at-none (suc at) (b ∷ x) = ap (λ (l : Text). b ∷ l) (over-at-none at x)
+
+pub over-at-more : (at : ℕ) (s x : Text) (i : ℕ) → i < length s → over-at at (take (suc i) s) x ≡ set (over-at at (take i s) x) (at + i) (getD s i 0)
+unfolding over-at
+over-at-more zero s x i h = over-more s x i h ∙ ap (λ (k : ℕ). set (over (take i s) x) k (getD s i 0)) (sym (zero-add i))
+over-at-more (suc at) s [] i h = over-nothing (take (suc i) s) ∙ sym (ap (λ (l : Text). set l (suc at + i) (getD s i 0)) (over-nothing (take i s)))
+over-at-more (suc at) s (b ∷ x) i h = rw (suc-add at i) (ap (λ (l : Text). b ∷ l) (over-at-more at s x i h))
+
+-- Past the slice's end nothing more is written.
+pub over-enough : (s x : Text) (i : ℕ) → length x ≤ i → over (take i s) x ≡ over s x
+unfolding over
+over-enough [] x i h = ap (λ (l : Text). over l x) (take-nil i)
+over-enough (a ∷ s) [] zero h = refl
+over-enough (a ∷ s) (b ∷ x) zero h = absurd (omega arith)
+over-enough (a ∷ s) [] (suc i) h = refl
+over-enough (a ∷ s) (b ∷ x) (suc i) h = ap (λ (l : Text). a ∷ l) (over-enough s x i (omega arith))
+
+-- A loop that writes a text byte by byte: its start, its turn and its end.
+pub over-start : (x : Text) → x ≡ over [] x
+unfolding over
+over-start x = refl
+
+pub over-next : (s x y : Text) (i : ℕ) → i < length s → y ≡ over (take i s) x → set y i (getD s i 0) ≡ over (take (i + 1) s) x
+over-next s x y i h e = rw (e, add-one i) (sym (over-more s x i h))
+
+pub over-whole : (s x : Text) (i : ℕ) → length s ≤ i → over (take i s) x ≡ over s x
+over-whole s x i h = rw (take-all i s h)
+
+-- The same from a place on.
+pub over-at-start : (at : ℕ) (s x : Text) → x ≡ over-at at (take 0 s) x
+over-at-start at s x = sym (over-at-none at x)
+
+pub over-at-next : (at : ℕ) (s x y : Text) (i v : ℕ) → i < length s → v ≡ getD s i 0 → y ≡ over-at at (take i s) x → set y (at + i) v ≡ over-at at (take (i + 1) s) x
+over-at-next at s x y i v h f e = rw (e, add-one i, f) (sym (over-at-more at s x i h))
+
+pub over-at-whole : (at : ℕ) (s x : Text) (i : ℕ) → length s ≤ i → over-at at (take i s) x ≡ over-at at s x
+over-at-whole at s x i h = rw (take-all i s h)
+
+pub over-at-enough : (at : ℕ) (s x : Text) (i : ℕ) → length x ≤ at + i → over-at at (take i s) x ≡ over-at at s x
+unfolding over-at
+over-at-enough at s x i h = rw (over-enough s (drop at x) i (omega (arith, length-drop at x)))
