@@ -60,18 +60,21 @@ shift t (fine p r) = fine (ap later p) r
 shift t (eighth i p q) = eighth (suc i) (ap later p) q
 shift {v = v} t (other {c = k} j c q r) = other (suc j) c q (λ i p. let (h, e, f) = later-some v i p in subst (Goes-before k (suc j)) (sym f) (goes-suc k j h (r h e)))
 
-number-of : Test → ℕ
+unfoldable pub number-of : Test → ℕ
 number-of (n when b) = n
 
-pick-not : (b : Bool) (n : ℕ) (r : Option ℕ) (c : ℕ) → T (not (eqb n 8)) → (r ≡ some c → T (not (eqb c 8))) → cond b (some n) r ≡ some c → T (not (eqb c 8))
-pick-not true n r c t f q = let e : n ≡ c = cc in subst (λ x. T (not (eqb x 8))) e t
-pick-not false n r c t f q = f q
+pick : (p : ℕ → Bool) (b : Bool) (n : ℕ) (r : Option ℕ) (c : ℕ) → T (p n) → (r ≡ some c → T (p c)) → cond b (some n) r ≡ some c → T (p c)
+pick p true n r c t f q = let e : n ≡ c = cc in subst (λ x. T (p x)) e t
+pick p false n r c t f q = f q
 
-not-eight : (ts : List Test) → T (all (λ x. not (eqb (number-of x) 8)) ts) → (c : ℕ) → first-refusal ts ≡ some c → T (not (eqb c 8))
+-- What holds of the number of each test holds of the number of a refusal.
+pub refusal-number : (p : ℕ → Bool) (ts : List Test) → T (all (λ x. p (number-of x)) ts) → (c : ℕ) → first-refusal ts ≡ some c → T (p c)
 unfolding all number-of
-not-eight [] t c p = let z : _≡_ {A = ℕ} 0 1 = cc in absurd (omega arith)
-not-eight ((n when b) ∷ ts) t c p =
-    pick-not b n (first-refusal ts) c (and-0 (not (eqb n 8)) _ t) (λ q. not-eight ts (and-1 (not (eqb n 8)) _ t) c q) p
+refusal-number p [] t c q = let z : _≡_ {A = ℕ} 0 1 = cc in absurd (omega arith)
+refusal-number p ((n when b) ∷ ts) t c q = pick p b n (first-refusal ts) c (and-0 (p n) _ t) (λ r. refusal-number p ts (and-1 (p n) _ t) c r) q
+
+abbrev not-eight : ℕ → Bool
+not-eight c = not (eqb c 8)
 
 module _ (mode : Mode) (room : Room) (n : ℕ) where
   -- Of a token that has a rule: another refusal, or on.
@@ -92,7 +95,7 @@ module _ (mode : Mode) (room : Room) (n : ℕ) where
   judge-rule ls t s true r ts q h = other 0 tt refl (λ i e. inr (zero-le, tt))
   judge-rule ls t s false none ts q h = eighth 0 refl refl
   judge-rule ls t s false (some w) ts q h =
-      judge-rest ls t (machine-verdict mode (w (s .memory) .0) (w (s .memory) .1) (tokens-of ls)) (obeyed (some w) t s) (first-refusal ts) (not-eight ts q) (h (obeyed (some w) t s))
+      judge-rest ls t (machine-verdict mode (w (s .memory) .0) (w (s .memory) .1) (tokens-of ls)) (obeyed (some w) t s) (first-refusal ts) (refusal-number not-eight ts q) (h (obeyed (some w) t s))
 
   judge-end : (o : Open) (m : Memory) → Judged n [] (end-verdict (finished o)) (at-end o n m)
   unfolding finished end-verdict readable place-of

@@ -16,3 +16,5 @@ pub mod Correct
 pub mod Accepted
 pub mod Effects
 pub mod Constructed
+pub mod Extends
+pub mod Demands

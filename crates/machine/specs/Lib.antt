@@ -6,3 +6,4 @@ pub mod Refusals
 pub mod Step
 pub mod Read
 pub mod Construction
+pub mod Demand

@@ -101,7 +101,7 @@ module _ (t : Token) (tied : Bool) where
   bracket-term = new-term (blank (bracket-node (t .start)))
 
   -- The last token of a predicateObjectList.
-  abbrev end-rules : Ending → List (Rule (List Frame))
+  abbrev pub end-rules : Ending → List (Rule (List Frame))
   end-rules full-stop = (dot ∷ [] ⇒ return []) ∷ []
   end-rules brace =
       (dot ∷ [] ⇒ return (triples-or-end ∷ []))
@@ -109,19 +109,19 @@ module _ (t : Token) (tied : Bool) where
   end-rules bracket-end = (close-bracket ∷ [] ⇒ return []) ∷ []
 
   -- A predicate p, with the frames that are open after it.
-  abbrev verb-rules : (ℕ → List Frame) → List (Rule (List Frame))
+  abbrev pub verb-rules : (ℕ → List Frame) → List (Rule (List Frame))
   verb-rules after =
       (iris ⇒ (do p ← iri-term t; return (after p)))
       ∷ (kw-a ∷ [] ⇒ (do p ← term (iri rdf-type); return (after p))) ∷ []
 
-  abbrev subject-rules : Place → List (Rule (List Frame))
+  abbrev pub subject-rules : Place → List (Rule (List Frame))
   subject-rules place =
       (iris ⇒ (do n ← iri-term t; return (after-node place n)))
       ∷ («BLANK_NODE_LABEL» ∷ [] ⇒ (do n ← label-term; return (after-node place n)))
       ∷ (open-bracket ∷ [] ⇒ (do n ← bracket-term; return (bracket place n ∷ [])))
       ∷ (open-paren ∷ [] ⇒ return (list (list-place place) (t .start) no-cell ∷ [])) ∷ []
 
-  abbrev simple : Write Opening → Write ℕ → Write (List Frame)
+  abbrev pub simple : Write Opening → Write ℕ → Write (List Frame)
   simple begin node = do
     o ← begin
     n ← node
@@ -129,13 +129,13 @@ module _ (t : Token) (tied : Bool) where
     return (o .after)
 
   -- "A string not followed by a tag or ^^ is complete at its own token."
-  abbrev string : Write Opening → Bool → Write (List Frame)
+  abbrev pub string : Write Opening → Bool → Write (List Frame)
   string begin true = do
     o ← begin
     return (suffix (o .place) (t .start) (string-text t) ∷ o .after)
   string begin false = simple begin (typed (string-text t) xsd-string)
 
-  abbrev object-rules : Write Opening → List (Rule (List Frame))
+  abbrev pub object-rules : Write Opening → List (Rule (List Frame))
   object-rules begin =
       (iris ⇒ simple begin (iri-term t))
       ∷ («BLANK_NODE_LABEL» ∷ [] ⇒ simple begin label-term)
@@ -211,7 +211,7 @@ module _ (t : Token) (tied : Bool) where
   above k ((ks ⇒ w) ∷ rs) = (ks ⇒ (do fs ← w; return (statement (fs ++ k)))) ∷ above k rs
 
   -- Mode 1's grammar uses neither braces nor GRAPH.
-  abbrev statement-rules : Mode → List (Rule (List Frame))
+  abbrev pub statement-rules : Mode → List (Rule (List Frame))
   statement-rules trig =
       (open-brace ∷ [] ⇒ (do enter 0; return (triples-or-end ∷ [])))
       ∷ (GRAPH ∷ [] ⇒ return (graph-label ∷ []))

@@ -1,3 +1,4 @@
 -- Laws of the tables.
 pub mod Numbers
 pub mod Held
+pub mod Sizes
