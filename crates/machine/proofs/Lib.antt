@@ -18,3 +18,4 @@ pub mod Effects
 pub mod Constructed
 pub mod Extends
 pub mod Demands
+pub mod Order
