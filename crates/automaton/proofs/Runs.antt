@@ -115,7 +115,7 @@ shape c t = ⊎-elim (λ h. inl (simp (lt-ltb c 0x80 h))) (λ h. inr (go h (enco
         absurd (omega arith)
     go h (b ∷ r) e =
         let m : 0x80 ≤ b =
-                ⊎-elim (λ v. let x = v .0 in absurd (omega arith)) (λ v. subst (λ (x : Text). 0x80 ≤ getD x 0 0) (sym e) (v .1)) (head c t) in
+        ⊎-elim (λ v. let x = v .0 in absurd (omega arith)) (λ v. subst (λ (x : Text). 0x80 ≤ getD x 0 0) (sym e) (v .1)) (head c t) in
         record { byte = b; more = r; far = h; high = m; eq = sym e }
 
 tri-third : (c d : ℕ) (es : List ℕ) → tripled (c ∷ d ∷ encodes es) ≡ tripled (c ∷ d ∷ es)
@@ -148,7 +148,7 @@ pub rest-start : (s : Text) (cs : List ℕ) → Encodes s cs → Rest s (start-o
 rest-start s cs g = record {
   ds = cs;
   left = g;
-  same = ap (λ (b : Bool). run (cond b long-terminals terminals) 0 0 0 cs) (ap tripled (g .bytes) ∙ tri-first cs) ∙ run-token cs
+  same = ap (λ (b : Bool). run (cond b long-terminals terminals) 0 0 0 cs) (ap tripled (g .bytes) ∙ tri-first cs) ∙ run-token cs;
 }
 
 pub rest-end : (s : Text) (q : State) (i kind len : ℕ) (cs : List ℕ) → length s ≤ i → Rest s q i kind len cs → tok kind len ≡ answer (token-at cs)

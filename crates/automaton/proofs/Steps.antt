@@ -156,7 +156,7 @@ module _ {s : Text} {q : State} {i kind len : ℕ} (g : At s q i kind len) where
   by-code-point q2 n h p f = record {
     within = h;
     last = seen-within (now-at q2) i (i + n) len (g .last) (omega arith);
-    rest = λ cs e. let r = g .rest cs e in fin cs (r .ds) (r .left .scalars) (r .left .bytes) (r .same)
+    rest = λ cs e. let r = g .rest cs e in fin cs (r .ds) (r .left .scalars) (r .left .bytes) (r .same);
   }
     where
       fin : (cs ds : List ℕ) → Scalars ds → drop i s ≡ encodes ds → run q i kind len ds ≡ answer (token-at cs)
@@ -167,7 +167,7 @@ module _ {s : Text} {q : State} {i kind len : ℕ} (g : At s q i kind len) where
           record {
             ds = ds;
             left = record { scalars = sc .1; bytes = next-left s i c ds d n (v .0) };
-            same = rw (v .0, ← v .1) z
+            same = rw (v .0, ← v .1) z;
           }
 
   -- The next code point leads nowhere, if there is one.
@@ -175,7 +175,7 @@ module _ {s : Text} {q : State} {i kind len : ℕ} (g : At s q i kind len) where
   unfolding encodes
   by-nothing f = record {
     within = let a = g .within in let b = g .last in omega arith;
-    right = λ cs e. let r = g .rest cs e in fin cs (r .ds) (r .left .scalars) (r .left .bytes) (r .same)
+    right = λ cs e. let r = g .rest cs e in fin cs (r .ds) (r .left .scalars) (r .left .bytes) (r .same);
   }
     where
       fin : (cs ds : List ℕ) → Scalars ds → drop i s ≡ encodes ds → run q i kind len ds ≡ answer (token-at cs) → tok kind len ≡ answer (token-at cs)
@@ -190,7 +190,7 @@ module _ {s : Text} {q : State} {i kind len : ℕ} (g : At s q i kind len) where
   pub at-end : length s ≤ i → TokenAt s (tok kind len)
   at-end h = record {
     within = let a = g .within in let b = g .last in omega arith;
-    right = λ cs e. rest-end s q i kind len cs h (g .rest cs e)
+    right = λ cs e. rest-end s q i kind len cs h (g .rest cs e);
   }
 
   -- A state that does as another does, but for bytes that pass f, where no such byte stands.
@@ -199,7 +199,7 @@ module _ {s : Text} {q : State} {i kind len : ℕ} (g : At s q i kind len) where
   as-other {q2} {f} t n = record {
     within = g .within;
     last = g .last;
-    rest = λ cs e. let r = g .rest cs e in record { ds = r .ds; left = r .left; same = sym (fin (r .ds) (r .left .scalars) (r .left .bytes)) ∙ r .same }
+    rest = λ cs e. let r = g .rest cs e in record { ds = r .ds; left = r .left; same = sym (fin (r .ds) (r .left .scalars) (r .left .bytes)) ∙ r .same };
   }
     where
       fin : (ds : List ℕ) → Scalars ds → drop i s ≡ encodes ds → run q i kind len ds ≡ run q2 i kind len ds
@@ -258,8 +258,8 @@ module _ {s : Text} {q : State} {i kind len : ℕ} where
     within = g .within;
     last = g .last;
     rest = λ cs e.
-      let r = g .rest cs e in
-      record { mid = []; high = tt; ds = r .ds; scalars = r .left .scalars; bytes = r .left .bytes; same = rw (add-zero i) (r .same) }
+        let r = g .rest cs e in
+        record { mid = []; high = tt; ds = r .ds; scalars = r .left .scalars; bytes = r .left .bytes; same = rw (add-zero i) (r .same) };
   }
 
   -- A byte below 128 stands between code points.
@@ -267,7 +267,7 @@ module _ {s : Text} {q : State} {i kind len : ℕ} where
   in-at g h l = record {
     within = g .within;
     last = g .last;
-    rest = λ cs e. let r = g .rest cs e in fin cs (r .ds) (r .scalars) (r .mid) (r .high) (r .bytes) (r .same)
+    rest = λ cs e. let r = g .rest cs e in fin cs (r .ds) (r .scalars) (r .mid) (r .high) (r .bytes) (r .same);
   }
     where
       fin : (cs ds : List ℕ) → Scalars ds → (m : Text) → Highs m → drop i s ≡ m ++ encodes ds → run q (i + length m) kind len ds ≡ answer (token-at cs)
@@ -281,7 +281,7 @@ module _ {s : Text} {q : State} {i kind len : ℕ} where
   pub in-end : In s q i kind len → length s ≤ i → TokenAt s (tok kind len)
   in-end g h = record {
     within = let a = g .within in let b = g .last in omega arith;
-    right = λ cs e. let r = g .rest cs e in fin cs (r .ds) (r .scalars) (r .mid) (r .bytes) (r .same)
+    right = λ cs e. let r = g .rest cs e in fin cs (r .ds) (r .scalars) (r .mid) (r .bytes) (r .same);
   }
     where
       fin : (cs ds : List ℕ) → Scalars ds → (m : Text) → drop i s ≡ m ++ encodes ds → run q (i + length m) kind len ds ≡ answer (token-at cs)
@@ -315,7 +315,7 @@ module _ (s : Text) {q q2 : State} (i kind len : ℕ) (t : HighMoves q q2) (h : 
             ds = ds;
             scalars = sc .1;
             bytes = next-mid s i b m (encodes ds) d;
-            same = subst (λ (n : ℕ). run q2 n kind len ds ≡ answer (token-at cs)) o y
+            same = subst (λ (n : ℕ). run q2 n kind len ds ≡ answer (token-at cs)) o y;
           }
 
 -- A byte from 128 on, between two code points.
@@ -323,7 +323,7 @@ pub over-to : {s : Text} {q q2 : State} {i kind len : ℕ} → HighMoves q q2 �
 over-to {s} {q} {q2} {i} {kind} {len} t g h l = record {
   within = omega arith;
   last = let a = g .last in omega arith;
-  rest = λ cs e. let r = g .rest cs e in enter s i kind len t h l cs (r .ds) (r .left .scalars) (r .left .bytes) (r .same)
+  rest = λ cs e. let r = g .rest cs e in enter s i kind len t h l cs (r .ds) (r .left .scalars) (r .left .bytes) (r .same);
 }
 
 -- A byte from 128 on, in a state that no code point from 128 on leaves.
@@ -331,7 +331,7 @@ pub over : {s : Text} {q : State} {i kind len : ℕ} → HighMoves q q → In s 
 over {s} {q} {i} {kind} {len} t g h l = record {
   within = omega arith;
   last = let a = g .last in omega arith;
-  rest = λ cs e. let r = g .rest cs e in fin cs (r .mid) (r .high) (r .ds) (r .scalars) (r .bytes) (r .same)
+  rest = λ cs e. let r = g .rest cs e in fin cs (r .mid) (r .high) (r .ds) (r .scalars) (r .bytes) (r .same);
 }
   where
     fin : (cs : List ℕ) (m : Text) → Highs m → (ds : List ℕ) → Scalars ds → drop i s ≡ m ++ encodes ds → run q (i + length m) kind len ds ≡ answer (token-at cs)
@@ -345,7 +345,7 @@ over {s} {q} {i} {kind} {len} t g h l = record {
           ds = ds;
           scalars = sc;
           bytes = next-mid s i b m (encodes ds) d;
-          same = subst (λ (n : ℕ). run q n kind len ds ≡ answer (token-at cs)) o z
+          same = subst (λ (n : ℕ). run q n kind len ds ≡ answer (token-at cs)) o z;
         }
 
 -- ---- The beginning

@@ -42,6 +42,7 @@ found f (interval lo hi k ∷ xs) n c l u t s =
   where
     v : T (eqb lo n) × T (contiguous (suc hi) xs)
     v = and-true (eqb lo n) (contiguous (suc hi) xs) t
+
     w : T (f (interval lo hi k)) × T (each f xs)
     w = and-true (f (interval lo hi k)) (each f xs) s
 

@@ -50,7 +50,7 @@ module _ (s : Text) (at n c : ℕ) (h : at < length s) (l : 128 ≤ getD s at 0)
   pub wide-none : (rs : List Range) (least : ℕ) → n ≡ 0 → CharAt rs least s at 0
   wide-none rs least z = record {
     within = omega arith;
-    right = λ d t y w. let p = same-char d t y w .0 in let o = width-pos d in absurd (omega arith)
+    right = λ d t y w. let p = same-char d t y w .0 in let o = width-pos d in absurd (omega arith);
   }
 
   module _ (z : n ≡ 0 → ⊥) where
@@ -62,29 +62,31 @@ module _ (s : Text) (at n c : ℕ) (h : at < length s) (l : 128 ≤ getD s at 0)
         go (suc k) w =
             let r = size-reads (drop at s) k (sym size-is ∙ w) in
             let c′ : c ≡ code-point (take (suc k) (drop at s)) = code-is ∙ ap (λ (m : ℕ). code-point (take m (drop at s))) w in
-            let o = r .scalar .0 in
-            (⊎-elim (λ v. let p = v .1 in let q = v .0 in absurd (omega arith)) (λ v. let p = v .0 in omega arith)
-            (first s at (code-point (take (suc k) (drop at s))) (r .rest) (r .whole)), omega arith)
+            let o = r .scalar .0 in (
+              ⊎-elim (λ v. let p = v .1 in let q = v .0 in absurd (omega arith)) (λ v. let p = v .0 in omega arith)
+                  (first s at (code-point (take (suc k) (drop at s))) (r .rest) (r .whole)),
+              omega arith,
+            )
 
     module _ (least k : ℕ) (g : k ≡ level c) where
       pub wide-no : k < least → CharAt [] least s at 0
       wide-no m = record {
         within = omega arith;
         right = λ d t y w.
-          let p = same-char d t y w in
-          let j : level d < least = (let o = g ∙ ap level (p .1) in omega arith) in
-          ⊎-elim (λ x. let q = x .0 in let q′ = x .1 in absurd (omega arith)) (λ x. rw (le-ltb d 128 (x .0), lt-leb least (level d) j)) (first s at d t w)
+            let p = same-char d t y w in
+            let j : level d < least = (let o = g ∙ ap level (p .1) in omega arith) in
+            ⊎-elim (λ x. let q = x .0 in let q′ = x .1 in absurd (omega arith)) (λ x. rw (le-ltb d 128 (x .0), lt-leb least (level d) j)) (first s at d t w);
       }
 
       pub wide-yes : least ≤ k → CharAt [] least s at n
       wide-yes m = record {
         within = let o = size-within (drop at s) .0 in let p = length-drop at s in let q = size-is in omega arith;
         right = λ d t y w.
-          let p = same-char d t y w in
-          let j : least ≤ level d = (let o = g ∙ ap level (p .1) in omega arith) in
-          let u : passes [] least d ≡ true =
-                  ⊎-elim (λ x. let q = x .0 in let q′ = x .1 in absurd (omega arith)) (λ x. rw (le-ltb d 128 (x .0), le-leb least (level d) j)) (first s at d t w) in
-          p .0 ∙ sym (ap (λ (b : Bool). cond b (width d) 0) u)
+            let p = same-char d t y w in
+            let j : least ≤ level d = (let o = g ∙ ap level (p .1) in omega arith) in
+            let u : passes [] least d ≡ true =
+            ⊎-elim (λ x. let q = x .0 in let q′ = x .1 in absurd (omega arith)) (λ x. rw (le-ltb d 128 (x .0), le-leb least (level d) j)) (first s at d t w) in
+            p .0 ∙ sym (ap (λ (b : Bool). cond b (width d) 0) u);
       }
 
 -- ---- The routines `name_char` and its like
@@ -94,10 +96,10 @@ module _ (rs : List Range) (least : ℕ) (s : Text) (i : ℕ) (h : i < length s)
   char-low v l e n f = record {
     within = small v f;
     right = λ c t z d.
-      ⊎-elim
-      (λ w. f ∙ ap (λ (b : Bool). cond b 1 0) (e ∙ ap (λ (x : ℕ). in-ranges x rs) (w .1)) ∙ rw (lt-ltb c 0x80 (w .0)))
-      (λ w. let y = w .1 in absurd (omega arith))
-      (first s i c t d)
+        ⊎-elim
+        (λ w. f ∙ ap (λ (b : Bool). cond b 1 0) (e ∙ ap (λ (x : ℕ). in-ranges x rs) (w .1)) ∙ rw (lt-ltb c 0x80 (w .0)))
+        (λ w. let y = w .1 in absurd (omega arith))
+        (first s i c t d);
   }
     where
       small : (v : Bool) → n ≡ cond v 1 0 → i + n ≤ length s
@@ -108,9 +110,9 @@ module _ (rs : List Range) (least : ℕ) (s : Text) (i : ℕ) (h : i < length s)
   char-high l n w = record {
     within = w .within;
     right = λ c t z d.
-      ⊎-elim (λ v. let x = v .0 in let y = v .1 in absurd (omega arith))
-      (λ v. w .right c t z d ∙ rw (le-ltb c 0x80 (v .0)))
-      (first s i c t d)
+        ⊎-elim (λ v. let x = v .0 in let y = v .1 in absurd (omega arith))
+        (λ v. w .right c t z d ∙ rw (le-ltb c 0x80 (v .0)))
+        (first s i c t d);
   }
 
 -- ---- The automaton over such a code point
@@ -139,9 +141,10 @@ module _ {s : Text} {q : State} {i kind len : ℕ} {rs : List Range} {least n : 
       rw (sent-kind (t .low)) at
       (by-code-point g q2 n (ch .within) (omega arith)
       (λ c ds sc d.
-      let v = cond-pos (passes rs least c) (width c) n (ch .right c (encodes ds) sc d) z in
-      (v .1,
-      ⊎-elim (λ l. sent-to (t .low) c l (rw (lt-ltb c 128 l) at (v .0))) (λ l. high-to (t .high) c l (sc .0) (rw (le-ltb c 128 l) at (v .0))) (split c 128))))
+      let v = cond-pos (passes rs least c) (width c) n (ch .right c (encodes ds) sc d) z in (
+        v .1,
+        ⊎-elim (λ l. sent-to (t .low) c l (rw (lt-ltb c 128 l) at (v .0))) (λ l. high-to (t .high) c l (sc .0) (rw (le-ltb c 128 l) at (v .0))) (split c 128),
+      )))
 
   pub char-off : {f : ℕ → Bool} → CharEnds q rs least f → n ≡ 0 → (i < length s → f (getD s i 0) ≡ false) → TokenAt s (tok kind len)
   char-off {f} t z no′ =

@@ -6,9 +6,14 @@ ghost use lib.ListN.{length, getD};
 ghost use Rattle.automaton.specs.Levels.{level};
 ghost use Rattle.characters.specs.Bytes.{letter, name, local, local-first, label-first};
 ghost use Rattle.characters.specs.Names.{CharAt, base, inner};
-use crate::bytes::{is_label_first, is_letter, is_local, is_local_first, is_name};
+use crate::bytes::is_label_first;
+use crate::bytes::is_letter;
+use crate::bytes::is_local;
+use crate::bytes::is_local_first;
+use crate::bytes::is_name;
 
 const BASE: u8 = 2;
+
 const INNER: u8 = 1;
 
 // The level of a code point from U+00C0 to U+036F.

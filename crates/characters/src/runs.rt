@@ -4,7 +4,10 @@ ghost use Prim.Native.Nat.{_≤_};
 ghost use lib.ListN.{length, drop};
 ghost use Rattle.characters.specs.Bytes.{digit, letter, letter-or-digit};
 ghost use Rattle.characters.specs.Runs.{hex-run, Span};
-use crate::bytes::{is_digit, is_hex, is_letter, is_letter_or_digit};
+use crate::bytes::is_digit;
+use crate::bytes::is_hex;
+use crate::bytes::is_letter;
+use crate::bytes::is_letter_or_digit;
 
 // Whether n hexadecimal digits stand there.
 pub fn hexes(s: &[u8], at: usize, n: usize) -> bool

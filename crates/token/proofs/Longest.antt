@@ -243,7 +243,7 @@ module _ (w : ℕ → ℕ) where
     bytes = ap (λ (x : ℕ). w c + x) (h .bytes);
     match = step-from S k c (h .front) (h .match);
     longest = go;
-    least = λ j s. h .least j (step-to S j c (h .front) s)
+    least = λ j s. h .least j (step-to S j c (h .front) s);
   }
     where
       go : (x y : List ℕ) (j : ℕ) → c ∷ cs ≡ x ++ y → Some S j x → length x ≤ suc (length (h .front))
@@ -263,7 +263,7 @@ module _ (w : ℕ → ℕ) where
     bytes = n .0;
     match = n .1;
     longest = λ x y j e s. let l = ap length (nil-left x y e) in omega arith;
-    least = n .2
+    least = n .2;
   }
 
   pub best-longest : (S : List Item) (cs : List ℕ) → Longest w S cs (best w S cs)
