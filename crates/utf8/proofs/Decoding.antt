@@ -20,7 +20,7 @@ use Rattle.utf8.proofs.Encoding.{by-width, length-encode, width-pos, wi
 
 -- ---- Decoding what was encoded
 
-code-encode : (c : ℕ) → Scalar c → code-point (encode c) ≡ c
+pub code-encode : (c : ℕ) → Scalar c → code-point (encode c) ≡ c
 unfolding code-point lead-bits more-bits
 code-encode c s =
     by-width c

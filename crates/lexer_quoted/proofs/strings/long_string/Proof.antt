@@ -1,0 +1,98 @@
+-- `long_string` meets its contract. The invariant: the automaton is within a long string of this quote, after a run of quotes.
+use native.Mathlib.Omega.{arith}
+use borrow.Author.Needs.{needs}
+use denote.Ref.{now}
+use Prim.Native.Nat.{_<_, _-_}
+use lib.ListN.{length}
+use Rattle.lexer_quoted.proofs.Quoting.{LongAt, long-begin, long-end, long-close, long-quote, long-plain, long-broken, long-escaped}
+use Rattle.lexer_quoted.proofs.strings.long_string.Statement.{statement}
+use Rattle.lexer_quoted.proofs.strings.long_string.Tie as tie
+
+abbrev Inv-loop : tie.InvT-loop
+Inv-loop s quote kind i₀ run₀ i run = (run < 3) × LongAt s quote i run
+
+abbrev μ-loop : tie.MeasureT-loop
+μ-loop s quote kind i₀ run₀ i run = length s - i
+
+loop-holds : tie.Need-loop-holds Inv-loop μ-loop
+loop-holds c = (omega arith, long-begin (now (c .before .args .s)) (c .before .args .quote) (c .before .args .kind) (c .before .pre .2) (c .before .pre .0) (c .before .pre .1) (c .before .pre .3))
+
+shared-slice-read-b : tie.Need-shared-slice-read-b Inv-loop μ-loop
+shared-slice-read-b c = search needs
+
+add-t13 : tie.Need-add-t13 Inv-loop μ-loop
+add-t13 c = search needs
+
+returns : tie.Need-returns Inv-loop μ-loop
+returns c = long-close (now (c .before .before .before .before .before .before .args .s)) (c .before .before .before .before .before .before .args .quote) (c .before .before .before .before .before .before .args .kind) (c .before .before .before .before .before .before .pre .2) (c .before .before .before .before .loop .i) (c .before .before .before .before .loop .run) (c .before .before .before .before .loop .inv .1) (c .before .before .before .loop-test .taken) (c .before .if1 .taken) (c .if2 .taken)
+
+add-run : tie.Need-add-run Inv-loop μ-loop
+add-run c = search needs
+
+add-i : tie.Need-add-i Inv-loop μ-loop
+add-i c = search needs
+
+loop-less : tie.Need-loop-less Inv-loop μ-loop
+loop-less c = search needs
+
+loop-again : tie.Need-loop-again Inv-loop μ-loop
+loop-again c = (omega arith, long-quote (now (c .before .before .before .before .before .before .args .s)) (c .before .before .before .before .before .before .args .quote) (c .before .before .before .before .before .before .args .kind) (c .before .before .before .before .before .before .pre .2) (c .before .before .before .before .loop .i) (c .before .before .before .before .loop .run) (c .before .before .before .before .loop .inv .1) (c .before .before .before .loop-test .taken) (c .before .if1 .taken) (c .if2 .left))
+
+add-escape : tie.Need-add-escape Inv-loop μ-loop
+add-escape c = search needs
+
+escape-requires : tie.Need-escape-requires Inv-loop μ-loop
+escape-requires c κs = search needs
+
+returns-2 : tie.Need-returns-2 Inv-loop μ-loop
+returns-2 c = long-broken (now (c .before .before .before .before .before .before .before .before .args .s)) (c .before .before .before .before .before .before .before .before .args .quote) (c .before .before .before .before .before .before .before .before .args .kind) (c .before .before .before .before .before .before .before .before .pre .2) (c .before .before .before .before .before .before .loop .i) (c .before .before .before .before .before .before .loop .run) (c .before .before .before .before .before .before .loop .inv .1) (c .before .before .before .before .before .loop-test .taken) (c .before .before .if3 .taken) _ (c .before .escape .ensures) (c .if4 .taken)
+
+add-i-2 : tie.Need-add-i-2 Inv-loop μ-loop
+add-i-2 c = search needs
+
+add-i-3 : tie.Need-add-i-3 Inv-loop μ-loop
+add-i-3 c = omega (arith, long-escaped (now (c .before .before .before .before .before .before .before .before .args .s)) (c .before .before .before .before .before .before .before .before .args .quote) (c .before .before .before .before .before .before .before .before .args .kind) (c .before .before .before .before .before .before .before .before .pre .2) (c .before .before .before .before .before .before .loop .i) (c .before .before .before .before .before .before .loop .run) (c .before .before .before .before .before .before .loop .inv .1) (c .before .before .before .before .before .loop-test .taken) (c .before .before .if3 .taken) _ (c .before .escape .ensures) (c .if4 .left) .within)
+
+loop-less-2 : tie.Need-loop-less-2 Inv-loop μ-loop
+loop-less-2 c = omega (arith, long-escaped (now (c .before .before .before .before .before .before .before .before .args .s)) (c .before .before .before .before .before .before .before .before .args .quote) (c .before .before .before .before .before .before .before .before .args .kind) (c .before .before .before .before .before .before .before .before .pre .2) (c .before .before .before .before .before .before .loop .i) (c .before .before .before .before .before .before .loop .run) (c .before .before .before .before .before .before .loop .inv .1) (c .before .before .before .before .before .loop-test .taken) (c .before .before .if3 .taken) _ (c .before .escape .ensures) (c .if4 .left) .within)
+
+loop-again-2 : tie.Need-loop-again-2 Inv-loop μ-loop
+loop-again-2 c = (omega arith, long-escaped (now (c .before .before .before .before .before .before .before .before .args .s)) (c .before .before .before .before .before .before .before .before .args .quote) (c .before .before .before .before .before .before .before .before .args .kind) (c .before .before .before .before .before .before .before .before .pre .2) (c .before .before .before .before .before .before .loop .i) (c .before .before .before .before .before .before .loop .run) (c .before .before .before .before .before .before .loop .inv .1) (c .before .before .before .before .before .loop-test .taken) (c .before .before .if3 .taken) _ (c .before .escape .ensures) (c .if4 .left))
+
+add-i-4 : tie.Need-add-i-4 Inv-loop μ-loop
+add-i-4 c = search needs
+
+loop-less-3 : tie.Need-loop-less-3 Inv-loop μ-loop
+loop-less-3 c = search needs
+
+loop-again-3 : tie.Need-loop-again-3 Inv-loop μ-loop
+loop-again-3 c = (omega arith, long-plain (now (c .before .before .before .before .before .before .args .s)) (c .before .before .before .before .before .before .args .quote) (c .before .before .before .before .before .before .args .kind) (c .before .before .before .before .before .before .pre .2) (c .before .before .before .before .loop .i) (c .before .before .before .before .loop .run) (c .before .before .before .before .loop .inv .1) (c .before .before .before .loop-test .taken) (c .before .if1 .left) (c .if3 .left))
+
+returns-3 : tie.Need-returns-3 Inv-loop μ-loop
+returns-3 c = long-end (now (c .before .before .before .args .s)) (c .before .before .before .args .quote) (c .before .before .before .args .kind) (c .before .before .before .pre .2) (c .before .loop .i) (c .before .loop .run) (c .before .loop .inv .1) (c .loop-test .left)
+
+pub long-string-spec : {M : Type 1} → statement M
+long-string-spec =
+    tie.close
+    (tie.spec
+    Inv-loop
+    μ-loop
+    loop-holds
+    shared-slice-read-b
+    add-t13
+    returns
+    add-run
+    add-i
+    loop-less
+    loop-again
+    add-escape
+    escape-requires
+    returns-2
+    add-i-2
+    add-i-3
+    loop-less-2
+    loop-again-2
+    add-i-4
+    loop-less-3
+    loop-again-3
+    returns-3)

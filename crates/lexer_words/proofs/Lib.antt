@@ -1,0 +1,4 @@
+-- Numbers, tags, labels, names and keywords: the states of the automaton on the way through the routines.
+pub mod Numbering
+pub mod Agreeing
+pub mod Tagging
