@@ -13,8 +13,12 @@ use Rattle.iri.specs.Resolve.{resolve, resolve-with-dots, resolved, auth
 use Rattle.iri.specs.declared.Rule.{Rule}
 use Rattle.iri.specs.declared.Rule.the-variants.{UpSlash, HereSlash, SlashHere, SlashHereEnd, SlashUp, SlashUpEnd, Dots, Segment}
 use Rattle.iri.specs.declared.Turn.{Turn}
-use Rattle.iri.specs.declared.Verdict.{Verdict}
-use Rattle.iri.specs.declared.Verdict.the-variants.{More, Yes, No}
+use Rattle.iri.specs.declared.Part.{Part}
+use Rattle.iri.specs.declared.Part.the-variants.{Authority, Path, Query, Scheme, Colon}
+use Rattle.iri.specs.declared.Ends.{Ends}
+use Rattle.iri.specs.declared.Plan.{Plan}
+use Rattle.iri.specs.declared.Resolution.{Resolution}
+use Rattle.iri.specs.declared.Resolution.the-variants.{Written, Long, NoBase}
 
 -- How many bytes stand before the first that passes the test.
 unfoldable pub before : (ℕ → Bool) → Text → ℕ
@@ -25,11 +29,6 @@ before p (c ∷ s) = let r = suc (before p s) in cond (p c) 0 r
 unfoldable pub slash-end : Text → ℕ → ℕ
 slash-end s zero = 0
 slash-end s (suc n) = cond (eqb (getD s n 0) 47) (suc n) (slash-end s n)
-
--- What a byte says of a scheme: at its first place, and later.
-unfoldable pub verdict : Bool → ℕ → Verdict
-verdict true c = cond (letter c) More No
-verdict false c = cond (scheme-byte c) More (cond (eqb c 58) Yes No)
 
 -- What stands from at to the end.
 abbrev pub window : Text → ℕ → ℕ → Text
@@ -102,3 +101,63 @@ pub record Removed (x y : Text) (n r : ℕ) : Type 0 where
   pub front : take r y ≡ remove-dot-segments (take n x)
   pub back : drop n y ≡ drop n x
   pub short : r ≤ n
+
+-- What ends a part: an authority, a path, a query, the bytes of a scheme; and the colon behind a scheme.
+unfoldable pub stop : Part → ℕ → Bool
+stop Authority c = one-of "/?#" c
+stop Path c = one-of "?#" c
+stop Query c = is "#" c
+stop Scheme c = not (scheme-byte c)
+stop Colon c = is ":" c
+
+-- Where the scheme ends with its colon, of a text that has one.
+unfoldable pub scheme-end : Text → ℕ
+scheme-end s = before (stop Colon) s + 1
+
+-- Where the parts of a text without a scheme end.
+unfoldable pub authority-length : Text → ℕ
+authority-length s = cond (begins (ascii "//") s) (2 + before (stop Authority) (drop 2 s)) 0
+
+unfoldable pub path-end : Text → ℕ
+path-end s = authority-length s + before (stop Path) (drop (authority-length s) s)
+
+unfoldable pub query-end : Text → ℕ
+query-end s = path-end s + before (stop Query) (drop (path-end s) s)
+
+unfoldable pub ends-of : Text → ℕ → Ends
+ends-of s from = record { authority = from + authority-length (drop from s); path = from + path-end (drop from s); query = from + query-end (drop from s) }
+
+-- How the parts are put together, from where they end: k the base's scheme, then the base's parts and the reference's.
+unfoldable pub plan-by : Text → Text → ℕ → Ends → Ends → Plan
+plan-by base ref k b r =
+    cond (ltb 0 (r .authority)) (record { keep = k; slash = 0; from = k + r .authority; path = r .path })
+    (cond (eqb (r .path) 0)
+    (cond (eqb (r .query) 0) (record { keep = b .query; slash = 0; from = b .query; path = 0 })
+    (record { keep = b .path; slash = 0; from = b .path; path = 0 }))
+    (cond (eqb (getD ref 0 0) 47) (record { keep = b .authority; slash = 0; from = b .authority; path = r .path })
+    (cond (ltb (b .authority) (b .path))
+    (record {
+      keep = b .authority + slash-end (take (b .path - b .authority) (drop (b .authority) base)) (length (take (b .path - b .authority) (drop (b .authority) base)));
+      slash = 0;
+      from = b .authority;
+      path = r .path;
+    })
+    (cond (ltb k (b .authority)) (record { keep = b .authority; slash = 1; from = b .authority; path = r .path })
+    (record { keep = b .authority; slash = 0; from = b .authority; path = r .path })))))
+
+unfoldable pub plan-of : Text → Text → Plan
+plan-of base ref = plan-by base ref (scheme-end base) (ends-of base (scheme-end base)) (ends-of ref 0)
+
+-- What a plan is good for: front, path and rest of the IRI, the path with its dot segments and without them.
+pub record Planned (base ref : Text) (p : Plan) : Type 0 where
+  pub front : Text
+  pub path : Text
+  pub rest : Text
+  pub dotted : resolve-with-dots base ref ≡ front ++ (path ++ rest)
+  pub plain : resolve base ref ≡ front ++ (remove-dot-segments path ++ rest)
+  pub made : front ++ path ≡ take (p .keep) base ++ (replicate (p .slash) 47 ++ take (p .path) ref)
+  pub rest-is : rest ≡ drop (p .path) ref
+  pub start : length front ≡ p .from
+  pub kept : p .keep ≤ length base
+  pub one : p .slash ≤ 1
+  pub inside : p .path ≤ length ref
