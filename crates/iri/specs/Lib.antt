@@ -2,3 +2,4 @@
 pub mod Iri
 pub mod Dots
 pub mod Resolve
+pub mod Code

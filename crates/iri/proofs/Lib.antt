@@ -1,0 +1,6 @@
+pub mod Places
+pub mod Turns
+pub mod Buffer
+pub mod Parts
+pub mod Schemes
+pub mod Plans
