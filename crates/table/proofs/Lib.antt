@@ -1,3 +1,5 @@
 -- Laws of the tables.
 pub mod Numbers
 pub mod Held
+pub mod Finding
+pub mod Store
