@@ -2,3 +2,5 @@
 pub mod Numbers
 pub mod Held
 pub mod Sizes
+pub mod Finding
+pub mod Store

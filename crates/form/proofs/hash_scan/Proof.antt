@@ -1,0 +1,70 @@
+-- The invariant: the hash of the whole is that of what the rest stands for, from the number so far on.
+use Prim.Native.Nat.{_≤_, _<_, _-_}
+use mathlib.Core.Path.{_≡_, refl, sym, _∙_}
+use native.Mathlib.Omega.{arith}
+use lib.ListN.{length, drop}
+use lib.Seq.{length-take-le}
+use Rattle.escape.specs.Code.{undone, Fair}
+use Rattle.escape.proofs.Walk.{fair-more, four-fits}
+use Rattle.form.specs.Hash.{hash-from}
+use Rattle.form.proofs.Hashes.{hash-piece, hash-done}
+use borrow.Author.Needs.{needs}
+use Rattle.form.proofs.hash_scan.Statement.{statement}
+use Rattle.form.proofs.hash_scan.Tie as tie
+
+abbrev Inv-loop : tie.InvT-loop
+Inv-loop h s scan₀ total₀ i₀ scan total i = (((i ≤ length s) × Fair scan) × (total < 4294967296)) × (hash-from h (undone scan₀ s) ≡ hash-from total (undone scan (drop i s)))
+
+abbrev μ-loop : tie.MeasureT-loop
+μ-loop h s scan₀ total₀ i₀ scan total i = length s - i
+
+loop-holds : tie.Need-loop-holds Inv-loop μ-loop
+loop-holds c = (((omega arith, c .before .pre .0 .fair), c .before .pre .1), refl)
+
+shared-slice-read-step : tie.Need-shared-slice-read-step Inv-loop μ-loop
+shared-slice-read-step c = search needs
+
+step-requires : tie.Need-step-requires Inv-loop μ-loop
+step-requires c κs = search needs
+
+bytes-requires : tie.Need-bytes-requires Inv-loop μ-loop
+bytes-requires c κs = search needs
+
+array-share-prefix-b : tie.Need-array-share-prefix-b Inv-loop μ-loop
+array-share-prefix-b c = (four-fits (c .before .step .result) (c .bytes .result) (c .bytes .ensures) (fair-more (c .before .before .before .before .loop .scan) (c .before .step .result) (c .before .before .before .before .before .before .args .s .now) (c .before .before .before .before .loop .i) (omega arith) (c .before .before .before .before .loop .inv .0 .0 .1) (c .before .step .ensures) (c .before .before .shared-slice-known2 .given (c .before .before .before .before .loop .i) .fits) .small))
+
+slice-aggregate-hash-numbers : tie.Need-slice-aggregate-hash-numbers Inv-loop μ-loop
+slice-aggregate-hash-numbers c = sym (length-take-le (c .before .before .step .result .n) (c .before .bytes .result) (four-fits (c .before .before .step .result) (c .before .bytes .result) (c .before .bytes .ensures) (fair-more (c .before .before .before .before .before .loop .scan) (c .before .before .step .result) (c .before .before .before .before .before .before .before .args .s .now) (c .before .before .before .before .before .loop .i) (omega arith) (c .before .before .before .before .before .loop .inv .0 .0 .1) (c .before .before .step .ensures) (c .before .before .before .shared-slice-known2 .given (c .before .before .before .before .before .loop .i) .fits) .small)))
+
+hash-numbers-requires : tie.Need-hash-numbers-requires Inv-loop μ-loop
+hash-numbers-requires c κs = c .before .before .before .before .before .loop .inv .0 .1
+
+add-i : tie.Need-add-i Inv-loop μ-loop
+add-i c = search needs
+
+loop-less : tie.Need-loop-less Inv-loop μ-loop
+loop-less c = search needs
+
+loop-again : tie.Need-loop-again Inv-loop μ-loop
+loop-again c = (((omega arith, fair-more (c .before .before .before .before .before .before .loop .scan) (c .before .before .before .step .result) (c .before .before .before .before .before .before .before .before .args .s .now) (c .before .before .before .before .before .before .loop .i) (omega arith) (c .before .before .before .before .before .before .loop .inv .0 .0 .1) (c .before .before .before .step .ensures) (c .before .before .before .before .shared-slice-known2 .given (c .before .before .before .before .before .before .loop .i) .fits)), c .hash-numbers .ensures .1), c .before .before .before .before .before .before .loop .inv .1 ∙ hash-piece (c .before .before .before .before .before .before .loop .scan) (c .before .before .before .step .result) (c .before .before .before .before .before .before .before .before .args .s .now) (c .before .before .before .before .before .before .loop .i) (omega arith) (c .before .before .before .before .before .before .loop .inv .0 .0 .1) (c .before .before .before .step .ensures) (c .before .before .before .before .shared-slice-known2 .given (c .before .before .before .before .before .before .loop .i) .fits) (c .before .before .bytes .result) (c .before .before .bytes .ensures) (c .before .before .before .before .before .before .loop .total) (c .hash-numbers .result) (c .hash-numbers .ensures .0))
+
+returns : tie.Need-returns Inv-loop μ-loop
+returns c = (sym (c .before .loop .inv .1 ∙ hash-done (c .before .loop .scan) (c .before .before .before .args .s .now) (c .before .loop .i) (c .before .loop .total) (omega arith)), c .before .loop .inv .0 .1)
+
+pub hash-scan-spec : {M : Type 1} → statement M
+hash-scan-spec =
+    tie.close
+    (tie.spec
+    Inv-loop
+    μ-loop
+    loop-holds
+    shared-slice-read-step
+    step-requires
+    bytes-requires
+    array-share-prefix-b
+    slice-aggregate-hash-numbers
+    hash-numbers-requires
+    add-i
+    loop-less
+    loop-again
+    returns)

@@ -1,0 +1,153 @@
+// The text of a term as a document gives it: a plain front, as a namespace, and a back that may hold escapes.
+ghost use mathlib.Core.Path.{_≡_};
+ghost use mathlib.Core.Bool.{false};
+ghost use mathlib.Core.List.{_++_};
+ghost use Prim.Native.Nat.{_≤_, _<_};
+ghost use lib.ListN.{length};
+ghost use Rattle.text.specs.Text.{same-text};
+ghost use Rattle.text.specs.Slice.{over};
+ghost use Rattle.escape.specs.Code.{undone, Starts, Written};
+ghost use Rattle.form.specs.Form.{undo, bad, joined};
+ghost use Rattle.form.specs.Hash.{hash, hash-from};
+use escape::Scan;
+
+// How the back is written: as it is, with the escapes of strings and references, or with those of local names.
+pub enum Form {
+    Plain,
+    Escaped,
+    Reserved,
+}
+
+// How long the back is with its escapes undone.
+pub fn undone_length(form: Form, back: &[u8]) -> usize
+    ensures { λ r. ⌜ r ≡ length (undo form (now (back .entry))) ⌝ }
+{
+    match form {
+        Form::Plain => back.len(),
+        Form::Escaped => escape::unescaped_length(back),
+        Form::Reserved => escape::unreserved_length(back),
+    }
+}
+
+// Whether t is the back with its escapes undone.
+fn same_undone(form: Form, back: &[u8], t: &[u8]) -> bool
+    ensures { λ r. ⌜ r ≡ same-text (undo form (now (back .entry))) (now (t .entry)) ⌝ }
+{
+    match form {
+        Form::Plain => text::same(back, t),
+        Form::Escaped => escape::same_unescaped(back, t),
+        Form::Reserved => escape::same_unreserved(back, t),
+    }
+}
+
+// Whether t is the whole text.
+pub fn same_joined(front: &[u8], form: Form, back: &[u8], t: &[u8]) -> bool
+    ensures { λ r. ⌜ r ≡ same-text (joined (now (front .entry)) form (now (back .entry))) (now (t .entry)) ⌝ }
+{
+    let n = front.len();
+    if t.len() < n {
+        return false;
+    }
+    if text::same(front, &t[..n]) {
+        return same_undone(form, back, &t[n..]);
+    }
+    false
+}
+
+fn write_plain(back: &[u8], out: &mut [u8]) -> usize
+    ensures { λ r. ⌜ (r ≡ length (now (back .entry))) × (now (out .exit) ≡ over (now (back .entry)) (now (out .entry))) ⌝ }
+{
+    text::copy(back, out);
+    back.len()
+}
+
+// Writes the back with its escapes undone over the front of out, as far as out goes; its length.
+fn write_undone(form: Form, back: &[u8], out: &mut [u8]) -> usize
+    ensures { λ r. ⌜ Written (bad form (now (back .entry)) ≡ false) (undo form (now (back .entry))) (now (out .entry)) (now (out .exit)) r ⌝ }
+{
+    match form {
+        Form::Plain => write_plain(back, out),
+        Form::Escaped => escape::write_unescaped(back, out),
+        Form::Reserved => escape::write_unreserved(back, out),
+    }
+}
+
+// Writes the whole text over the front of out, which has room for it; its length.
+pub fn write_joined(front: &[u8], form: Form, back: &[u8], out: &mut [u8]) -> usize
+    requires { ⌜ length (joined (now front) form (now back)) ≤ length (now out) ⌝ }
+    ensures { λ r. ⌜ Written (bad form (now (back .entry)) ≡ false) (joined (now (front .entry)) form (now (back .entry))) (now (out .entry)) (now (out .exit)) r ⌝ }
+{
+    let n = front.len();
+    text::copy(front, out);
+    n + write_undone(form, back, &mut out[n..])
+}
+
+fn wide(b: u8) -> usize
+    ensures { λ r. ⌜ r ≡ b ⌝ }
+{
+    b as usize
+}
+
+// The hash h with the bytes of s mixed in.
+fn hash_bytes(h: usize, s: &[u8]) -> usize
+    requires { ⌜ h < 4294967296 ⌝ }
+    ensures { λ r. ⌜ (r ≡ hash-from h (now (s .entry))) × (r < 4294967296) ⌝ }
+{
+    let mut total = h;
+    let mut i: usize = 0;
+    while i < s.len() {
+        total = (total * 16777619 + wide(s[i]) % 256) % 4294967296;
+        i += 1;
+    }
+    total
+}
+
+// The same with bytes that are given as numbers.
+fn hash_numbers(h: usize, s: &[usize]) -> usize
+    requires { ⌜ h < 4294967296 ⌝ }
+    ensures { λ r. ⌜ (r ≡ hash-from h (now (s .entry))) × (r < 4294967296) ⌝ }
+{
+    let mut total = h;
+    let mut i: usize = 0;
+    while i < s.len() {
+        total = (total * 16777619 + s[i] % 256) % 4294967296;
+        i += 1;
+    }
+    total
+}
+
+// The same with the text that the scan gives from s.
+fn hash_scan(start: Scan, h: usize, s: &[u8]) -> usize
+    requires { ⌜ Starts start × (h < 4294967296) ⌝ }
+    ensures { λ r. ⌜ (r ≡ hash-from h (undone start (now (s .entry)))) × (r < 4294967296) ⌝ }
+{
+    let mut scan = start;
+    let mut total = h;
+    let mut i: usize = 0;
+    while i < s.len() {
+        scan = scan.step(s[i]);
+        let n = scan.n;
+        let b = scan.bytes();
+        total = hash_numbers(total, &b[..n]);
+        i += 1;
+    }
+    total
+}
+
+fn hash_undone(h: usize, form: Form, back: &[u8]) -> usize
+    requires { ⌜ h < 4294967296 ⌝ }
+    ensures { λ r. ⌜ (r ≡ hash-from h (undo form (now (back .entry)))) × (r < 4294967296) ⌝ }
+{
+    match form {
+        Form::Plain => hash_bytes(h, back),
+        Form::Escaped => hash_scan(Scan::text(), h, back),
+        Form::Reserved => hash_scan(Scan::name(), h, back),
+    }
+}
+
+// A number below 2^32 that depends on the whole text alone.
+pub fn hash_joined(front: &[u8], form: Form, back: &[u8]) -> usize
+    ensures { λ r. ⌜ (r ≡ hash (joined (now (front .entry)) form (now (back .entry)))) × (r < 4294967296) ⌝ }
+{
+    hash_undone(hash_bytes(0, front), form, back)
+}

@@ -1,0 +1,106 @@
+-- One term more: the slices then hold it behind the others.
+use mathlib.Core.Path.{_≡_, refl, sym, ap, subst, _∙_}
+use mathlib.Core.List.{List, [], _∷_, _++_, append-assoc}
+use mathlib.Core.Bool.{Bool, true, false}
+use mathlib.Core.Option.{Option, none, some}
+use Prim.Native.Nat.{ℕ, zero, suc, _+_, _*_, _<_, _≤_}
+use native.Mathlib.Omega.{arith}
+use lib.Dec.{eqb, ltb}
+use borrow.Author.Tests.{ltb-true, ltb-false}
+use lib.ListN.{length, getD, take, drop, length-append, length-drop, List·getD-append}
+use lib.Seq.{take-at, length-take-le, getD-append-seam}
+use Rattle.text.specs.Text.{Text, cond}
+use Rattle.text.specs.Slice.{over, over-at}
+use Rattle.text.proofs.Compare.{by}
+use Rattle.text.proofs.Over.{over-fits}
+use Rattle.dataset.specs.Terms.{Term, iri, blank, literal, tagged}
+use Rattle.table.specs.Layout.{Entry, entry-words}
+use Rattle.table.specs.Tables.{number, or-zero, is-blank, term-bytes, entry-of, store-size}
+use Rattle.table.proofs.Finding.{number-more, number-last}
+use Rattle.table.proofs.Store.{last-bytes, last-size}
+use Rattle.terms.specs.declared.Counts.{Counts}
+use Rattle.terms.specs.declared.Sort.{Sort}
+use Rattle.terms.specs.Keeps.{blank-count, findable, Typed, Keeps, Means, Room}
+use Rattle.terms.specs.Code.{fourth, next-entry, next-counts}
+use Rattle.terms.proofs.Words.{words-last}
+
+-- The front of a slice, up to the end of what was written into it.
+pub take-over-at : (at : ℕ) (s x : Text) → at + length s ≤ length x → take (at + length s) (over-at at s x) ≡ take at x ++ s
+unfolding over-at
+take-over-at at s x h =
+    let front : length (take at x) ≡ at = length-take-le at x (omega arith) in
+    rw (over-fits s (drop at x) (omega (arith, length-drop at x)), ← append-assoc (take at x) s (drop (length s) (drop at x)))
+    (take-at (take at x ++ s) (drop (length s) (drop at x)) (at + length s) (length-append (take at x) s ∙ omega (arith, front)))
+
+five-words : (e : Entry) → length (entry-words e) ≡ 5
+unfolding entry-words
+five-words e = refl
+
+-- A property of every term, and of one more.
+each-last : (P : Term → ℕ → Type 0) (ts : List Term) (t : Term) → ((i : ℕ) → i < length ts → P (getD ts i (iri [])) i) → P t (length ts)
+    → (i : ℕ) → i < length (ts ++ t ∷ []) → P (getD (ts ++ t ∷ []) i (iri [])) i
+each-last P ts t h k i l =
+    by (ltb i (length ts))
+    (λ e. let m : i < length ts = ltb-true i (length ts) e in rw (List·getD-append ts (t ∷ []) (iri []) i m) (h i m))
+    (λ e. let m : i ≡ length ts = omega (arith, ltb-false i (length ts) e, length-append ts (t ∷ [])) in rw (m, getD-append-seam ts t [] (iri [])) k)
+
+typed-more : (ts us : List Term) (t : Term) → Typed ts t → Typed (ts ++ us) t
+unfolding Typed
+typed-more ts us (iri s) h = tt
+typed-more ts us (blank b) h = tt
+typed-more ts us (literal s d) (n, e) = (n, number-more (iri d) ts us n e)
+typed-more ts us (tagged s g) h = tt
+
+count-last : (ts : List Term) (t : Term) → blank-count (ts ++ t ∷ []) ≡ cond (is-blank t) (blank-count ts + 1) (blank-count ts)
+unfolding blank-count
+count-last [] t = refl
+count-last (u ∷ ts) t = rw (count-last ts t) (by (is-blank u) (λ e. rw e (by (is-blank t) (λ f. rw f (omega arith)) (λ f. rw f))) (λ e. rw e))
+
+module _ (ts : List Term) (c : Counts) (sort : Sort) (x g : Text) (used : c .used ≡ store-size ts) (blanks : c .blanks ≡ blank-count ts) where
+  means-bytes : (t : Term) → Means ts sort x g t → term-bytes t ≡ x ++ g
+  unfolding Means
+  means-bytes (iri s) (k, (e, h)) = rw (e, h)
+  means-bytes (blank b) (k, (e, h)) = rw (e, h)
+  means-bytes (literal s d) (k, (e, (h, n))) = rw (e, h)
+  means-bytes (tagged s d) (k, (e, h)) = rw (e, h)
+
+  means-entry : (t : Term) → Means ts sort x g t → Typed ts t → entry-words (next-entry c sort (length x) (length g)) ≡ entry-words (entry-of (ts ++ t ∷ []) (store-size ts) (blank-count ts) t)
+  unfolding Means Typed next-entry fourth
+  means-entry (iri s) (k, (e, h)) y = rw (k, e, h, used)
+  means-entry (blank b) (k, (e, h)) y = rw (k, e, h, used, blanks)
+  means-entry (literal s d) (k, (e, (h, n))) (m, y) = rw (number-more (iri d) ts (literal s d ∷ []) m y, k, e, h, used, ← n, y)
+  means-entry (tagged s d) (k, (e, h)) y = rw (k, e, h, used)
+
+  means-blank : (t : Term) → Means ts sort x g t → cond (eqb (sort .kind) 2) (c .blanks + 1) (c .blanks) ≡ blank-count (ts ++ t ∷ [])
+  unfolding Means
+  means-blank (iri s) (k, r) = rw (k, count-last ts (iri s), blanks)
+  means-blank (blank b) (k, r) = rw (k, count-last ts (blank b), blanks)
+  means-blank (literal s d) (k, r) = rw (k, count-last ts (literal s d), blanks)
+  means-blank (tagged s d) (k, r) = rw (k, count-last ts (tagged s d), blanks)
+
+pub keeps-added : (ts : List Term) (terms : List ℕ) (store : Text) (c : Counts) (sort : Sort) (x g : Text) (t : Term)
+    → Keeps ts terms store c → Room terms store c sort x g → Means ts sort x g t → Typed ts t → (findable t ≡ true → number t ts ≡ none)
+    → Keeps (ts ++ t ∷ []) (over-at (5 * c .terms) (entry-words (next-entry c sort (length x) (length g))) terms) (over-at (c .used) (x ++ g) store) (next-counts c sort (length x + length g))
+unfolding next-counts
+keeps-added ts terms store c sort x g t K R M y new =
+    let e = entry-words (next-entry c sort (length x) (length g)) in
+    let five : 5 * (c .terms + 1) ≡ 5 * c .terms + length e = omega (arith, five-words (next-entry c sort (length x) (length g))) in
+    let size : length (x ++ g) ≡ length x + length g = length-append x g in
+    record {
+      words =
+          rw five
+          (take-over-at (5 * c .terms) e terms (omega (arith, R .words, five-words (next-entry c sort (length x) (length g))))
+          ∙ (rw (K .words, means-entry ts c sort x g (K .used) (K .blanks) t M y) (sym (words-last ts t (K .typed)))));
+      bytes =
+          ap (λ (n : ℕ). take (c .used + n) (over-at (c .used) (x ++ g) store)) (sym size)
+          ∙ (take-over-at (c .used) (x ++ g) store (omega (arith, R .bytes, size))
+          ∙ rw (K .bytes, ← means-bytes ts c sort x g (K .used) (K .blanks) t M) (sym (last-bytes ts t)));
+      count = omega (arith, K .count, length-append ts (t ∷ []));
+      used = omega (arith, K .used, last-size ts t, ap length (means-bytes ts c sort x g (K .used) (K .blanks) t M), size);
+      blanks = means-blank ts c sort x g (K .used) (K .blanks) t M;
+      typed = each-last (λ u i. Typed (ts ++ t ∷ []) u) ts t (λ i l. typed-more ts (t ∷ []) (getD ts i (iri [])) (K .typed i l)) (typed-more ts (t ∷ []) t y);
+      own =
+          each-last (λ u i. findable u ≡ true → number u (ts ++ t ∷ []) ≡ some (suc i)) ts t
+          (λ i l f. number-more (getD ts i (iri [])) ts (t ∷ []) (suc i) (K .own i l f))
+          (λ f. number-last t ts (new f));
+    }

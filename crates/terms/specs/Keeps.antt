@@ -1,0 +1,61 @@
+-- What it means that lent slices hold a list of terms.
+use mathlib.Core.Path.{_≡_}
+use mathlib.Core.List.{List, [], _∷_, _++_}
+use mathlib.Core.Bool.{Bool, true, false}
+use mathlib.Core.Option.{some}
+use Prim.Native.Nat.{ℕ, suc, _+_, _*_, _<_, _≤_}
+use lib.ListN.{length, getD, take}
+use Rattle.text.specs.Text.{Text, cond}
+use Rattle.dataset.specs.Terms.{Blank, label, bracket, cell, numbered, Term, iri, blank, literal, tagged}
+use Rattle.table.specs.Layout.{term-size, iri-kind, blank-kind, literal-kind, tagged-kind}
+use Rattle.table.specs.Tables.{number, or-zero, is-blank, label-of, terms-words, store-bytes, store-size}
+use Rattle.terms.specs.declared.Counts.{Counts}
+use Rattle.terms.specs.declared.Sort.{Sort}
+
+unfoldable pub blank-count : List Term → ℕ
+blank-count [] = 0
+blank-count (t ∷ ts) = let r = blank-count ts in cond (is-blank t) (suc r) r
+
+-- Can a token name the term again? "each [ and each list cell is new".
+abbrev pub findable : Term → Bool
+findable (iri s) = true
+findable (blank (label [])) = false
+findable (blank (label (c ∷ s))) = true
+findable (blank (bracket p)) = false
+findable (blank (cell p)) = false
+findable (blank (numbered p)) = false
+findable (literal s d) = true
+findable (tagged s g) = true
+
+-- A literal's datatype is one of the terms.
+unfoldable pub Typed : List Term → Term → Type 0
+Typed ts (iri s) = Unit {0}
+Typed ts (blank b) = Unit {0}
+Typed ts (literal s d) = (n : ℕ) × (number (iri d) ts ≡ some n)
+Typed ts (tagged s g) = Unit {0}
+
+-- The slices hold the terms ts. "Equal terms share a number": the number that is found for a term is its own.
+pub record Keeps (ts : List Term) (terms : List ℕ) (store : Text) (c : Counts) : Type 0 where
+  pub words : take (term-size * c .terms) terms ≡ terms-words ts
+  pub bytes : take (c .used) store ≡ store-bytes ts
+  pub count : c .terms ≡ length ts
+  pub used : c .used ≡ store-size ts
+  pub blanks : c .blanks ≡ blank-count ts
+  pub typed : (i : ℕ) → i < length ts → Typed ts (getD ts i (iri []))
+  pub own : (i : ℕ) → i < length ts → findable (getD ts i (iri [])) ≡ true → number (getD ts i (iri [])) ts ≡ some (suc i)
+
+-- The term t is the one of this sort with the text x, and the tag g. The datatype of a literal is given by its number, 0 where it is no term yet.
+unfoldable pub Means : List Term → Sort → Text → Text → Term → Type 0
+Means ts sort x g (iri s) = (sort .kind ≡ iri-kind) × ((s ≡ x) × (g ≡ []))
+Means ts sort x g (blank b) = (sort .kind ≡ blank-kind) × ((label-of b ≡ x) × (g ≡ []))
+Means ts sort x g (literal s d) = (sort .kind ≡ literal-kind) × ((s ≡ x) × ((g ≡ []) × (or-zero (number (iri d) ts) ≡ sort .datatype)))
+Means ts sort x g (tagged s h) = (sort .kind ≡ tagged-kind) × ((s ≡ x) × (h ≡ g))
+
+-- There is room for one term more, in words, in bytes, and in 32 bits.
+pub record Room (terms : List ℕ) (store : Text) (c : Counts) (sort : Sort) (x g : Text) : Type 0 where
+  pub words : term-size * c .terms + term-size ≤ length terms
+  pub bytes : c .used + (length x + length g) ≤ length store
+  pub used : c .used + (length x + length g) < 4294967296
+  pub blanks : c .blanks < 4294967296
+  pub kind : sort .kind < 4294967296
+  pub datatype : sort .datatype < 4294967296
