@@ -3,3 +3,4 @@ pub mod Bench
 pub mod Worked
 pub mod Decisions
 pub mod Limits
+pub mod Recommendation

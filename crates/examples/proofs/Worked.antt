@@ -7,7 +7,7 @@ use Rattle.text.specs.Text.{Text}
 use Rattle.table.specs.Layout.{Slices}
 use Rattle.table.specs.LongForm.{Written, write}
 use Rattle.machine.specs.Read.{computing}
-use Rattle.examples.specs.Call.{utf8, lines, Call, trig, Short, accepts, answered, short, slices, printed}
+use Rattle.examples.specs.Call.{utf8, lines, Call, trig, Short, accepts, answered, short, slices, written-into}
 
 abbrev document : Call
 document =
@@ -68,11 +68,11 @@ form =
     ∷ [])
 
 -- In a buffer of two bytes more than the long form has, these stay. One byte less is 17.
-writes : printed 498 document ≡ record { number = 0; position = 496; output = form ++ 0 ∷ 0 ∷ [] }
+writes : written-into 498 document ≡ record { number = 0; position = 496; output = form ++ 0 ∷ 0 ∷ [] }
 unfolding computing
 writes = refl
 
-full : printed 495 document ≡ record { number = 17; position = 0; output = replicate 495 0 }
+full : written-into 495 document ≡ record { number = 17; position = 0; output = replicate 495 0 }
 unfolding computing
 full = refl
 

@@ -9,7 +9,7 @@ use Rattle.text.specs.Text.{Text, ascii, cond}
 use Rattle.limits.specs.Limits.{work-size}
 use Rattle.utf8.specs.Utf8.{encodes}
 use Rattle.table.specs.Layout.{Slices}
-use Rattle.table.specs.LongForm.{Written, write}
+use Rattle.table.specs.LongForm.{long-form, Written, write}
 use Rattle.machine.specs.Read.{Lent, After, kept, zeroed, written, Answer, read}
 
 -- ---- Texts
@@ -128,9 +128,12 @@ slices a =
       store-count = a .store-count;
     }
 
--- The long form of a call's tables, in a buffer of n zeros.
-abbrev pub printed : ℕ → Call → Written
-printed n c = write (slices (answered c)) (replicate n 0)
+-- The long form of what the call wrote; and the writer's answer, where the output buffer has n zeros.
+abbrev pub printed : Call → Text
+printed c = long-form (slices (answered c))
+
+abbrev pub written-into : ℕ → Call → Written
+written-into n c = write (slices (answered c)) (replicate n 0)
 
 -- ---- Tables of examples
 
