@@ -1,9 +1,10 @@
 -- The bench cases, a single table: what each document is answered, and what it leaves in rows, terms and store.
-use mathlib.Core.Path.{_≡_, refl}
-use mathlib.Core.List.{List, [], _∷_, _++_}
+use mathlib.Core.Path.{refl}
+use mathlib.Core.List.{[], _∷_, _++_}
 use Prim.Native.Nat.{ℕ}
+use Rattle.text.proofs.Table.{_⇒_, Gives}
 use Rattle.machine.specs.Read.{computing}
-use Rattle.examples.specs.Call.{utf8, S, Call, trig, turtle, with-rows, Short, refuses, accepts, short, Example, _⇒_, given, expected}
+use Rattle.examples.specs.Call.{utf8, S, trig, turtle, with-rows, Short, refuses, accepts, short}
 
 -- One row, at the place `at`, of a document with so many bytes.
 abbrev integer-1 : ℕ → ℕ → Short
@@ -27,8 +28,7 @@ string-D7FF end at =
     (1 ∷ 0 ∷ 3 ∷ 0 ∷ 0 ∷ 1 ∷ 3 ∷ 3 ∷ 0 ∷ 0 ∷ 1 ∷ 6 ∷ 39 ∷ 0 ∷ 0 ∷ 3 ∷ 45 ∷ 3 ∷ 3 ∷ 0 ∷ [])
     (utf8 "x:sx:phttp://www.w3.org/2001/XMLSchema#string\u{d7ff}")
 
-abbrev cases : List (Example Call Short)
-cases =
+bench : Gives short (
     trig [] ⇒ accepts 0 (0 ∷ 0 ∷ 0 ∷ []) [] [] []
     ∷ trig (S "1.") ⇒ integer-1 14 12
     ∷ trig (S "1.e0.") ⇒ double-1e0 17 12
@@ -44,8 +44,6 @@ cases =
     ∷ trig (S "\"\\uD7FF\" .") ⇒ string-D7FF 22 12
     -- room for one row
     ∷ with-rows 5 (S "1, 2 .") ⇒ refuses 14 15
-    ∷ []
-
-bench : given short cases ≡ expected cases
+    ∷ [])
 unfolding computing
 bench = refl

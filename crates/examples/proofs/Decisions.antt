@@ -1,15 +1,14 @@
 -- The decisions of docs/DECISIONS.md, as calls.
-use mathlib.Core.Path.{_≡_, refl}
+use mathlib.Core.Path.{refl}
 use mathlib.Core.List.{List, [], _∷_, _++_}
 use Prim.Native.Nat.{ℕ}
-use Rattle.text.specs.Text.{Text}
+use Rattle.text.proofs.Table.{_⇒_, Gives}
 use Rattle.machine.specs.Read.{Lent, After, kept, zeroed, written, computing}
-use Rattle.examples.specs.Call.{utf8, times, S, ample-words, ample-bytes, ample, Call, call, trig, turtle, against, within, with-rows, with-store, Verdict, _at_, verdict, Short, accepts, short, object-text, afterwards, Example, _⇒_, given, expected}
+use Rattle.examples.specs.Call.{utf8, times, S, ample-words, ample-bytes, ample, call, trig, turtle, against, within, with-rows, with-store, _at_, verdict, accepts, short, object-text, afterwards}
 
 -- ---- Lent memory
 
-abbrev memory-cases : List (Example Call Verdict)
-memory-cases =
+memory : Gives verdict (
     -- a token whose terms all exist writes nothing
     with-store 6 (S "<x:s>, <x:\\u0073>, <x:s> .") ⇒ 0 at 38
     ∷ with-store 46 (S "\"a\", \"\\u0061\", \"a\" .") ⇒ 0 at 32
@@ -20,9 +19,7 @@ memory-cases =
     -- what writes nothing fits anywhere
     ∷ within 0 0 0 (utf8 "@prefix p: <x:> .") ⇒ 0 at 17
     ∷ with-store 6 (S "[] .") ⇒ 0 at 16
-    ∷ []
-
-memory : given verdict memory-cases ≡ expected memory-cases
+    ∷ [])
 unfolding computing
 memory = refl
 
@@ -36,8 +33,7 @@ all-kept = kept ∷ kept ∷ kept ∷ kept ∷ []
 abbrev all-zero : List After
 all-zero = zeroed ∷ zeroed ∷ zeroed ∷ zeroed ∷ []
 
-abbrev work-cases : List (Example Call (List After))
-work-cases =
+work : Gives afterwards (
     -- 2, 3 and 4 leave all lent memory unchanged
     call 2 [] ample (S "1 .") ⇒ all-kept
     ∷ against (utf8 "x") (S "1 .") ⇒ all-kept
@@ -49,16 +45,13 @@ work-cases =
     ∷ with-rows 5 (S "1, 1 .") ⇒ all-zero
     -- on acceptance the work slice is zero
     ∷ trig (utf8 "<x:g> {}") ⇒ (zeroed ∷ written [] ∷ written (1 ∷ 0 ∷ 3 ∷ 0 ∷ 0 ∷ []) ∷ written (utf8 "x:g") ∷ [])
-    ∷ []
-
-work : given afterwards work-cases ≡ expected work-cases
+    ∷ [])
 unfolding computing
 work = refl
 
 -- ---- Numbers, their order and positions
 
-abbrev answer-cases : List (Example Call Verdict)
-answer-cases =
+answers : Gives verdict (
     -- 2 before 3, 3 before 4, and these before 5
     call 2 (utf8 "x") (with-work 0) (0x80 ∷ []) ⇒ 2 at 0
     ∷ call 1 (utf8 "x") (with-work 0) (0x80 ∷ []) ⇒ 3 at 0
@@ -111,16 +104,13 @@ answer-cases =
     ∷ against (utf8 "x:\\u0041") [] ⇒ 3 at 0
     ∷ against (utf8 "x:#f") [] ⇒ 0 at 0
     ∷ against (utf8 "é:") [] ⇒ 3 at 0
-    ∷ []
-
-answers : given verdict answer-cases ≡ expected answer-cases
+    ∷ [])
 unfolding computing
 answers = refl
 
 -- ---- Tokens
 
-abbrev token-cases : List (Example Call Verdict)
-token-cases =
+tokens : Gives verdict (
     -- no blank is needed between tokens
     trig (utf8 "<x:s>atrue.") ⇒ 0 at 11
     ∷ trig (utf8 "<x:s>a truex") ⇒ 6 at 11
@@ -156,16 +146,13 @@ token-cases =
     ∷ trig (S "1.e") ⇒ 6 at 14
     -- braces and GRAPH are tokens in mode 1
     ∷ turtle (utf8 "GRAPH <x:g> {}") ⇒ 8 at 0
-    ∷ []
-
-tokens : given verdict token-cases ≡ expected token-cases
+    ∷ [])
 unfolding computing
 tokens = refl
 
 -- ---- Grammar
 
-abbrev grammar-cases : List (Example Call Verdict)
-grammar-cases =
+grammar : Gives verdict (
     -- a bracket with properties stands alone; empty brackets and lists do not
     trig (utf8 "[ a 1 ] .") ⇒ 0 at 9
     ∷ turtle (utf8 "[ a 1 ] .") ⇒ 0 at 9
@@ -185,28 +172,22 @@ grammar-cases =
     ∷ trig (utf8 "PREFIX p: <x:> .") ⇒ 8 at 15
     -- directives stand outside braces
     ∷ trig (utf8 "{ @base <x:> . }") ⇒ 8 at 2
-    ∷ []
-
-grammar : given verdict grammar-cases ≡ expected grammar-cases
+    ∷ [])
 unfolding computing
 grammar = refl
 
 -- ---- IRIs: the object's
 
-abbrev no-base-cases : List (Example Call Verdict)
-no-base-cases =
+no-base : Gives verdict (
     trig (S "<1a:b> .") ⇒ 10 at 12
     ∷ trig (S "<:b> .") ⇒ 10 at 12
     ∷ trig (S "<a_b:c> .") ⇒ 10 at 12
     ∷ against (utf8 "x:y") (S "<1a:b> .") ⇒ 0 at 20
-    ∷ []
-
-no-base : given verdict no-base-cases ≡ expected no-base-cases
+    ∷ [])
 unfolding computing
 no-base = refl
 
-abbrev iri-cases : List (Example Call Text)
-iri-cases =
+iris : Gives object-text (
     -- a reference with a scheme is taken as written
     trig (S "<x:a/../b> .") ⇒ utf8 "x:a/../b"
     ∷ against (utf8 "http://a/b") (S "<http:g> .") ⇒ utf8 "http:g"
@@ -237,30 +218,24 @@ iri-cases =
     -- directives are resolved under the base before them
     ∷ against (utf8 "x:/a/") (utf8 "@prefix p: <b/> . @base <c/> . " ++ S "p:d .") ⇒ utf8 "x:/a/b/d"
     ∷ against (utf8 "x:/a/") (utf8 "BASE <b/> BASE <c/> " ++ S "<d> .") ⇒ utf8 "x:/a/b/c/d"
-    ∷ []
-
-iris : given object-text iri-cases ≡ expected iri-cases
+    ∷ [])
 unfolding computing
 iris = refl
 
 -- ---- Rows and terms
 
-abbrev room-cases : List (Example Call Verdict)
-room-cases =
+room : Gives verdict (
     -- the cell and its row are written at the element's first token, the element at its last
     with-rows 0 (S "(\"a\"@en) .") ⇒ 14 at 13
     ∷ with-rows 5 (S "(\"a\"@en) .") ⇒ 14 at 16
     ∷ with-rows 0 (S "(()) .") ⇒ 14 at 13
     ∷ with-rows 5 (S "(()) .") ⇒ 14 at 14
     ∷ with-rows 0 (S "() .") ⇒ 14 at 13
-    ∷ []
-
-room : given verdict room-cases ≡ expected room-cases
+    ∷ [])
 unfolding computing
 room = refl
 
-abbrev row-cases : List (Example Call Short)
-row-cases =
+rows : Gives short (
     -- lists: the order of cells, elements and the names that a list supplies
     trig (S "(1 (2) ()) .") ⇒
     accepts 24 (9 ∷ 12 ∷ 189 ∷ [])
@@ -333,8 +308,6 @@ row-cases =
     ∷ 3 ∷ 91 ∷ 2 ∷ 3 ∷ 0
     ∷ [])
     (utf8 "x:shttp://www.w3.org/1999/02/22-rdf-syntax-ns#typehttp://www.w3.org/2001/XMLSchema#integer101")
-    ∷ []
-
-rows : given short row-cases ≡ expected row-cases
+    ∷ [])
 unfolding computing
 rows = refl

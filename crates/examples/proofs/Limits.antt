@@ -1,18 +1,18 @@
 -- Calls at the reader's limits.
-use mathlib.Core.Path.{_≡_, refl}
-use mathlib.Core.List.{List, [], _∷_, _++_}
+use mathlib.Core.Path.{refl}
+use mathlib.Core.List.{[], _∷_, _++_}
 use Prim.Native.Nat.{ℕ, zero, suc}
 use Rattle.text.specs.Text.{Text}
+use Rattle.text.proofs.Table.{_⇒_, Gives}
 use Rattle.machine.specs.Read.{computing}
-use Rattle.examples.specs.Call.{utf8, times, S, Call, trig, against, Verdict, _at_, verdict, Example, _⇒_, given, expected}
+use Rattle.examples.specs.Call.{utf8, times, S, trig, against, _at_, verdict}
 
 -- Declarations of n distinct prefixes.
 abbrev declarations : ℕ → Text
 declarations zero = []
 declarations (suc n) = utf8 "PREFIX " ++ times (suc n) "p" ++ utf8 ":<x:>" ++ declarations n
 
-abbrev cases : List (Example Call Verdict)
-cases =
+limits : Gives verdict (
     -- an IRI as written unescaped
     trig (S "<x:" ++ times 1022 "a" ++ utf8 "> .") ⇒ 0 at 1040
     ∷ trig (S "<x:" ++ times 1023 "a" ++ utf8 "> .") ⇒ 11 at 12
@@ -31,8 +31,6 @@ cases =
     ∷ trig (declarations 32) ⇒ 0 at 912
     ∷ trig (declarations 32 ++ utf8 "PREFIX p:<x:>") ⇒ 0 at 925
     ∷ trig (declarations 33) ⇒ 12 at 953
-    ∷ []
-
-limits : given verdict cases ≡ expected cases
+    ∷ [])
 unfolding computing
 limits = refl

@@ -1,13 +1,13 @@
 -- The worked example: its rows and terms, its long form, and the writer's refusals.
 use mathlib.Core.Path.{_≡_, refl}
-use mathlib.Core.List.{List, [], _∷_, _++_}
+use mathlib.Core.List.{[], _∷_, _++_}
 use Prim.Native.Nat.{suc}
 use lib.ListN.{replicate}
 use Rattle.text.specs.Text.{Text}
 use Rattle.table.specs.Layout.{Slices}
-use Rattle.table.specs.LongForm.{Written, write}
+use Rattle.table.specs.LongForm.{write}
 use Rattle.machine.specs.Read.{computing}
-use Rattle.examples.specs.Call.{utf8, lines, Call, trig, Short, accepts, answered, short, slices, written-into}
+use Rattle.examples.specs.Call.{utf8, lines, Call, trig, accepts, answered, short, slices, written-into}
 
 abbrev document : Call
 document =

@@ -1,6 +1,5 @@
 -- Calls and answers in short: the reader's, the writer's, and the long form of a document.
-use mathlib.Core.List.{List, [], _∷_, _++_, map}
-use mathlib.Core.Bool.{Bool, true, false}
+use mathlib.Core.List.{List, [], _∷_, _++_}
 use Prim.Native.Nat.{ℕ, zero, suc}
 use Prim.Native.String.{String}
 use lib.Dec.{eqb}
@@ -134,18 +133,3 @@ printed c = long-form (slices (answered c))
 
 abbrev pub written-into : ℕ → Call → Written
 written-into n c = write (slices (answered c)) (replicate n 0)
-
--- ---- Tables of examples
-
-infix 80 _⇒_
-pub data Example (A B : Type 0) : Type 0 where
-  _⇒_ : A → B → Example A B
-
--- What f gives of each, and what is expected.
-abbrev pub given : {A B : Type 0} → (A → B) → List (Example A B) → List B
-given f [] = []
-given f ((a ⇒ b) ∷ es) = f a ∷ given f es
-
-abbrev pub expected : {A B : Type 0} → List (Example A B) → List B
-expected [] = []
-expected ((a ⇒ b) ∷ es) = b ∷ expected es

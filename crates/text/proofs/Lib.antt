@@ -1,2 +1,3 @@
 -- Laws that more than one crate cites.
 pub mod Booleans
+pub mod Table

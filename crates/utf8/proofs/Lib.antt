@@ -1,0 +1,2 @@
+-- UTF-8, computed on examples.
+pub mod Examples
