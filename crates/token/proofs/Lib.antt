@@ -1,2 +1,3 @@
 -- Laws of tokens.
 pub mod KindCodes
+pub mod Examples
