@@ -2,3 +2,4 @@
 pub mod Booleans
 pub mod Compare
 pub mod Over
+pub mod Table

@@ -1,3 +1,4 @@
 -- Laws of tokens.
 pub mod KindCodes
 pub mod Longest
+pub mod Examples

@@ -3,3 +3,5 @@ pub mod Tests
 pub mod Size
 pub mod Encoding
 pub mod Decoding
+-- UTF-8, computed on examples.
+pub mod Examples

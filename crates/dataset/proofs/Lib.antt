@@ -1,0 +1,3 @@
+-- Datasets, computed on examples.
+pub mod Examples
+pub mod Derivations
