@@ -84,7 +84,7 @@ extends-fits room m m′ x f =
     }
 
 -- What the tokens write, as far as the grammar goes, extends what was there.
-finish-same : (o : Open) (m M : Memory) → at-finish o m ≡ some M → (o ≡ statement []) × (m ≡ M)
+pub finish-same : (o : Open) (m M : Memory) → at-finish o m ≡ some M → (o ≡ statement []) × (m ≡ M)
 unfolding at-finish
 finish-same (directive d) m M e = not-none e
 finish-same (statement []) m M e = (refl, some-same e)

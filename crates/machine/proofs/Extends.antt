@@ -5,7 +5,8 @@ use mathlib.Core.Bool.{Bool, true, false, not, _||_}
 use mathlib.Core.Option.{Option, none, some}
 use Prim.Native.Nat.{ℕ, suc, _+_, _≤_}
 use native.Mathlib.Omega.{arith}
-use lib.Dec.{T, eqb}
+use native.Mathlib.Nat.{add-zero}
+use lib.Dec.{T, eqb, leb, leb→le}
 use lib.ListN.{length, length-append}
 use Rattle.text.specs.Text.{Text, cond}
 use Rattle.text.proofs.Booleans.{all, and-0, and-1}
@@ -44,34 +45,51 @@ extends-both {m} a b =
       terms = b .terms ∙ ap (λ l. l ++ b .new-terms) (a .terms) ∙ append-assoc (m .terms) (a .new-terms) (b .new-terms);
     }
 
--- The write adds, and leaves the environment as it is.
-pub record Adds {A : Type 0} (w : Write A) : Type 0 where
+-- The write adds, at most k rows, and leaves the environment as it is.
+pub record Adds {A : Type 0} (k : ℕ) (w : Write A) : Type 0 where
   pub extends : (m : Memory) → Extends m (w m .1)
+  pub few : (m : Memory) → length (w m .1 .rows) ≤ k + length (m .rows)
   pub same : (m : Memory) → w m .1 .environment ≡ m .environment
 
-adds-return : {A : Type 0} (a : A) → Adds (return a)
-adds-return a = record { extends = λ m. extends-same m m refl refl; same = λ m. refl }
+adds-return : {A : Type 0} (a : A) → Adds 0 (return a)
+adds-return a = record { extends = λ m. extends-same m m refl refl; few = λ m. omega arith; same = λ m. refl }
 
-adds-bind : {A B : Type 0} {w : Write A} {f : A → Write B} → Adds w → ((a : A) → Adds (f a)) → Adds (w >>= f)
-adds-bind {w = w} {f = f} x y =
+adds-bind : {A B : Type 0} {w : Write A} {f : A → Write B} {j k : ℕ} → Adds j w → ((a : A) → Adds k (f a)) → Adds (j + k) (w >>= f)
+adds-bind {w = w} {f = f} {j} {k} x y =
     record {
       extends = λ m. extends-both (x .extends m) (y (w m .0) .extends (w m .1));
+      few = λ m. let p = x .few m in let q = y (w m .0) .few (w m .1) in omega arith;
       same = λ m. y (w m .0) .same (w m .1) ∙ x .same m;
     }
 
-adds-then : {A B : Type 0} {w : Write A} {v : Write B} → Adds w → Adds v → Adds (w >> v)
-adds-then {w = w} x y = record { extends = λ m. extends-both (x .extends m) (y .extends (w m .1)); same = λ m. y .same (w m .1) ∙ x .same m }
+adds-then : {A B : Type 0} {w : Write A} {v : Write B} {j k : ℕ} → Adds j w → Adds k v → Adds (j + k) (w >> v)
+adds-then {w = w} {v = v} {j} {k} x y =
+    record {
+      extends = λ m. extends-both (x .extends m) (y .extends (w m .1));
+      few = λ m. let p = x .few m in let q = y .few (w m .1) in omega arith;
+      same = λ m. y .same (w m .1) ∙ x .same m;
+    }
 
-adds-new-term : (t : Term) → Adds (new-term t)
+-- None, so one at the most.
+adds-most : {A : Type 0} {w : Write A} → Adds 0 w → Adds 1 w
+adds-most {w = w} x = record { extends = x .extends; few = λ m. let p = x .few m in omega arith; same = x .same }
+
+adds-new-term : (t : Term) → Adds 0 (new-term t)
 adds-new-term t =
     record {
       extends = λ m. record { new-rows = []; rows = sym (append-nil (m .rows)); new-terms = t ∷ []; terms = refl };
+      few = λ m. omega arith;
       same = λ m. refl;
     }
 
-adds-term : (t : Term) → Adds (term t)
-adds-term t = record { extends = λ m. extends m (number t (m .terms)); same = λ m. same-environment m (number t (m .terms)) }
+adds-term : (t : Term) → Adds 0 (term t)
+adds-term t =
+    record { extends = λ m. extends m (number t (m .terms)); few = λ m. few m (number t (m .terms)); same = λ m. same-environment m (number t (m .terms)) }
   where
+    few : (m : Memory) (o : Option ℕ) → length (term-by o t m .1 .rows) ≤ 0 + length (m .rows)
+    few m none = omega arith
+    few m (some n) = omega arith
+
     extends : (m : Memory) (o : Option ℕ) → Extends m (term-by o t m .1)
     extends m none = adds-new-term t .extends m
     extends m (some n) = extends-same m m refl refl
@@ -80,7 +98,7 @@ adds-term t = record { extends = λ m. extends m (number t (m .terms)); same = �
     same-environment m none = refl
     same-environment m (some n) = refl
 
-adds-row : (s p o at : ℕ) → Adds (row s p o at)
+adds-row : (s p o at : ℕ) → Adds 1 (row s p o at)
 adds-row s p o at =
     record {
       extends =
@@ -91,33 +109,34 @@ adds-row s p o at =
             new-terms = [];
             terms = sym (append-nil (m .terms));
           };
+      few = λ m. omega (arith, length-append (m .rows) (record { graph = m .graph; subject = s; predicate = p; object = o; position = at } ∷ []));
       same = λ m. refl;
     }
 
-adds-enter : (g : ℕ) → Adds (enter g)
-adds-enter g = record { extends = λ m. extends-same m (enter g m .1) refl refl; same = λ m. refl }
+adds-enter : (g : ℕ) → Adds 0 (enter g)
+adds-enter g = record { extends = λ m. extends-same m (enter g m .1) refl refl; few = λ m. omega arith; same = λ m. refl }
 
-adds-iri-term : (t : Token) → Adds (iri-term t)
-adds-iri-term t = record { extends = λ m. adds-term (iri (iri-of (m .environment) t)) .extends m; same = λ m. adds-term (iri (iri-of (m .environment) t)) .same m }
+adds-iri-term : (t : Token) → Adds 0 (iri-term t)
+adds-iri-term t = record { extends = λ m. adds-term (iri (iri-of (m .environment) t)) .extends m; few = λ m. adds-term (iri (iri-of (m .environment) t)) .few m; same = λ m. adds-term (iri (iri-of (m .environment) t)) .same m }
 
-adds-typed : (s d : Text) → Adds (typed s d)
+adds-typed : (s d : Text) → Adds 0 (typed s d)
 adds-typed s d = adds-then (adds-term (iri d)) (adds-term (literal s d))
 
-adds-typed-by : (s : Text) (t : Token) → Adds (typed-by s t)
-adds-typed-by s t = record { extends = λ m. adds-typed s (iri-of (m .environment) t) .extends m; same = λ m. adds-typed s (iri-of (m .environment) t) .same m }
+adds-typed-by : (s : Text) (t : Token) → Adds 0 (typed-by s t)
+adds-typed-by s t = record { extends = λ m. adds-typed s (iri-of (m .environment) t) .extends m; few = λ m. adds-typed s (iri-of (m .environment) t) .few m; same = λ m. adds-typed s (iri-of (m .environment) t) .same m }
 
-adds-hold : (q : Place) (n at : ℕ) → Adds (hold q n at)
-adds-hold top n at = adds-return done
-adds-hold (subject-before e) n at = adds-return done
+adds-hold : (q : Place) (n at : ℕ) → Adds 1 (hold q n at)
+adds-hold top n at = adds-most (adds-return done)
+adds-hold (subject-before e) n at = adds-most (adds-return done)
 adds-hold (object-of s p) n at = adds-row s p n at
 adds-hold (element-of c) n at = adds-bind (adds-term (iri rdf-first)) (λ f. adds-row c f n at)
 
-adds-new-cell : (q : Place) (opened : ℕ) (cs : Cells) (at : ℕ) → Adds (new-cell q opened cs at)
+adds-new-cell : (q : Place) (opened : ℕ) (cs : Cells) (at : ℕ) → Adds 1 (new-cell q opened cs at)
 adds-new-cell q opened no-cell at = adds-bind (adds-new-term (blank (cell at))) (λ c. adds-then (adds-hold q c opened) (adds-return c))
 adds-new-cell q opened (cells h l) at =
     adds-bind (adds-new-term (blank (cell at))) (λ c. adds-bind (adds-term (iri rdf-rest)) (λ r. adds-then (adds-row l r c at) (adds-return c)))
 
-adds-end-list : (q : Place) (opened : ℕ) (cs : Cells) (at : ℕ) → Adds (end-list q opened cs at)
+adds-end-list : (q : Place) (opened : ℕ) (cs : Cells) (at : ℕ) → Adds 1 (end-list q opened cs at)
 adds-end-list q opened no-cell at = adds-bind (adds-term (iri rdf-nil)) (λ n. adds-then (adds-hold q n opened) (adds-return n))
 adds-end-list q opened (cells h l) at =
     adds-bind (adds-term (iri rdf-rest)) (λ r. adds-bind (adds-term (iri rdf-nil)) (λ n. adds-then (adds-row l r n at) (adds-return h)))
@@ -128,10 +147,19 @@ adds-end-list q opened (cells h l) at =
 abbrev pub directive-kinds : List Kind
 directive-kinds = at-prefix ∷ PREFIX ∷ at-base ∷ BASE ∷ []
 
+-- "A document of n bytes makes at most 2n rows": no token makes more than two.
+pub record Few {A : Type 0} (w : Write A) : Type 0 where
+  pub most : ℕ
+  pub bound : T (leb most 2)
+  pub adds : Adds most w
+
+few : {A : Type 0} {w : Write A} {k : ℕ} → Adds k w → T (leb k 2) → Few w
+few {k} a h = record { most = k; bound = h; adds = a }
+
 -- No rule of the list begins a directive, and each only adds.
 abbrev Plain : {A : Type 0} → List (Rule A) → Type 0
 Plain [] = Unit {0}
-Plain ((ks ⇒ w) ∷ rs) = T (all (λ k. not (among directive-kinds k)) ks) × Adds w × Plain rs
+Plain ((ks ⇒ w) ∷ rs) = T (all (λ k. not (among directive-kinds k)) ks) × Few w × Plain rs
 
 plain-append : {A : Type 0} (rs us : List (Rule A)) → Plain rs → Plain us → Plain (rs ++ us)
 plain-append [] us p q = q
@@ -140,45 +168,45 @@ plain-append ((ks ⇒ w) ∷ rs) us (a, b, c) q = (a, b, plain-append rs us c q)
 module _ (t : Token) (tied : Bool) where
   plain-end : (e : Ending) → Plain (end-rules t tied e)
   unfolding all
-  plain-end full-stop = (tt, adds-return [], tt)
-  plain-end brace = (tt, adds-return (triples-or-end ∷ []), (tt, adds-then (adds-enter 0) (adds-return []), tt))
-  plain-end bracket-end = (tt, adds-return [], tt)
+  plain-end full-stop = (tt, few (adds-return []) tt, tt)
+  plain-end brace = (tt, few (adds-return (triples-or-end ∷ [])) tt, (tt, few (adds-then (adds-enter 0) (adds-return [])) tt, tt))
+  plain-end bracket-end = (tt, few (adds-return []) tt, tt)
 
   plain-verb : (after : ℕ → List Frame) → Plain (verb-rules t tied after)
   unfolding all
   plain-verb after =
-      (tt, adds-bind (adds-iri-term t) (λ p. adds-return (after p)), (tt, adds-bind (adds-term (iri rdf-type)) (λ p. adds-return (after p)), tt))
+      (tt, few (adds-bind (adds-iri-term t) (λ p. adds-return (after p))) tt, (tt, few (adds-bind (adds-term (iri rdf-type)) (λ p. adds-return (after p))) tt, tt))
 
   plain-subject : (q : Place) → Plain (subject-rules t tied q)
   unfolding all
   plain-subject q = (
     tt,
-    adds-bind (adds-iri-term t) (λ n. adds-return (after-node q n)),
+    few (adds-bind (adds-iri-term t) (λ n. adds-return (after-node q n))) tt,
     (
       tt,
-      adds-bind (adds-term (blank (label (node-label t)))) (λ n. adds-return (after-node q n)),
-      (tt, adds-bind (adds-new-term (blank (bracket-node (t .start)))) (λ n. adds-return (bracket q n ∷ [])), (tt, adds-return (list (list-place q) (t .start) no-cell ∷ []), tt)),
+      few (adds-bind (adds-term (blank (label (node-label t)))) (λ n. adds-return (after-node q n))) tt,
+      (tt, few (adds-bind (adds-new-term (blank (bracket-node (t .start)))) (λ n. adds-return (bracket q n ∷ []))) tt, (tt, few (adds-return (list (list-place q) (t .start) no-cell ∷ [])) tt, tt)),
     ),
   )
 
-  adds-simple : (begin : Write Opening) (node : Write ℕ) → Adds begin → Adds node → Adds (simple t tied begin node)
+  adds-simple : (begin : Write Opening) (node : Write ℕ) → Adds 1 begin → Adds 0 node → Adds 2 (simple t tied begin node)
   adds-simple begin node a b = adds-bind a (λ o. adds-bind b (λ n. adds-then (adds-hold (o .place) n (t .start)) (adds-return (o .after))))
 
-  adds-string : (begin : Write Opening) (b : Bool) → Adds begin → Adds (string t tied begin b)
-  adds-string begin true a = adds-bind a (λ o. adds-return (suffix (o .place) (t .start) (string-text t) ∷ o .after))
-  adds-string begin false a = adds-simple begin (typed (string-text t) xsd-string) a (adds-typed (string-text t) xsd-string)
+  adds-string : (begin : Write Opening) (b : Bool) → Adds 1 begin → Few (string t tied begin b)
+  adds-string begin true a = few (adds-bind a (λ o. adds-return (suffix (o .place) (t .start) (string-text t) ∷ o .after))) tt
+  adds-string begin false a = few (adds-simple begin (typed (string-text t) xsd-string) a (adds-typed (string-text t) xsd-string)) tt
 
-  plain-object : (begin : Write Opening) → Adds begin → Plain (object-rules t tied begin)
+  plain-object : (begin : Write Opening) → Adds 1 begin → Plain (object-rules t tied begin)
   unfolding all
   plain-object begin a =
-      let typed-literal : (d : Text) → Adds (simple t tied begin (typed (t .text) d)) = λ d. adds-simple begin (typed (t .text) d) a (adds-typed (t .text) d) in
+      let typed-literal : (d : Text) → Adds 2 (simple t tied begin (typed (t .text) d)) = λ d. adds-simple begin (typed (t .text) d) a (adds-typed (t .text) d) in
       let bracket-adds = adds-bind a (λ o. adds-bind (adds-new-term (blank (bracket-node (t .start)))) (λ n. adds-then (adds-hold (o .place) n (t .start)) (adds-return (bracket (o .place) n ∷ o .after)))) in (
         tt,
-        adds-simple begin (iri-term t) a (adds-iri-term t),
+        few (adds-simple begin (iri-term t) a (adds-iri-term t)) tt,
         (
           tt,
-          adds-simple begin (label-term t tied) a (adds-term (blank (label (node-label t)))),
-          (tt, typed-literal xsd-integer, (tt, typed-literal xsd-decimal, (tt, typed-literal xsd-double, (tt, typed-literal xsd-boolean, (tt, adds-string begin tied a, (tt, bracket-adds, (tt, adds-bind a (λ o. adds-return (list (o .place) (t .start) no-cell ∷ o .after)), tt))))))),
+          few (adds-simple begin (label-term t tied) a (adds-term (blank (label (node-label t))))) tt,
+          (tt, few (typed-literal xsd-integer) tt, (tt, few (typed-literal xsd-decimal) tt, (tt, few (typed-literal xsd-double) tt, (tt, few (typed-literal xsd-boolean) tt, (tt, adds-string begin tied a, (tt, few (bracket-adds) tt, (tt, few (adds-bind a (λ o. adds-return (list (o .place) (t .start) no-cell ∷ o .after))) tt, tt))))))),
         ),
       )
 
@@ -186,42 +214,43 @@ module _ (t : Token) (tied : Bool) where
   unfolding all
   plain-frame graph-label = (
     tt,
-    adds-bind (adds-iri-term t) (λ g. adds-return (graph-body g ∷ [])),
+    few (adds-bind (adds-iri-term t) (λ g. adds-return (graph-body g ∷ []))) tt,
     (
       tt,
-      adds-bind (adds-term (blank (label (node-label t)))) (λ g. adds-return (graph-body g ∷ [])),
-      (tt, adds-bind (adds-new-term (blank (bracket-node (t .start)))) (λ g. adds-return (closing-label g ∷ [])), tt),
+      few (adds-bind (adds-term (blank (label (node-label t)))) (λ g. adds-return (graph-body g ∷ []))) tt,
+      (tt, few (adds-bind (adds-new-term (blank (bracket-node (t .start)))) (λ g. adds-return (closing-label g ∷ []))) tt, tt),
     ),
   )
-  plain-frame (closing-label g) = (tt, adds-return (graph-body g ∷ []), tt)
-  plain-frame (graph-body g) = (tt, adds-then (adds-enter g) (adds-return (triples-or-end ∷ [])), tt)
-  plain-frame (label-or-subject n) = (tt, adds-then (adds-enter n) (adds-return (triples-or-end ∷ [])), plain-verb (λ p. object n p full-stop ∷ []))
-  plain-frame triples-or-end = (tt, adds-then (adds-enter 0) (adds-return []), plain-subject (subject-before brace))
+  plain-frame (closing-label g) = (tt, few (adds-return (graph-body g ∷ [])) tt, tt)
+  plain-frame (graph-body g) = (tt, few (adds-then (adds-enter g) (adds-return (triples-or-end ∷ []))) tt, tt)
+  plain-frame (label-or-subject n) = (tt, few (adds-then (adds-enter n) (adds-return (triples-or-end ∷ []))) tt, plain-verb (λ p. object n p full-stop ∷ []))
+  plain-frame triples-or-end = (tt, few (adds-then (adds-enter 0) (adds-return [])) tt, plain-subject (subject-before brace))
   plain-frame (verb s e) = plain-verb (λ p. object s p e ∷ [])
   plain-frame (verb-or-end s e) = plain-append (verb-rules t tied (λ p. object s p e ∷ [])) (end-rules t tied e) (plain-verb (λ p. object s p e ∷ [])) (plain-end e)
   plain-frame (object s p e) =
-      plain-object (return (record { place = object-of s p; after = after-object s p e ∷ [] })) (adds-return (record { place = object-of s p; after = after-object s p e ∷ [] }))
-  plain-frame (after-object s p e) = (tt, adds-return (object s p e ∷ []), (tt, adds-return (after-semicolon s e ∷ []), plain-end e))
+      plain-object (return (record { place = object-of s p; after = after-object s p e ∷ [] }))
+      (adds-most (adds-return (record { place = object-of s p; after = after-object s p e ∷ [] })))
+  plain-frame (after-object s p e) = (tt, few (adds-return (object s p e ∷ [])) tt, (tt, few (adds-return (after-semicolon s e ∷ [])) tt, plain-end e))
   plain-frame (after-semicolon s e) =
-      (tt, adds-return (after-semicolon s e ∷ []), plain-append (verb-rules t tied (λ p. object s p e ∷ [])) (end-rules t tied e) (plain-verb (λ p. object s p e ∷ [])) (plain-end e))
-  plain-frame (bracket q n) = (tt, adds-return (after-node q n), plain-verb (λ p. object n p bracket-end ∷ after-properties q n))
+      (tt, few (adds-return (after-semicolon s e ∷ [])) tt, plain-append (verb-rules t tied (λ p. object s p e ∷ [])) (end-rules t tied e) (plain-verb (λ p. object s p e ∷ [])) (plain-end e))
+  plain-frame (bracket q n) = (tt, few (adds-return (after-node q n)) tt, plain-verb (λ p. object n p bracket-end ∷ after-properties q n))
   plain-frame (list q opened cs) = (
     tt,
-    adds-bind (adds-end-list q opened cs (t .start)) (λ n. adds-return (after-node q n)),
+    few (adds-bind (adds-end-list q opened cs (t .start)) (λ n. adds-return (after-node q n))) tt,
     plain-object
         (new-cell q opened cs (t .start) >>= λ c. return (record { place = element-of c; after = list q opened (extended cs c) ∷ [] }))
         (adds-bind (adds-new-cell q opened cs (t .start)) (λ c. adds-return (record { place = element-of c; after = list q opened (extended cs c) ∷ [] }))),
   )
   plain-frame (suffix q at s) = (
     tt,
-    adds-bind (adds-term (tagged s (tag t))) (λ n. adds-then (adds-hold q n at) (adds-return [])),
-    (tt, adds-return (datatype q at s ∷ []), tt),
+    few (adds-bind (adds-term (tagged s (tag t))) (λ n. adds-then (adds-hold q n at) (adds-return []))) tt,
+    (tt, few (adds-return (datatype q at s ∷ [])) tt, tt),
   )
-  plain-frame (datatype q at s) = (tt, adds-bind (adds-typed-by s t) (λ n. adds-then (adds-hold q n at) (adds-return [])), tt)
+  plain-frame (datatype q at s) = (tt, few (adds-bind (adds-typed-by s t) (λ n. adds-then (adds-hold q n at) (adds-return []))) tt, tt)
 
   plain-statement : (mode : Mode) → Plain (statement-rules t tied mode)
   unfolding all
-  plain-statement trig = (tt, adds-then (adds-enter 0) (adds-return (triples-or-end ∷ [])), (tt, adds-return (graph-label ∷ []), plain-subject top))
+  plain-statement trig = (tt, few (adds-then (adds-enter 0) (adds-return (triples-or-end ∷ []))) tt, (tt, few (adds-return (graph-label ∷ [])) tt, plain-subject top))
   plain-statement turtle = plain-subject (subject-before full-stop)
 
 -- ---- The rule that is found for a kind
@@ -229,7 +258,7 @@ module _ (t : Token) (tied : Bool) where
 -- The kind begins no directive, the rule only adds, and what is open after it is a statement's.
 pub record Statementlike (k : Kind) (w : Write Open) : Type 0 where
   pub no-directive : among directive-kinds k ≡ false
-  pub adds : Adds w
+  pub adds : Few w
   pub is-statement : (m : Memory) → (fs : List Frame) × (w m .0 ≡ statement fs)
 
 is-false : (b : Bool) → T (not b) → b ≡ false
@@ -250,6 +279,9 @@ not-among (j ∷ ks) k h e = go (same j k) refl e (λ q. not-among ks k (and-1 (
 pub some-same : {A : Type 0} {a b : A} → some a ≡ some b → a ≡ b
 some-same e = cc
 
+few-lift : (K : List Frame) {v : Write (List Frame)} → Few v → Few (v >>= λ fs. return (statement (fs ++ K)))
+few-lift K b = record { most = b .most + 0; bound = subst (λ n. T (leb n 2)) (sym (add-zero (b .most))) (b .bound); adds = adds-bind (b .adds) (λ fs. adds-return (statement (fs ++ K))) }
+
 module _ (t : Token) (tied : Bool) (k : Kind) (K : List Frame) where
   found-above : (rs : List (Rule (List Frame))) → Plain rs → (w : Write Open) → find-rule k (above t tied K rs) ≡ some w → Statementlike k w
   found-above [] p w e = not-none e
@@ -259,7 +291,7 @@ module _ (t : Token) (tied : Bool) (k : Kind) (K : List Frame) where
           → (find-rule k (above t tied K rs) ≡ some w → Statementlike k w) → Statementlike k w
       go true p d f =
           subst (Statementlike k) (some-same d)
-          (record { no-directive = not-among ks k a p; adds = adds-bind b (λ fs. adds-return (statement (fs ++ K))); is-statement = λ m. (v m .0 ++ K, refl) })
+          (record { no-directive = not-among ks k a p; adds = few-lift K b; is-statement = λ m. (v m .0 ++ K, refl) })
       go false p d f = f d
 
 -- ---- What is in force after a token
@@ -309,7 +341,7 @@ module _ (t : Token) (tied : Bool) (mode : Mode) (m : Memory) where
   after-statement : (o : Open) (w : Write Open) → awaited-by o ≡ nothing → Statementlike (t .kind) w → InForceAfter o w
   after-statement o w n x =
       let (fs, p) = x .is-statement m in
-      (λ i. awaiting (awaited-by (p i)) (x .adds .same m i)) ∙ sym (after-plain t (m .environment) (x .no-directive)) ∙ (λ i. after-token (awaiting (sym n i) (m .environment)) t)
+      (λ i. awaiting (awaited-by (p i)) (x .adds .adds .same m i)) ∙ sym (after-plain t (m .environment) (x .no-directive)) ∙ (λ i. after-token (awaiting (sym n i) (m .environment)) t)
 
   -- A rule of one kind whose effect is known.
   by-kind : (o : Open) (k : Kind) (v w : Write Open) → among (k ∷ []) (t .kind) ≡ true → v ≡ w
@@ -349,28 +381,41 @@ module _ (t : Token) (tied : Bool) (mode : Mode) (m : Memory) where
   in-force-rule (directive last-dot) w e =
       first-or-later (among (dot ∷ []) (t .kind)) e (λ h q. by-kind (directive last-dot) dot (return (statement [])) w h q refl) (λ x. not-none x)
 
--- ---- Every rule only adds rows and terms
+-- ---- Every rule only adds rows and terms, and two rows at the most
 
-pub extends-rule : (t : Token) (tied : Bool) (mode : Mode) (m : Memory) (o : Open) (w : Write Open) → find-rule (t .kind) (rules t tied mode o) ≡ some w → Extends m (w m .1)
+abbrev Grown : Memory → Memory → Type 0
+Grown m m′ = Extends m m′ × (length (m′ .rows) ≤ 2 + length (m .rows))
+
+kept : (m : Memory) (v w : Write Open) → v m .1 .rows ≡ m .rows → v m .1 .terms ≡ m .terms → v ≡ w → Grown m (w m .1)
+kept m v w p q e = subst (λ u. Grown m (u m .1)) e (extends-same m (v m .1) p q, (let h = ap length p in omega arith))
+
+grown : {k : Kind} {w : Write Open} → Statementlike k w → (m : Memory) → Grown m (w m .1)
+grown {w = w} x m = (x .adds .adds .extends m, (let h = leb→le (x .adds .most) 2 (x .adds .bound) in let q = x .adds .adds .few m in omega arith))
+
+grown-rule : (t : Token) (tied : Bool) (mode : Mode) (m : Memory) (o : Open) (w : Write Open) → find-rule (t .kind) (rules t tied mode o) ≡ some w → Grown m (w m .1)
 unfolding rules
-extends-rule t tied mode m (statement (f ∷ K)) w e = found-above t tied (t .kind) K (frame-rules t tied f) (plain-frame t tied f) w e .adds .extends m
-extends-rule t tied mode m (statement []) w e =
-    let kept : (v : Write Open) → (v m .1 .rows ≡ m .rows) → (v m .1 .terms ≡ m .terms) → v ≡ w → Extends m (w m .1) = λ v p q x. subst (λ u. Extends m (u m .1)) x (extends-same m (v m .1) p q) in
-    first-or-later (among (at-prefix ∷ []) (t .kind)) e (λ h q. kept (return (directive (prefix-name true))) refl refl q)
+grown-rule t tied mode m (statement (f ∷ K)) w e = grown (found-above t tied (t .kind) K (frame-rules t tied f) (plain-frame t tied f) w e) m
+grown-rule t tied mode m (statement []) w e =
+    first-or-later (among (at-prefix ∷ []) (t .kind)) e (λ h q. kept m (return (directive (prefix-name true))) w refl refl q)
     (λ e₁.
-    first-or-later (among (PREFIX ∷ []) (t .kind)) e₁ (λ h q. kept (return (directive (prefix-name false))) refl refl q)
+    first-or-later (among (PREFIX ∷ []) (t .kind)) e₁ (λ h q. kept m (return (directive (prefix-name false))) w refl refl q)
     (λ e₂.
-    first-or-later (among (at-base ∷ []) (t .kind)) e₂ (λ h q. kept (return (directive (new-base true))) refl refl q)
+    first-or-later (among (at-base ∷ []) (t .kind)) e₂ (λ h q. kept m (return (directive (new-base true))) w refl refl q)
     (λ e₃.
-    first-or-later (among (BASE ∷ []) (t .kind)) e₃ (λ h q. kept (return (directive (new-base false))) refl refl q)
-    (λ e₄. found-above t tied (t .kind) [] (statement-rules t tied mode) (plain-statement t tied mode) w e₄ .adds .extends m))))
-extends-rule t tied mode m (directive d) w e = go d e
-  where
-    kept : (v : Write Open) → (v m .1 .rows ≡ m .rows) → (v m .1 .terms ≡ m .terms) → v ≡ w → Extends m (w m .1)
-    kept v p q x = subst (λ u. Extends m (u m .1)) x (extends-same m (v m .1) p q)
+    first-or-later (among (BASE ∷ []) (t .kind)) e₃ (λ h q. kept m (return (directive (new-base false))) w refl refl q)
+    (λ e₄. grown (found-above t tied (t .kind) [] (statement-rules t tied mode) (plain-statement t tied mode) w e₄) m))))
+grown-rule t tied mode m (directive (prefix-name b)) w e =
+    first-or-later (among («PNAME_NS» ∷ []) (t .kind)) e (λ h q. kept m (return (directive (namespace-of (prefix t) b))) w refl refl q) (λ x. not-none x)
+grown-rule t tied mode m (directive (namespace-of p b)) w e =
+    first-or-later (among (IRIREF ∷ []) (t .kind)) e (λ h q. kept m (declare-prefix p t >> return (cond b (directive last-dot) (statement []))) w refl refl q) (λ x. not-none x)
+grown-rule t tied mode m (directive (new-base b)) w e =
+    first-or-later (among (IRIREF ∷ []) (t .kind)) e (λ h q. kept m (declare-base t >> return (cond b (directive last-dot) (statement []))) w refl refl q) (λ x. not-none x)
+grown-rule t tied mode m (directive last-dot) w e =
+    first-or-later (among (dot ∷ []) (t .kind)) e (λ h q. kept m (return (statement [])) w refl refl q) (λ x. not-none x)
 
-    go : (d : Directive) → find-rule (t .kind) (directive-rules t tied d) ≡ some w → Extends m (w m .1)
-    go (prefix-name b) e = first-or-later (among («PNAME_NS» ∷ []) (t .kind)) e (λ h q. kept (return (directive (namespace-of (prefix t) b))) refl refl q) (λ x. not-none x)
-    go (namespace-of p b) e = first-or-later (among (IRIREF ∷ []) (t .kind)) e (λ h q. kept (declare-prefix p t >> return (cond b (directive last-dot) (statement []))) refl refl q) (λ x. not-none x)
-    go (new-base b) e = first-or-later (among (IRIREF ∷ []) (t .kind)) e (λ h q. kept (declare-base t >> return (cond b (directive last-dot) (statement []))) refl refl q) (λ x. not-none x)
-    go last-dot e = first-or-later (among (dot ∷ []) (t .kind)) e (λ h q. kept (return (statement [])) refl refl q) (λ x. not-none x)
+module _ (t : Token) (tied : Bool) (mode : Mode) (m : Memory) (o : Open) (w : Write Open) (e : find-rule (t .kind) (rules t tied mode o) ≡ some w) where
+  pub extends-rule : Extends m (w m .1)
+  extends-rule = grown-rule t tied mode m o w e .0
+
+  pub two-rows : length (w m .1 .rows) ≤ 2 + length (m .rows)
+  two-rows = grown-rule t tied mode m o w e .1

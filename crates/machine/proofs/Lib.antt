@@ -19,3 +19,4 @@ pub mod Constructed
 pub mod Extends
 pub mod Demands
 pub mod Order
+pub mod Rows

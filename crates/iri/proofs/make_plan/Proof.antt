@@ -29,7 +29,7 @@ part-ends-requires-2 c κs = search needs
 
 -- src/lib.rt:465:5
 choose-requires : tie.Need-choose-requires
-choose-requires c κs = 
+choose-requires c κs =
     let e : c .before .before .find .result + 1 ≤ length (c .before .before .before .before .before .args .base .now) = omega (arith, c .before .before .find .ensures, c .before .before .before .before .before .pre) in
     let p = ends-fit (c .before .before .before .before .before .args .base .now) (c .before .before .find .result + 1) (c .before .part-ends .result) e (c .before .part-ends .ensures) in
     let q = ends-fit (c .before .before .before .before .before .args .reference .now) 0 (c .part-ends2 .result) (omega arith) (c .part-ends2 .ensures) in
