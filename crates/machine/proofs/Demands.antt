@@ -18,7 +18,7 @@ use Rattle.grammar.specs.Productions.{Mode, GrammarFailsAt}
 use Rattle.dataset.specs.Constructors.{InForce, after-token, after-tokens, in-force}
 use Rattle.table.specs.Tables.{store-size}
 use Rattle.table.proofs.Numbers.{not-none}
-use Rattle.table.proofs.Sizes.{store-size-append}
+use Rattle.table.proofs.Store.{size-append}
 use Rattle.machine.specs.Memory.{Memory, start-memory, Write}
 use Rattle.machine.specs.Frame.{Open, directive, statement}
 use Rattle.machine.specs.Rules.{find-rule, rules}
@@ -80,7 +80,7 @@ extends-fits room m m′ x f =
     record {
       rows = (let p = ap length (x .rows) ∙ length-append (m .rows) (x .new-rows) in let q = f .rows in omega arith);
       terms = (let p = ap length (x .terms) ∙ length-append (m .terms) (x .new-terms) in let q = f .terms in omega arith);
-      store = (let p = ap store-size (x .terms) ∙ store-size-append (m .terms) (x .new-terms) in let q = f .store in omega arith);
+      store = (let p = ap store-size (x .terms) ∙ size-append (m .terms) (x .new-terms) in let q = f .store in omega arith);
     }
 
 -- What the tokens write, as far as the grammar goes, extends what was there.
