@@ -1,11 +1,10 @@
 -- What tokens stand for (TriG, section 5.2, RDF Term Constructors).
 use mathlib.Core.List.{List, [], _∷_, _++_}
-use mathlib.Core.Bool.{Bool, true, false}
 use mathlib.Core.Option.{Option, none, some}
 use Prim.Native.Nat.{ℕ, _+_, _-_}
 use lib.ListN.{length, take, drop}
 use Rattle.text.specs.Text.{Text, cond, is, until, from}
-use Rattle.token.specs.Kind.{Kind, IRIREF, long-strings, at-prefix, at-base, PREFIX, BASE}
+use Rattle.token.specs.Kind.{IRIREF, long-strings, at-prefix, at-base, PREFIX, BASE}
 use Rattle.token.specs.Tokens.{Token, has-kind, computing as token-computing}
 use Rattle.escape.specs.Escape.{unescape, unreserve, computing as escape-computing}
 use Rattle.iri.specs.Resolve.{resolved, computing as iri-computing}

@@ -1,8 +1,6 @@
 -- What directives set (TriG, section 5.1: the base IRI and the namespaces map), and what is in force at a token.
 use mathlib.Core.List.{List, [], _∷_}
-use mathlib.Core.Bool.{Bool, true, false}
 use mathlib.Core.Option.{Option, none, some}
-use Prim.Native.Nat.{ℕ}
 use Rattle.text.specs.Text.{Text, cond, same-text, empty}
 
 -- A prefix and its namespace.

@@ -1,11 +1,10 @@
 -- What the grammars say of short documents, by computing.
 use mathlib.Core.Path.{_≡_, refl}
-use mathlib.Core.List.{List, [], _∷_, map}
-use mathlib.Core.Option.{Option, none, some}
-use Prim.Native.Nat.{ℕ}
-use Rattle.token.specs.Kind.{Kind, IRIREF, «PNAME_NS», «PNAME_LN», «BLANK_NODE_LABEL», at-prefix, INTEGER, «STRING_LITERAL_QUOTE», LANGTAG, kw-a, PREFIX, GRAPH, dot, comma, semicolon, open-bracket, close-bracket, open-paren, close-paren, open-brace, close-brace, carets}
+use mathlib.Core.List.{[], _∷_, map}
+use mathlib.Core.Option.{none, some}
+use Rattle.token.specs.Kind.{IRIREF, «PNAME_NS», «PNAME_LN», «BLANK_NODE_LABEL», at-prefix, INTEGER, «STRING_LITERAL_QUOTE», LANGTAG, kw-a, PREFIX, GRAPH, dot, comma, semicolon, open-bracket, close-bracket, open-paren, close-paren, open-brace, close-brace, carets}
 use Rattle.token.proofs.KindCodes.{same}
-use Rattle.grammar.specs.Productions.{Mode, trig, turtle, production, root}
+use Rattle.grammar.specs.Productions.{trig, turtle, production, root}
 use Rattle.grammar.proofs.Recogniser.{verdict, gate, nullE, nullN, null, nullS, afterE, afterN, after, step, someNull, isSome, at-end, at-token, later}
 use Rattle.grammar.proofs.Modes.{grammar}
 

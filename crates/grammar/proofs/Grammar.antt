@@ -3,14 +3,14 @@ use mathlib.Core.Path.{_≡_, refl, sym, ap, _∙_, subst}
 use mathlib.Core.Logic.{_↔_}
 use mathlib.Core.List.{List, [], _∷_, _++_, map, map-append}
 use mathlib.Core.HLevel.{hedberg}
-use mathlib.Core.Option.{Option, none, some}
+use mathlib.Core.Option.{none, some}
 use Prim.Native.Nat.{ℕ, zero, suc, _≤_, _<_}
 use lib.ListN.{length, take}
 use lib.ListN.{length-map}
 use Rattle.token.specs.Kind.{Kind}
 use Rattle.token.specs.Tokens.{Token}
 use Rattle.token.proofs.KindCodes.{same, same-eq, same-refl, kind-discrete}
-use Rattle.grammar.specs.Ebnf.{Tree, nt, leaves, Derives, Begins, FailsAt}
+use Rattle.grammar.specs.Ebnf.{nt, leaves, Derives, Begins, FailsAt}
 use Rattle.grammar.specs.Productions.{Mode, production, root, kind-of, Derivation, Grammatical, BeginsGrammatical, GrammarFailsAt}
 use Rattle.grammar.proofs.KindTrees
 use Rattle.grammar.proofs.Labels.{labelled, labelled-once}

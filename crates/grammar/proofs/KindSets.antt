@@ -2,7 +2,7 @@
 use mathlib.Core.Path.{_≡_, subst}
 use mathlib.Core.Logic.{⊎-elim}
 use mathlib.Core.List.{List, [], _∷_, _++_}
-use mathlib.Core.Bool.{Bool, true, false, _&&_, _||_, not}
+use mathlib.Core.Bool.{Bool, true, false, _||_, not}
 use lib.Dec.{T, T-not, not-T}
 use Rattle.grammar.proofs.Recogniser.{gate}
 use Rattle.text.proofs.Booleans.{and-0, and-1, or-0, or-1, or-cases, all}

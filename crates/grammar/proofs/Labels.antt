@@ -5,7 +5,7 @@ use mathlib.Core.List.{List, [], _∷_, _++_, map, append-nil, append-assoc, nil
 use mathlib.Core.Bool.{Bool, true, false}
 use mathlib.Core.HLevel.{isProp→PathP}
 use lib.Dec.{T}
-use Rattle.grammar.specs.Ebnf.{Expr, tok, nt, _⨾_, _∣_, star, opt, Tree, leaf, node, both, left, right, done, more, absent, present, leaves}
+use Rattle.grammar.specs.Ebnf.{Expr, nt, _⨾_, _∣_, star, opt, Tree, leaf, node, both, left, right, done, more, absent, present, leaves}
 use Rattle.grammar.proofs.KindTrees
 use Rattle.grammar.proofs.Trees.{yield, leaves-yield}
 

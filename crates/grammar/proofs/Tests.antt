@@ -1,6 +1,6 @@
 -- The tests of a grammar: what has to hold of each nonterminal, as a value that antt computes.
 use mathlib.Core.List.{List, [], _∷_, _++_}
-use mathlib.Core.Bool.{Bool, true, false, _&&_, _||_, not}
+use mathlib.Core.Bool.{Bool, true, false, _&&_, not}
 use mathlib.Core.Option.{Option, none, some}
 use Prim.Native.Nat.{ℕ, zero, suc, max}
 use lib.Dec.{T, ltb}

@@ -1,15 +1,14 @@
 -- No list of token kinds has two derivations.
 use mathlib.Core.Path.{_≡_, refl, sym, ap, ap₂, _∙_, subst}
-use mathlib.Core.Logic.{_⊎_, inl, inr, ⊎-elim}
-use mathlib.Core.List.{List, [], _∷_, _++_, nil≢cons, head-eq-of-cons-eq, tail-eq-of-cons-eq}
+use mathlib.Core.List.{List, [], _∷_, _++_, head-eq-of-cons-eq, tail-eq-of-cons-eq}
 use mathlib.Core.Bool.{Bool, true, false, _&&_, _||_, not}
 use Prim.Native.Nat.{ℕ}
-use lib.Dec.{T, T-not, not-T}
-use Rattle.grammar.specs.Ebnf.{Expr, tok, nt, _⨾_, _∣_, star, opt}
+use lib.Dec.{T, T-not}
+use Rattle.grammar.specs.Ebnf.{Expr, nt, _∣_, star}
 use Rattle.grammar.proofs.KindTrees.{Tree, leaf, node, both, left, right, done, more, absent, present, leaves}
 use Rattle.grammar.proofs.Recogniser.{Stack, gate, nullE, null, nullS, afterE, afterN}
-use Rattle.text.proofs.Booleans.{imp, imp-use, and-in, and-0, and-1, or-0, or-1, or-cases, all}
-use Rattle.grammar.proofs.KindSets.{mem, subset, disjoint, clear, mem-left, mem-right, mem-gate, clear-less, clear-left, clear-right, clear-gate, clear-not, all-use, subset-use, disjoint-use, clear-disjoint}
+use Rattle.text.proofs.Booleans.{imp-use, and-in, and-0, and-1, or-0, or-1, all}
+use Rattle.grammar.proofs.KindSets.{mem, disjoint, clear, mem-left, mem-right, mem-gate, clear-less, clear-left, clear-right, clear-gate, clear-not, all-use, subset-use, disjoint-use, clear-disjoint}
 use Rattle.grammar.proofs.Tests.{firstE, firstS, lastE, sep, apart, wf, firsts, lasts, Passes, null-whole, first-whole, last-whole, decided}
 use Rattle.grammar.proofs.Trees.{yield, yields, yield-append, leaves-yield, Forest, nil, _▹_, Any, here, there}
 use Rattle.grammar.proofs.Steps.{Start, none, some, start}

@@ -11,7 +11,7 @@ use native.Mathlib.Omega.{arith}
 use lib.Dec.{T}
 use lib.ListN.{length, take, drop, take-append-drop}
 use Rattle.grammar.specs.Ebnf.{Expr, tok, nt, _⨾_, _∣_, star, opt}
-use Rattle.grammar.proofs.KindTrees.{Tree, leaf, both, left, done, absent, leaves, Derives, Begins, FailsAt}
+use Rattle.grammar.proofs.KindTrees.{Tree, leaf, both, left, done, absent, Derives, Begins, FailsAt}
 use Rattle.grammar.proofs.Recogniser.{Stack, isSome, at-end, later, at-token, step, someNull, verdict}
 use Rattle.grammar.proofs.Trees.{yields, leaves-yield, Forest, nil, _▹_, Any, here, there}
 use Rattle.grammar.proofs.Tests.{Passes, productive, the, sampleN}

@@ -1,21 +1,21 @@
 -- The machine and the construction: the statement for whole documents, and its proof for nodes of one token, for literals and for predicates.
-use mathlib.Core.Path.{_≡_, refl, sym, ap, _∙_}
+use mathlib.Core.Path.{_≡_, refl, ap, _∙_}
 use mathlib.Core.List.{List, [], _∷_, _++_, append-assoc}
 use mathlib.Core.Bool.{Bool, true, false}
 use mathlib.Core.Option.{Option, none, some}
-use mathlib.Core.Logic.{_⊎_, inl, inr}
+use mathlib.Core.Logic.{inl, inr}
 use Prim.Native.Nat.{ℕ}
 use Rattle.grammar.specs.Ebnf.{nt, Tree, leaves}
-use Rattle.token.specs.Kind.{Kind, comma, kw-a, kw-true, kw-false, carets, IRIREF, «PNAME_NS», «PNAME_LN», «BLANK_NODE_LABEL», LANGTAG, INTEGER, DECIMAL, DOUBLE, «STRING_LITERAL_QUOTE», «STRING_LITERAL_SINGLE_QUOTE», «STRING_LITERAL_LONG_SINGLE_QUOTE», «STRING_LITERAL_LONG_QUOTE»}
+use Rattle.token.specs.Kind.{Kind, comma, kw-true, kw-false, carets, IRIREF, «PNAME_NS», «PNAME_LN», «BLANK_NODE_LABEL», LANGTAG, INTEGER, DECIMAL, DOUBLE, «STRING_LITERAL_QUOTE», «STRING_LITERAL_SINGLE_QUOTE», «STRING_LITERAL_LONG_SINGLE_QUOTE», «STRING_LITERAL_LONG_QUOTE»}
 use Rattle.grammar.specs.Productions.{Mode, trig, turtle, production, trigDoc, turtleDoc, kind-of}
 use Rattle.text.specs.Text.{Text}
 use Rattle.token.specs.Tokens.{Token}
-use Rattle.machine.specs.Memory.{Memory, Write, return, _>>=_, Done, term, iri-term, typed-by}
-use Rattle.dataset.specs.Terms.{iri, label, literal, rdf-type, xsd-integer, xsd-decimal, xsd-double, xsd-boolean, blank}
+use Rattle.machine.specs.Memory.{Memory, Write, return, _>>=_, term, iri-term, typed-by}
+use Rattle.dataset.specs.Terms.{label, xsd-integer, xsd-decimal, xsd-double, xsd-boolean, blank}
 use Rattle.dataset.specs.Constructors.{node-label, string-text}
 use Rattle.machine.specs.Frame.{Ending, Place, object-of, element-of, Cells, Frame, verb, object, after-object, list, suffix, datatype, Open, directive, statement}
 use Rattle.machine.specs.Rules.{find-rule, rules, hold, new-cell, extended}
-use Rattle.machine.specs.Construction.{Put, Node, simple, iri-node, typed-node, cell-of, rdf-literal, object-triple, objects, object-list, Meaning, action}
+use Rattle.machine.specs.Construction.{Node, simple, iri-node, typed-node, cell-of, rdf-literal, object-triple, objects, object-list, Meaning, action}
 use Rattle.grammar.specs.Meaning.{meaning}
 use Rattle.machine.proofs.Decide.{ties, tied-kinds}
 use Rattle.grammar.proofs.Grammar.{kinds-of}

@@ -1,6 +1,6 @@
 -- The tables that a derivation makes hold the statements that it constructs: a relation between what each part writes and what it says,
 -- by recursion on the right sides of productions.
-use mathlib.Core.Path.{_≡_, refl, sym, ap, ap₂, _∙_, subst}
+use mathlib.Core.Path.{_≡_, refl, sym, ap, _∙_, subst}
 use mathlib.Core.Logic.{_⊎_, inl, inr}
 use mathlib.Core.List.{List, [], _∷_, _++_, append-nil, append-assoc, map-append}
 use mathlib.Core.Option.{Option, none, some}
@@ -19,10 +19,10 @@ use Rattle.dataset.specs.Statements.{Value, triple, in-graph, list-term, list-t
 use Rattle.table.specs.Tables.{quads}
 use Rattle.table.proofs.Numbers.{Known}
 use Rattle.table.proofs.Held.{GraphIs, Holds, holds-quads}
-use Rattle.machine.specs.Memory.{Memory, start-memory, Write, return, _>>=_, _>>_, Done, done, term, new-term, typed, typed-by, iri-term, row, enter, in-environment, declare-prefix, declare-base}
-use Rattle.machine.specs.Frame.{Place, top, subject-before, object-of, element-of, Cells, no-cell, cells}
-use Rattle.machine.specs.Rules.{hold, new-cell, extended, end-list}
-use Rattle.machine.specs.Construction.{Put, Node, Meaning, action, simple, cell-of, elements, collection-node, bracket-node, bracket-term, rdf-literal, object-triple, objects as write-objects, object-list, verb-objects, more-properties, properties, perhaps, alone, triples-of, or-nothing, graph-of, later-triples, graph-or-triples, bracket-or-list, block-of, in-turn, tables}
+use Rattle.machine.specs.Memory.{Memory, start-memory, Write, return, _>>=_, _>>_, Done, done, term, new-term, typed, typed-by, iri-term, enter, declare-prefix, declare-base}
+use Rattle.machine.specs.Frame.{Place, top, object-of, element-of, no-cell, cells}
+use Rattle.machine.specs.Rules.{new-cell}
+use Rattle.machine.specs.Construction.{Put, Node, Meaning, action, simple, cell-of, elements, collection-node, bracket-node, bracket-term, rdf-literal, object-triple, objects as write-objects, object-list, verb-objects, more-properties, perhaps, alone, or-nothing, graph-of, later-triples, in-turn, tables}
 use Rattle.machine.proofs.Effects.{At, Grows, grows-none, grows-both, still, Wrote, Named, new-term-named, term-named, typed-named, iri-named, typed-by-named, row-wrote, PlaceIs, place-still, hold-wrote}
 
 -- More triples in the open graph, after those that are there.

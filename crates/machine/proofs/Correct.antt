@@ -1,26 +1,25 @@
 -- Each production keeps to what it means; so the machine and the construction agree on every document that has a derivation.
 use mathlib.Core.Path.{_≡_, refl, sym, ap, ap₂, _∙_, subst}
 use mathlib.Core.Logic.{_⊎_, inl, inr}
-use mathlib.Core.List.{List, [], _∷_, _++_, append-assoc, append-nil}
-use mathlib.Core.Bool.{Bool, true, false}
+use mathlib.Core.List.{List, [], _∷_, _++_, append-nil}
+use mathlib.Core.Bool.{false}
 use mathlib.Core.Option.{Option, none, some}
 use Prim.Native.Nat.{ℕ}
-use Rattle.grammar.specs.Ebnf.{Expr, tok, nt, _⨾_, _∣_, star, opt, Tree, leaves}
-use Rattle.token.specs.Kind.{Kind, semicolon, comma, open-bracket, close-bracket, open-paren, close-paren, kw-a, kw-true, kw-false, carets, IRIREF, «PNAME_NS», «PNAME_LN», «BLANK_NODE_LABEL», LANGTAG, INTEGER, DECIMAL, DOUBLE, «STRING_LITERAL_QUOTE», «STRING_LITERAL_SINGLE_QUOTE», «STRING_LITERAL_LONG_SINGLE_QUOTE», «STRING_LITERAL_LONG_QUOTE»}
+use Rattle.grammar.specs.Ebnf.{tok, nt, _⨾_, _∣_, opt, Tree, leaves}
+use Rattle.token.specs.Kind.{Kind, semicolon, comma, open-bracket, close-bracket, IRIREF, «PNAME_NS», «PNAME_LN», «STRING_LITERAL_QUOTE», «STRING_LITERAL_SINGLE_QUOTE», «STRING_LITERAL_LONG_SINGLE_QUOTE», «STRING_LITERAL_LONG_QUOTE»}
 use Rattle.grammar.specs.Productions.{Nonterminal, Mode, trig, turtle, production, trigDoc, block, triplesOrGraph, triples2, wrappedGraph, triplesBlock, labelOrSubject, turtleDoc, statement as statement-nt, directive as directive-nt, prefixID, base as base-nt, sparqlPrefix, sparqlBase, triples, subject as subject-nt, predicate as predicate-nt, predicateObjectList, objectList, verb as verb-nt, object as object-nt, literal as literal-nt, blank as blank-nt, blankNodePropertyList, collection, NumericLiteral, RDFLiteral, BooleanLiteral, String as String-nt, iri as iri-nt, PrefixedName, BlankNode, ANON, kind-of}
 use Rattle.token.specs.Tokens.{Token}
-use Rattle.machine.specs.Memory.{Memory, Write, Done, _>>=_, _>>_, term}
+use Rattle.machine.specs.Memory.{Write, Done, _>>=_, _>>_, term}
 use Rattle.dataset.specs.Terms.{label, xsd-integer, xsd-decimal, xsd-double, xsd-boolean, blank}
-use Rattle.machine.specs.Frame.{Frame, object, list, bracket, top, subject-before, object-of, element-of, after-object, statement}
+use Rattle.machine.specs.Frame.{object, list, bracket, subject-before, object-of, element-of, after-object, statement}
 use Rattle.machine.specs.Rules.{rules, extended}
 use Rattle.dataset.specs.Constructors.{node-label}
 use Rattle.machine.specs.Construction.{Node, Meaning, action, iri-node, typed-node, simple, cell-of, rdf-literal, bracket-node, collection-node, object-list, properties, alone, triples-of, graph-of, prefix-of, base-of, in-turn, bracket-term}
 use Rattle.grammar.specs.Meaning.{Parts, meaning}
 use Rattle.dataset.specs.Statements.{either}
-use Rattle.machine.proofs.Decide.{ties, tied-kinds}
-use Rattle.grammar.proofs.Grammar.{kinds-of}
-use Rattle.machine.proofs.Agreement.{final, at-finish, taken, Agreement-trig, Agreement-turtle, first, Context, in-object, in-list, begin-of, Writes, Iris, reference, name, namespace, Stringy, quote, single, long-single, long, Commas, last, also, reference-writes, name-writes, namespace-writes, label-writes, integer-writes, decimal-writes, double-writes, true-writes, false-writes, quote-writes, single-writes, long-single-writes, long-writes, tagged-writes, typed-writes, object-list-writes}
-use Rattle.machine.proofs.Nested.{Verb, named, typing, WritesObjects, WritesProperties, Semicolons, no-more, bare, full, properties-write, bracket-writes, Elements, no-element, next, collection-writes}
+use Rattle.machine.proofs.Decide.{ties}
+use Rattle.machine.proofs.Agreement.{final, at-finish, taken, Agreement-trig, Agreement-turtle, first, in-object, in-list, begin-of, Writes, Iris, reference, name, namespace, Stringy, quote, single, long-single, long, Commas, last, also, reference-writes, name-writes, namespace-writes, label-writes, integer-writes, decimal-writes, double-writes, true-writes, false-writes, quote-writes, single-writes, long-single-writes, long-writes, tagged-writes, typed-writes, object-list-writes}
+use Rattle.machine.proofs.Nested.{named, typing, WritesObjects, WritesProperties, Semicolons, no-more, bare, full, properties-write, bracket-writes, Elements, no-element, next, collection-writes}
 use Rattle.machine.proofs.Subjects.{head-iri, label-iri, head-label, label-label, head-anon, label-anon, bracket-head, list-head}
 use Rattle.machine.proofs.Statements.{SubjectBy, StatementBy, DocumentBy, default, triples-plain, triples-bracket, triples-more, block-one, block-dot, block-more, block-none, graph-writes, prefix-writes, base-writes, sparql-prefix-writes, sparql-base-writes, label-graph, label-triples, list-triples, bracket-alone, bracket-triples, named-graph, turtle-triples}
 use Rattle.machine.proofs.Objects.{NodeBy, OneToken, RightN, Right, Repeats, stop, again, right-tree}

@@ -1,12 +1,10 @@
 -- The optional tag or type of a string, decided by the next token.
-use mathlib.Core.Path.{_≡_, refl, sym, ap, ap₂, _∙_, subst}
-use mathlib.Core.List.{List, [], _∷_, _++_, map, append-nil}
+use mathlib.Core.Path.{_≡_, refl, sym, ap, ap₂, _∙_}
+use mathlib.Core.List.{List, [], _∷_, _++_, map}
 use mathlib.Core.Bool.{Bool, true, false, _&&_, _||_, not}
-use mathlib.Core.Option.{Option}
-use Prim.Native.Nat.{ℕ}
 use lib.Dec.{T}
-use Rattle.grammar.specs.Ebnf.{Expr, tok, nt, _⨾_, _∣_, star, opt}
-use Rattle.grammar.proofs.Recogniser.{Stack, gate, isSome, at-end, at-token, null, nullE, nullS, afterE, afterN, after, step, someNull, verdict}
+use Rattle.grammar.specs.Ebnf.{tok, nt, _⨾_, _∣_, star, opt}
+use Rattle.grammar.proofs.Recogniser.{gate, isSome, at-end, at-token, null, nullE, nullS, afterE, afterN, after, step, someNull, verdict}
 use Rattle.token.proofs.KindCodes.{same, all-kinds}
 use Rattle.token.specs.Kind.{Kind, kinds, LANGTAG, carets, among}
 use Rattle.grammar.specs.Productions.{Nonterminal, Mode, production}

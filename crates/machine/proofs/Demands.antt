@@ -1,10 +1,10 @@
 -- Acceptance, and where the grammar fails first, in words about the mode, the document and what is lent.
 use mathlib.Core.Path.{_≡_, refl, sym, ap, ap₂, _∙_, subst}
 use mathlib.Core.Logic.{_↔_}
-use mathlib.Core.List.{List, [], _∷_, _++_, append-nil, append-assoc}
+use mathlib.Core.List.{List, [], _∷_, _++_, append-assoc}
 use mathlib.Core.Bool.{Bool, true, false, not}
 use mathlib.Core.Option.{Option, none, some}
-use Prim.Native.Nat.{ℕ, zero, suc, _+_, _≤_, _<_, zero-le}
+use Prim.Native.Nat.{ℕ, zero, suc, _+_, _≤_, zero-le}
 use native.Mathlib.Omega.{arith}
 use borrow.Author.Tests.{ltb-false, le-ltb}
 use lib.Dec.{T, eqb, leb, ltb, leb→le, le→leb}
@@ -22,11 +22,11 @@ use Rattle.table.proofs.Store.{size-append}
 use Rattle.machine.specs.Memory.{Memory, start-memory, Write}
 use Rattle.machine.specs.Frame.{Open, directive, statement}
 use Rattle.machine.specs.Rules.{find-rule, rules}
-use Rattle.machine.specs.Refusals.{missing, no-character, undeclared, no-base, too-long, one-prefix-more, too-deep, new-depth}
+use Rattle.machine.specs.Refusals.{no-character, undeclared, no-base, too-long, one-prefix-more, too-deep, new-depth}
 use Rattle.machine.specs.Step.{Room, State, in-force-now, Test, _when_, first-refusal, answer, obeyed, tests, step, tied-to, Outcome, accepted, refused, at-end, onward, run}
-use Rattle.machine.specs.Read.{Lent, Answer, first-checks, mode-of, room-of, start-state, untouched, refusal, success, reported, read, read-checked, read-utf8, read-tokens}
+use Rattle.machine.specs.Read.{Lent, Answer, first-checks, mode-of, room-of, start-state, refusal, success, reported, read, read-checked, read-utf8, read-tokens}
 use Rattle.machine.specs.Construction.{tables}
-use Rattle.machine.specs.Demand.{document-tokens, depth-from, depth-after, Nowhere, Fair, Fits, Meets, obey, after-rules, FitsSoFar, FailsFirst}
+use Rattle.machine.specs.Demand.{document-tokens, depth-from, depth-after, Nowhere, Fair, Fits, Meets, obey, after-rules, FailsFirst}
 use Rattle.grammar.proofs.Grammar.{kinds-of, refused as refused-iff}
 use Rattle.machine.proofs.Decide.{tied-kinds}
 use Rattle.grammar.proofs.Recogniser.{at-end as end-verdict, later}

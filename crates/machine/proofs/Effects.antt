@@ -1,22 +1,20 @@
 -- What the writes of the machine do to the statements that the tables hold.
 use mathlib.Core.Path.{_≡_, refl, sym, ap, _∙_, subst}
-use mathlib.Core.List.{List, [], _∷_, _++_, append-nil, append-assoc, map-append}
+use mathlib.Core.List.{List, [], _∷_, _++_, append-nil, append-assoc}
 use mathlib.Core.Option.{Option, none, some}
-use Prim.Native.Nat.{ℕ, suc}
-use lib.ListN.{length}
-use Rattle.dataset.specs.Terms.{cell, Term, iri, blank, literal, Triple, Quad, rdf-first, rdf-rest, rdf-nil}
+use Prim.Native.Nat.{ℕ}
+use Rattle.dataset.specs.Terms.{Term, iri, literal, Triple, Quad, rdf-first}
 use Rattle.dataset.specs.Environment.{Environment}
 use Rattle.dataset.specs.Constructors.{iri-of}
 use Rattle.dataset.specs.Statements.{triple, in-graph}
-use Rattle.table.specs.Layout.{Row}
 use Rattle.table.specs.Tables.{number}
 use Rattle.table.proofs.Numbers.{Known, known-more, known-last, found-known}
-use Rattle.table.proofs.Held.{GraphIs, graph-more, RowIs, Holds, holds-more, holds-last}
+use Rattle.table.proofs.Held.{GraphIs, graph-more, Holds, holds-more, holds-last}
 use Rattle.token.specs.Tokens.{Token}
 use Rattle.text.specs.Text.{Text}
-use Rattle.machine.specs.Memory.{Memory, Write, Done, term, term-by, new-term, typed, typed-by, iri-term, row, enter}
-use Rattle.machine.specs.Frame.{Place, top, subject-before, object-of, element-of, Cells, no-cell, cells}
-use Rattle.machine.specs.Rules.{hold, new-cell, end-list}
+use Rattle.machine.specs.Memory.{Memory, term, term-by, new-term, typed, typed-by, iri-term, row}
+use Rattle.machine.specs.Frame.{Place, top, subject-before, object-of, element-of}
+use Rattle.machine.specs.Rules.{hold}
 
 -- The memory has this environment, this graph open, and its tables hold these quads.
 pub record At (m : Memory) (e : Environment) (g : Option Term) (qs : List Quad) : Type 0 where

@@ -1,30 +1,30 @@
 -- What rules write only adds to rows and terms, and what is in force after a token is what the directives so far say.
-use mathlib.Core.Path.{_≡_, refl, sym, ap, ap₂, _∙_, subst}
+use mathlib.Core.Path.{_≡_, refl, sym, ap, _∙_, subst}
 use mathlib.Core.List.{List, [], _∷_, _++_, append-nil, append-assoc}
 use mathlib.Core.Bool.{Bool, true, false, not, _||_}
 use mathlib.Core.Option.{Option, none, some}
-use Prim.Native.Nat.{ℕ, suc, _+_, _≤_}
+use Prim.Native.Nat.{ℕ, _+_, _≤_}
 use native.Mathlib.Omega.{arith}
 use native.Mathlib.Nat.{add-zero}
 use lib.Dec.{T, eqb, leb, leb→le}
 use lib.ListN.{length, length-append}
 use Rattle.text.specs.Text.{Text, cond}
 use Rattle.text.proofs.Booleans.{all, and-0, and-1}
-use Rattle.text.proofs.Compare.{by, contrary}
+use Rattle.text.proofs.Compare.{contrary}
 use Rattle.token.specs.Kind.{Kind, kind-code, among, at-prefix, at-base, PREFIX, BASE, IRIREF, «PNAME_NS», dot}
-use Rattle.token.specs.Tokens.{Token, has-kind}
+use Rattle.token.specs.Tokens.{Token}
 use Rattle.token.proofs.KindCodes.{same, same-eq}
 use Rattle.grammar.specs.Productions.{Mode, trig, turtle}
 use Rattle.dataset.specs.Terms.{Term, label, bracket as bracket-node, cell, iri, blank, literal, tagged, rdf-type, rdf-first, rdf-rest, rdf-nil, xsd-string, xsd-integer, xsd-decimal, xsd-double, xsd-boolean}
 use Rattle.dataset.specs.Environment.{Environment}
-use Rattle.dataset.specs.Constructors.{InForce, Awaited, nothing, prefix-name as prefix-awaited, new-base as base-awaited, awaiting, after-token, directive-token, iri-of, string-text, tag, node-label, prefix}
+use Rattle.dataset.specs.Constructors.{InForce, nothing, prefix-name as prefix-awaited, new-base as base-awaited, awaiting, after-token, directive-token, iri-of, string-text, tag, node-label, prefix}
 use Rattle.table.specs.Layout.{Row}
-use Rattle.table.specs.Tables.{number, store-size}
+use Rattle.table.specs.Tables.{number}
 use Rattle.table.proofs.Numbers.{not-none}
-use Rattle.machine.specs.Memory.{Memory, Write, return, _>>=_, _>>_, Done, done, term, term-by, new-term, typed, typed-by, iri-term, row, enter, declare-prefix, declare-base}
+use Rattle.machine.specs.Memory.{Memory, Write, return, _>>=_, _>>_, done, term, term-by, new-term, typed, typed-by, iri-term, row, enter, declare-prefix, declare-base}
 use Rattle.machine.specs.Step.{awaited-by}
-use Rattle.machine.specs.Frame.{Ending, full-stop, brace, bracket-end, Place, top, subject-before, object-of, element-of, Cells, no-cell, cells, Frame, graph-label, closing-label, graph-body, label-or-subject, triples-or-end, verb, verb-or-end, object, after-object, after-semicolon, bracket, list, suffix, datatype, Directive, prefix-name, namespace-of, new-base, last-dot, Open, directive, statement}
-use Rattle.machine.specs.Rules.{Rule, _⇒_, find-rule, hold, new-cell, extended, end-list, after-node, after-properties, list-place, Opening, label-term, end-rules, verb-rules, subject-rules, simple, string, object-rules, frame-rules, directive-rules, above, statement-rules, document-rules, rules}
+use Rattle.machine.specs.Frame.{Ending, full-stop, brace, bracket-end, Place, top, subject-before, object-of, element-of, Cells, no-cell, cells, Frame, graph-label, closing-label, graph-body, label-or-subject, triples-or-end, verb, verb-or-end, object, after-object, after-semicolon, bracket, list, suffix, datatype, prefix-name, namespace-of, new-base, last-dot, Open, directive, statement}
+use Rattle.machine.specs.Rules.{Rule, _⇒_, find-rule, hold, new-cell, extended, end-list, after-node, after-properties, list-place, Opening, label-term, end-rules, verb-rules, subject-rules, simple, string, object-rules, frame-rules, above, statement-rules, rules}
 
 -- Rows and terms are only added.
 pub record Extends (m m′ : Memory) : Type 0 where

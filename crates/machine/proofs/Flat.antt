@@ -1,17 +1,16 @@
 -- A stack and its flat form have the same texts.
-use mathlib.Core.Path.{_≡_, refl, sym, ap, ap₂, _∙_, subst}
-use mathlib.Core.Logic.{_⊎_, inl, inr, ⊎-elim}
+use mathlib.Core.Path.{_≡_, refl, ap, _∙_, subst}
+use mathlib.Core.Logic.{_⊎_, ⊎-elim}
 use mathlib.Core.List.{List, [], _∷_, _++_, map}
 use mathlib.Core.Bool.{Bool, true, false}
-use mathlib.Core.Option.{Option}
 use Prim.Native.Nat.{ℕ, zero, suc}
-use Rattle.grammar.specs.Ebnf.{Expr, tok, nt, _⨾_, _∣_, star, opt}
+use Rattle.grammar.specs.Ebnf.{tok, nt, _⨾_, _∣_, star, opt}
 use Rattle.grammar.proofs.KindTrees.{Tree, node, both}
-use Rattle.grammar.proofs.Recogniser.{Stack, verdict}
+use Rattle.grammar.proofs.Recogniser.{verdict}
 use Rattle.token.proofs.KindCodes.{same, same-eq, same-refl}
 use Rattle.token.specs.Kind.{Kind}
 use Rattle.grammar.specs.Productions.{Nonterminal, Mode, production}
-use Rattle.grammar.proofs.Trees.{yield, yields, Forest, nil, _▹_, Any, here, there, any-left, any-right, any-cases}
+use Rattle.grammar.proofs.Trees.{yield, yields, Forest, _▹_, Any, here, there, any-left, any-right, any-cases}
 use Rattle.grammar.proofs.Modes.{levels, passes}
 use Rattle.grammar.proofs.Equal.{equal}
 use Rattle.grammar.proofs.Onto.{onto}

@@ -1,17 +1,15 @@
 -- The machine's move agrees with the grammar's at every frame and kind: computed tests.
-use mathlib.Core.Path.{_≡_, refl, sym, ap, _∙_}
-use mathlib.Core.List.{List, [], _∷_, map}
+use mathlib.Core.Path.{_≡_, refl}
+use mathlib.Core.List.{[], map}
 use mathlib.Core.Bool.{Bool, true, false}
-use Prim.Native.Nat.{ℕ}
-use lib.ListN.{getD, List·getD-map}
 use Rattle.grammar.proofs.Recogniser.{gate, nullE, nullN, null, nullS, afterE, afterN, after, step}
 use Rattle.token.proofs.KindCodes.{same, each-kind}
-use Rattle.token.specs.Kind.{Kind, kinds, kind-code, dot}
+use Rattle.token.specs.Kind.{Kind, kinds}
 use Rattle.grammar.specs.Productions.{Mode, trig, turtle, production}
 use Rattle.grammar.proofs.Nonterminals.{nonterminal-code}
 use Rattle.token.specs.Tokens.{Token}
 use Rattle.machine.specs.Memory.{Memory}
-use Rattle.machine.specs.Frame.{Ending, full-stop, brace, bracket-end, Place, top, subject-before, object-of, element-of, Cells, no-cell, cells, Frame, graph-label, closing-label, graph-body, label-or-subject, triples-or-end, verb, verb-or-end, object, after-object, after-semicolon, bracket, list, suffix, datatype, Directive, prefix-name, namespace-of, new-base, last-dot, Open, directive, statement}
+use Rattle.machine.specs.Frame.{full-stop, brace, bracket-end, top, subject-before, object-of, element-of, no-cell, cells, Frame, graph-label, closing-label, graph-body, label-or-subject, triples-or-end, verb, verb-or-end, object, after-object, after-semicolon, bracket, list, suffix, datatype, Directive, prefix-name, namespace-of, new-base, last-dot, directive, statement}
 use Rattle.machine.specs.Rules.{find-rule, frame-rules, rules}
 use Rattle.machine.proofs.Stands.{stands, stands-open, grammar-move, frames-move, open-move}
 

@@ -1,14 +1,13 @@
 -- What acceptance and 8 say of derivations.
 use mathlib.Core.Path.{_≡_, refl, sym, ap, _∙_, subst}
-use mathlib.Core.Logic.{_⊎_, inl, inr, _↔_}
-use mathlib.Core.List.{List, [], _∷_}
-use mathlib.Core.Bool.{Bool, true, false, not}
+use mathlib.Core.Logic.{_⊎_, inl, inr}
+use mathlib.Core.List.{List, []}
+use mathlib.Core.Bool.{not}
 use mathlib.Core.Option.{Option, none, some}
-use Prim.Native.Nat.{ℕ, _≤_}
+use Prim.Native.Nat.{ℕ}
 use native.Mathlib.Omega.{arith}
 use lib.Dec.{T, eqb}
 use Rattle.grammar.specs.Productions.{Grammatical, GrammarFailsAt, Mode, trig, turtle, production, root, trigDoc, turtleDoc}
-use Rattle.grammar.specs.Ebnf.{nt}
 use Rattle.grammar.proofs.Recogniser.{verdict}
 use Rattle.token.proofs.KindCodes.{same, same-eq, same-refl}
 use Rattle.grammar.proofs.Modes.{levels, grammar, passes}
@@ -17,9 +16,9 @@ use Rattle.grammar.proofs.Grammar.{accepted as accepted-iff, refused as refused
 use Rattle.grammar.proofs.Equal.{opened}
 use Rattle.text.specs.Text.{Text}
 use Rattle.token.specs.Tokens.{Token, Lexeme, tokens-of, readable, place-of}
-use Rattle.machine.specs.Memory.{Memory, start-memory}
-use Rattle.machine.specs.Frame.{Open, statement}
-use Rattle.machine.specs.Step.{Room, State, Outcome, accepted, refused, run}
+use Rattle.machine.specs.Memory.{Memory}
+use Rattle.machine.specs.Frame.{statement}
+use Rattle.machine.specs.Step.{Room, Outcome, accepted, refused, run}
 use Rattle.machine.specs.Read.{start-state}
 use Rattle.machine.proofs.Stands.{stands-open}
 use Rattle.machine.proofs.Link.{machine-verdict, link}

@@ -1,33 +1,26 @@
 -- The run and the grammar: when the machine accepts, when it answers 8, and when another refusal stands before.
-use mathlib.Core.Path.{_≡_, refl, sym, ap, ap₂, _∙_, subst}
+use mathlib.Core.Path.{_≡_, refl, sym, ap, subst}
 use mathlib.Core.Logic.{_⊎_, inl, inr}
-use mathlib.Core.List.{List, [], _∷_, _++_, map}
-use mathlib.Core.Bool.{Bool, true, false, _&&_, _||_, not}
+use mathlib.Core.List.{List, [], _∷_}
+use mathlib.Core.Bool.{Bool, true, false, not}
 use mathlib.Core.Option.{Option, none, some}
-use Prim.Native.Nat.{ℕ, zero, suc, _≤_, _<_, zero-le, suc-le-suc}
+use Prim.Native.Nat.{ℕ, suc, _≤_, _<_, zero-le, suc-le-suc}
 use native.Mathlib.Omega.{arith}
 use lib.Dec.{T, eqb, leb}
 use lib.ListN.{drop}
-use Rattle.grammar.specs.Productions.{Grammatical, GrammarFailsAt, Mode, trig, turtle, production, root, trigDoc, turtleDoc}
-use Rattle.grammar.specs.Ebnf.{nt}
-use Rattle.grammar.proofs.Recogniser.{at-end as end-verdict, later, verdict}
-use Rattle.token.proofs.KindCodes.{same, same-eq, same-refl}
-use Rattle.grammar.proofs.Modes.{grammar, passes}
-use Rattle.token.specs.Kind.{Kind}
+use Rattle.grammar.specs.Productions.{Mode}
+use Rattle.grammar.proofs.Recogniser.{at-end as end-verdict, later}
 use Rattle.text.proofs.Booleans.{all, and-0, and-1}
-use Rattle.grammar.proofs.Grammar.{accepted as derives-accepted, refused as fails-refused, kinds-of}
-use Rattle.grammar.proofs.Equal.{opened}
-use Rattle.text.specs.Text.{Text, cond}
+use Rattle.grammar.proofs.Grammar.{kinds-of}
+use Rattle.text.specs.Text.{cond}
 use Rattle.token.specs.Tokens.{Token, Lexeme, token, unreadable, tokens-of, readable, place-of}
 use Rattle.machine.specs.Memory.{Memory, Write}
-use Rattle.machine.specs.Frame.{Frame, Open, directive, statement}
+use Rattle.machine.specs.Frame.{Open, directive, statement}
 use Rattle.machine.specs.Rules.{find-rule, rules}
-use Rattle.machine.specs.Step.{Room, State, Test, _when_, first-refusal, Next, go, stop, answer, obeyed, tests, step, tied-to, Outcome, accepted, refused, at-end, onward, run}
+use Rattle.machine.specs.Step.{Room, State, Test, _when_, first-refusal, answer, obeyed, tests, step, tied-to, Outcome, accepted, refused, at-end, onward, run}
 use Rattle.machine.specs.Refusals.{no-character, missing}
-use Rattle.machine.specs.Read.{start-state}
-use Rattle.machine.proofs.Stands.{stands-open}
 use Rattle.machine.proofs.Decide.{tied-kinds}
-use Rattle.machine.proofs.Link.{follow, finished, machine-verdict, link}
+use Rattle.machine.proofs.Link.{follow, finished, machine-verdict}
 
 pub tied-same : (ls : List Lexeme) → tied-to ls ≡ tied-kinds (kinds-of (tokens-of ls))
 unfolding tokens-of

@@ -1,17 +1,16 @@
 -- The machine's grammar decisions are those of the grammar.
-use mathlib.Core.Path.{_≡_, refl, sym, ap, ap₂, _∙_, subst}
+use mathlib.Core.Path.{_≡_, refl, sym, ap, ap₂, _∙_}
 use mathlib.Core.List.{List, [], _∷_, _++_, map}
 use mathlib.Core.Bool.{Bool, true, false, _&&_, _||_, not}
 use mathlib.Core.Option.{Option, none, some}
-use Prim.Native.Nat.{ℕ, zero, suc}
+use Prim.Native.Nat.{ℕ}
 use native.Mathlib.Omega.{arith}
 use lib.Dec.{T}
-use Rattle.grammar.specs.Ebnf.{Expr, nt}
-use Rattle.grammar.proofs.Recogniser.{Stack, isSome, at-end, later, at-token, gate, nullE, nullN, null, nullS, step, someNull, verdict}
+use Rattle.grammar.proofs.Recogniser.{isSome, at-end, later, at-token, nullE, null, nullS, step, someNull, verdict}
 use Rattle.token.proofs.KindCodes.{same}
 use Rattle.token.specs.Kind.{Kind, among}
 use Rattle.grammar.specs.Productions.{Mode, trig, turtle, production}
-use Rattle.text.proofs.Booleans.{all, and-0, and-1, not-true}
+use Rattle.text.proofs.Booleans.{all, and-0, and-1}
 use Rattle.grammar.proofs.Onto.{onto}
 use Rattle.grammar.proofs.Grammar.{kinds-of}
 use Rattle.grammar.proofs.Modes.{levels}

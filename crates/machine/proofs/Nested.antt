@@ -1,20 +1,20 @@
 -- The machine and the construction, further: properties, brackets and lists.
 use mathlib.Core.Path.{_≡_, refl, sym, ap, _∙_}
 use mathlib.Core.List.{List, [], _∷_, _++_, append-assoc}
-use mathlib.Core.Bool.{Bool, true, false}
+use mathlib.Core.Bool.{false}
 use mathlib.Core.Option.{Option, none, some}
 use Prim.Native.Nat.{ℕ}
 use Rattle.token.specs.Kind.{Kind, dot, semicolon, close-brace, open-bracket, close-bracket, open-paren, close-paren, kw-a, IRIREF, «PNAME_NS», «PNAME_LN»}
 use Rattle.grammar.specs.Productions.{Mode}
 use Rattle.token.specs.Tokens.{Token}
-use Rattle.machine.specs.Memory.{Memory, Write, Done, return, _>>=_, term, iri-term}
+use Rattle.machine.specs.Memory.{Memory, Write, Done, _>>=_, term, iri-term}
 use Rattle.dataset.specs.Terms.{iri, rdf-type}
-use Rattle.machine.specs.Frame.{Ending, full-stop, brace, bracket-end, Place, top, subject-before, object-of, element-of, Cells, no-cell, Frame, label-or-subject, verb, verb-or-end, object, after-object, after-semicolon, bracket, list, Open, statement}
+use Rattle.machine.specs.Frame.{Ending, full-stop, brace, bracket-end, Place, top, subject-before, object-of, element-of, Cells, no-cell, Frame, label-or-subject, verb, verb-or-end, object, after-object, after-semicolon, bracket, list, statement}
 use Rattle.machine.specs.Rules.{rules, after-node, extended}
-use Rattle.machine.specs.Construction.{Node, simple, cell-of, bracket-node, collection-node, elements, verb-objects, more-properties, properties, bracket-term}
+use Rattle.machine.specs.Construction.{Node, simple, cell-of, bracket-node, collection-node, elements, more-properties, properties, bracket-term}
 use Rattle.machine.proofs.Decide.{ties, tied-kinds}
 use Rattle.grammar.proofs.Grammar.{kinds-of}
-use Rattle.machine.proofs.Agreement.{final, taken, Context, in-object, in-list, frame-of, begin-of, after-of, Writes, first, Iris, reference, name, namespace}
+use Rattle.machine.proofs.Agreement.{final, taken, in-object, in-list, begin-of, Writes, first, Iris, reference, name, namespace}
 
 -- What ends predicates and objects.
 pub data Closes : Ending → Kind → Type 0 where

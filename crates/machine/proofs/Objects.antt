@@ -1,20 +1,18 @@
 -- The machine writes what the construction says, for every derivation tree: the relation, and its induction.
-use mathlib.Core.Path.{_≡_, refl, sym, ap, _∙_, subst}
-use mathlib.Core.Logic.{_⊎_, inl, inr}
-use mathlib.Core.List.{List, [], _∷_, _++_, append-assoc, append-nil}
-use mathlib.Core.Bool.{Bool, true, false}
-use mathlib.Core.Option.{Option, none, some}
-use Prim.Native.Nat.{ℕ}
+use mathlib.Core.Path.{_≡_, refl}
+use mathlib.Core.Logic.{inl, inr}
+use mathlib.Core.List.{List, [], _∷_, _++_}
+use mathlib.Core.Bool.{false}
+use mathlib.Core.Option.{none, some}
 use Rattle.grammar.specs.Ebnf.{Expr, tok, nt, _⨾_, _∣_, star, opt, Tree, leaf, node, both, left, right, done as done-tree, more, absent, present, leaves}
-use Rattle.token.specs.Kind.{Kind, comma, open-bracket, close-bracket, open-paren, close-paren, kw-a, kw-true, kw-false, carets, IRIREF, «PNAME_NS», «PNAME_LN», «BLANK_NODE_LABEL», LANGTAG, INTEGER, DECIMAL, DOUBLE}
+use Rattle.token.specs.Kind.{Kind}
 use Rattle.grammar.specs.Productions.{Nonterminal, Mode, trig, turtle, production, trigDoc, block, triplesOrGraph, triples2, wrappedGraph, triplesBlock, labelOrSubject, turtleDoc, statement as statement-nt, directive as directive-nt, prefixID, base as base-nt, sparqlPrefix, sparqlBase, triples, predicateObjectList, objectList, verb as verb-nt, subject as subject-nt, predicate as predicate-nt, object as object-nt, literal as literal-nt, blank as blank-nt, blankNodePropertyList, collection, NumericLiteral, RDFLiteral, BooleanLiteral, String as String-nt, iri as iri-nt, PrefixedName, BlankNode, ANON, kind-of}
 use Rattle.token.specs.Tokens.{Token}
-use Rattle.machine.specs.Memory.{Write, Done}
 use Rattle.machine.specs.Construction.{Node, Meaning, action}
 use Rattle.grammar.specs.Meaning.{Parts, meaning}
-use Rattle.machine.proofs.Decide.{ties, tied-kinds}
+use Rattle.machine.proofs.Decide.{tied-kinds}
 use Rattle.grammar.proofs.Grammar.{kinds-of}
-use Rattle.machine.proofs.Agreement.{Writes, Iris, reference, name, namespace, Stringy}
+use Rattle.machine.proofs.Agreement.{Writes, Iris, Stringy}
 use Rattle.machine.proofs.Nested.{Verb, WritesObjects, WritesProperties}
 use Rattle.machine.proofs.Subjects.{HeadBy, BracketBy, ListBy, LabelBy}
 use Rattle.machine.proofs.Statements.{SubjectBy, TriplesBy, BlockBy, GraphBy, StatementBy, DocumentBy}

@@ -1,11 +1,10 @@
 -- The order of refusals and of writing, in documents that would show a change, by computing.
 use mathlib.Core.Path.{_≡_, refl}
-use mathlib.Core.List.{List, [], _∷_, _++_, map}
+use mathlib.Core.List.{List, [], _∷_, map}
 use Prim.Native.Nat.{ℕ}
 use Prim.Native.String.{String}
-use Rattle.text.specs.Text.{Text, ascii}
-use Rattle.table.specs.Tables.{rows-words, terms-words}
-use Rattle.machine.specs.Read.{Lent, Answer, After, kept, zeroed, written, contents, read, computing}
+use Rattle.text.specs.Text.{ascii}
+use Rattle.machine.specs.Read.{Answer, After, kept, zeroed, written, contents, read, computing}
 
 -- A document with so many row words, term words and store bytes, and its answer's number and position.
 pub record Call : Type 0 where

@@ -1,16 +1,16 @@
 -- A document of n bytes makes at most 2n rows: a token makes two at the most, and no two tokens begin with the same byte.
 use mathlib.Core.Path.{_≡_, refl, sym, ap, _∙_}
-use mathlib.Core.List.{List, [], _∷_, _++_}
+use mathlib.Core.List.{List, [], _∷_}
 use mathlib.Core.Bool.{Bool, true, false, _||_}
 use mathlib.Core.Option.{Option, none, some}
 use Prim.Native.Nat.{ℕ, zero, suc, pred, _+_, _*_, _-_, _≤_}
 use native.Mathlib.Omega.{arith}
 use lib.ListN.{length, take, drop}
 use Rattle.text.specs.Text.{Text, cond, is}
-use Rattle.utf8.specs.Utf8.{decode-from, decode, sequence-size, code-point, width}
+use Rattle.utf8.specs.Utf8.{decode-from, decode, sequence-size, width}
 use Rattle.token.specs.Regular.{Match, nothing, hit}
 use Rattle.token.specs.Terminals.{token-at}
-use Rattle.token.specs.Tokens.{Token, Lexeme, token, unreadable, Cutting, between, comment, inside, white-space, in-comment, passed, lexemes-from, lexemes, tokens-of}
+use Rattle.token.specs.Tokens.{Token, token, unreadable, Cutting, between, comment, inside, white-space, in-comment, passed, lexemes-from, lexemes, tokens-of}
 use Rattle.token.specs.Kind.{kind-of-code}
 use Rattle.grammar.specs.Productions.{Mode}
 use Rattle.grammar.proofs.Grammar.{kinds-of}

@@ -1,6 +1,6 @@
 -- More computed tests on the frames: none may be empty, and the optional part of a string is decided by the next token.
-use mathlib.Core.List.{List, [], _∷_}
-use mathlib.Core.Bool.{Bool, true, false}
+use mathlib.Core.List.{[]}
+use mathlib.Core.Bool.{true, false}
 use lib.Dec.{T}
 use Rattle.grammar.proofs.Recogniser.{isSome, gate, nullE, nullN, null, nullS, afterE, afterN, after, step}
 use Rattle.token.proofs.KindCodes.{same, all-kinds}
@@ -8,7 +8,7 @@ use Rattle.token.specs.Kind.{Kind, kinds}
 use Rattle.grammar.specs.Productions.{Mode, trig, turtle, production}
 use Rattle.grammar.proofs.Modes.{levels}
 use Rattle.text.proofs.Booleans.{all}
-use Rattle.machine.specs.Frame.{Ending, full-stop, brace, bracket-end, Place, top, subject-before, object-of, element-of, Cells, no-cell, cells, Frame, graph-label, closing-label, graph-body, label-or-subject, triples-or-end, verb, verb-or-end, object, after-object, after-semicolon, bracket, list, suffix, datatype, Directive, prefix-name, namespace-of, new-base, last-dot, Open, directive, statement}
+use Rattle.machine.specs.Frame.{full-stop, brace, bracket-end, top, subject-before, object-of, element-of, Frame, graph-label, closing-label, graph-body, label-or-subject, triples-or-end, verb, verb-or-end, object, after-object, after-semicolon, bracket, list, suffix, datatype, Directive, prefix-name, namespace-of, new-base, last-dot, directive, statement}
 use Rattle.machine.proofs.Stands.{stands, stands-open}
 use Rattle.machine.proofs.Beneath.{solid}
 use Rattle.machine.proofs.Decide.{tame, tame-all, is-nil}

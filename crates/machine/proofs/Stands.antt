@@ -1,12 +1,11 @@
 -- What each frame stands for in the grammar: the stacks of expressions that are still to be read.
-use mathlib.Core.Path.{_≡_, refl}
 use mathlib.Core.List.{List, [], _∷_, _++_, map}
 use mathlib.Core.Bool.{Bool, true, false}
 use mathlib.Core.Option.{Option, none, some}
 use Prim.Native.Nat.{ℕ, zero, suc}
 use lib.Dec.{eqb}
 use Rattle.grammar.specs.Ebnf.{Expr, tok, nt, _⨾_, _∣_, star, opt}
-use Rattle.grammar.proofs.Recogniser.{Stack, isSome, step}
+use Rattle.grammar.proofs.Recogniser.{Stack, step}
 use Rattle.token.proofs.KindCodes.{same}
 use Rattle.token.specs.Kind.{Kind, dot, comma, semicolon, close-brace, close-bracket, close-paren, IRIREF, «PNAME_NS», LANGTAG, carets}
 use Rattle.grammar.specs.Productions.{Nonterminal, Mode, trig, turtle, production, directive as directive-nt, block, statement as statement-nt, labelOrSubject, wrappedGraph, predicateObjectList, triplesBlock, verb as verb-nt, objectList, object as object-nt, iri}
@@ -15,7 +14,7 @@ use Rattle.grammar.proofs.Onto.{onto}
 use Rattle.grammar.proofs.Modes.{levels}
 use Rattle.text.specs.Text.{cond}
 use Rattle.machine.specs.Memory.{Memory, Write}
-use Rattle.machine.specs.Frame.{Ending, full-stop, brace, bracket-end, Place, top, subject-before, object-of, element-of, Cells, no-cell, cells, Frame, graph-label, closing-label, graph-body, label-or-subject, triples-or-end, verb, verb-or-end, object, after-object, after-semicolon, bracket, list, suffix, datatype, Directive, prefix-name, namespace-of, new-base, last-dot, Open, directive, statement}
+use Rattle.machine.specs.Frame.{Ending, full-stop, brace, bracket-end, Place, top, subject-before, object-of, element-of, Frame, graph-label, closing-label, graph-body, label-or-subject, triples-or-end, verb, verb-or-end, object, after-object, after-semicolon, bracket, list, suffix, datatype, Directive, prefix-name, namespace-of, new-base, last-dot, Open, directive, statement}
 
 abbrev pub E : Type 0
 E = Expr Kind Nonterminal

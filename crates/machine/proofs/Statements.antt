@@ -1,24 +1,23 @@
 -- Statements, graphs, directives and documents: the machine writes what the construction says.
-use mathlib.Core.Path.{_≡_, refl, sym, ap, ap₂, _∙_, subst}
-use mathlib.Core.List.{List, [], _∷_, _++_, append-assoc, append-nil}
-use mathlib.Core.Logic.{_⊎_, inl, inr}
-use mathlib.Core.Bool.{Bool, true, false}
+use mathlib.Core.Path.{_≡_, refl, sym, ap, _∙_}
+use mathlib.Core.List.{List, [], _∷_, _++_, append-assoc}
+use mathlib.Core.Logic.{inr}
+use mathlib.Core.Bool.{true, false}
 use mathlib.Core.Option.{Option, none, some}
 use Prim.Native.Nat.{ℕ}
 use Rattle.token.specs.Kind.{Kind, at-prefix, at-base, PREFIX, BASE, GRAPH, dot, open-brace, close-brace, close-bracket, IRIREF, «PNAME_NS»}
 use Rattle.grammar.specs.Productions.{Mode, trig, turtle}
 use Rattle.token.specs.Tokens.{Token}
 use Rattle.machine.specs.Memory.{Memory, Write, Done, enter, _>>=_, _>>_}
-use Rattle.dataset.specs.Constructors.{prefix, iri-of}
-use Rattle.machine.specs.Frame.{Ending, full-stop, brace, bracket-end, Place, top, subject-before, Frame, graph-label, graph-body, label-or-subject, triples-or-end, verb, verb-or-end, Open, directive, statement, Directive, prefix-name, namespace-of, new-base, last-dot}
-use Rattle.machine.specs.Rules.{rules, after-node, after-properties, list-place}
-use Rattle.machine.specs.Construction.{Node, alone, perhaps, triples-of, or-nothing, graph-of, later-triples, prefix-of, base-of}
+use Rattle.dataset.specs.Constructors.{prefix}
+use Rattle.machine.specs.Frame.{Ending, full-stop, brace, bracket-end, top, subject-before, Frame, graph-body, label-or-subject, triples-or-end, verb, verb-or-end, Open, directive, statement, prefix-name, namespace-of, new-base, last-dot}
+use Rattle.machine.specs.Rules.{rules}
+use Rattle.machine.specs.Construction.{Node, alone, triples-of, or-nothing, graph-of, prefix-of, base-of}
 use Rattle.machine.proofs.Decide.{ties, tied-kinds}
 use Rattle.grammar.proofs.Grammar.{kinds-of}
 use Rattle.machine.proofs.Agreement.{final, taken, first}
-use Rattle.machine.proofs.Nested.{Closes, dot-ends, dot-in-braces, brace-ends, bracket-ends, VerbFrame, at-verb, at-verb-or-end, at-label, WritesProperties}
+use Rattle.machine.proofs.Nested.{Closes, dot-ends, dot-in-braces, brace-ends, bracket-ends, at-verb, at-verb-or-end, at-label, WritesProperties}
 use Rattle.machine.proofs.Subjects.{SubjectAt, in-braces, outside-trig, outside-turtle, HeadBy, BracketBy, ListBy, LabelBy}
-use Rattle.dataset.specs.Terms.{label}
 
 -- Where a graph's braces are awaited: the graph's label, and what is open below.
 pub data GraphAt : Mode → Open → ℕ → List Frame → Type 0 where

@@ -1,7 +1,6 @@
 -- Nodes that are subjects or graph labels: the machine writes what the construction says.
 use mathlib.Core.Path.{_≡_, refl, sym, ap, _∙_}
 use mathlib.Core.List.{List, [], _∷_, _++_, append-assoc}
-use mathlib.Core.Bool.{Bool, true, false}
 use Prim.Native.Nat.{ℕ}
 use Rattle.token.specs.Kind.{Kind, open-bracket, close-bracket, open-paren, close-paren, IRIREF, «PNAME_NS», «PNAME_LN», «BLANK_NODE_LABEL»}
 use Rattle.grammar.specs.Productions.{Mode, trig, turtle}
@@ -9,7 +8,7 @@ use Rattle.token.specs.Tokens.{Token}
 use Rattle.machine.specs.Memory.{Memory, Write, Done, term}
 use Rattle.dataset.specs.Terms.{label, blank}
 use Rattle.dataset.specs.Constructors.{node-label}
-use Rattle.machine.specs.Frame.{Ending, full-stop, brace, bracket-end, Place, top, subject-before, element-of, Cells, no-cell, cells, Frame, graph-label, closing-label, graph-body, triples-or-end, verb-or-end, bracket, list, Open, statement}
+use Rattle.machine.specs.Frame.{Ending, full-stop, brace, bracket-end, Place, top, subject-before, element-of, Cells, no-cell, cells, Frame, graph-label, closing-label, graph-body, triples-or-end, verb-or-end, bracket, Open, statement}
 use Rattle.machine.specs.Rules.{rules, after-node, after-properties, list-place, new-cell, extended}
 use Rattle.machine.specs.Construction.{Node, simple, iri-node, cell-of, bracket-node, collection-node, elements, alone, bracket-term}
 use Rattle.machine.proofs.Decide.{ties, tied-kinds}

@@ -2,7 +2,6 @@
 use mathlib.Core.Logic.{_⊎_, inl, inr}
 use mathlib.Core.List.{List, [], _∷_}
 use mathlib.Core.Option.{Option, none, some}
-use mathlib.Core.Bool.{Bool, true, false}
 use Prim.Native.Nat.{ℕ}
 use Rattle.text.specs.Text.{Text}
 use Rattle.token.specs.Tokens.{Token}
@@ -11,8 +10,8 @@ use Rattle.grammar.specs.Productions.{Nonterminal, Mode, trig, turtle, producti
 use Rattle.dataset.specs.Terms.{label, bracket as bracket-blank, iri, blank, tagged, rdf-type, xsd-string, xsd-integer, xsd-decimal, xsd-double, xsd-boolean}
 use Rattle.dataset.specs.Constructors.{string-text, tag, node-label, prefix}
 use Rattle.dataset.specs.Statements.{either, one-of-three, one-of-four}
-use Rattle.machine.specs.Memory.{Memory, start-memory, Write, return, _>>=_, _>>_, Done, done, term, new-term, typed, typed-by, iri-term, row, enter, declare-prefix, declare-base}
-use Rattle.machine.specs.Frame.{Place, top, subject-before, object-of, element-of, Cells, no-cell, cells}
+use Rattle.machine.specs.Memory.{Memory, start-memory, Write, return, _>>=_, _>>_, Done, done, term, new-term, typed, typed-by, iri-term, enter, declare-prefix, declare-base}
+use Rattle.machine.specs.Frame.{Place, top, subject-before, object-of, element-of, Cells, no-cell}
 use Rattle.machine.specs.Rules.{hold, new-cell, extended, end-list}
 
 -- A node that was read, and where it was put.

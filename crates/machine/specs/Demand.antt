@@ -1,15 +1,15 @@
 -- When a document is accepted, and when its grammar fails first: in words about the mode, the document and what is lent, and nothing else.
 use mathlib.Core.Path.{_≡_}
 use mathlib.Core.List.{List, [], _∷_, _++_}
-use mathlib.Core.Bool.{Bool, true, false}
+use mathlib.Core.Bool.{Bool, false}
 use mathlib.Core.Option.{Option, none, some}
-use Prim.Native.Nat.{ℕ, zero, suc, _≤_, _<_}
+use Prim.Native.Nat.{ℕ, zero, suc, _≤_}
 use lib.Dec.{T}
 use lib.ListN.{length, take, drop}
 use Rattle.text.specs.Text.{Text}
 use Rattle.utf8.specs.Utf8.{first-bad}
-use Rattle.token.specs.Tokens.{Token, Lexeme, token, unreadable, lexemes, tokens-of, readable, place-of}
-use Rattle.grammar.specs.Productions.{Mode, Derivation, Grammatical, GrammarFailsAt}
+use Rattle.token.specs.Tokens.{Token, Lexeme, token, unreadable, lexemes, tokens-of, readable}
+use Rattle.grammar.specs.Productions.{Mode, Grammatical, GrammarFailsAt}
 use Rattle.dataset.specs.Constructors.{in-force}
 use Rattle.table.specs.Tables.{store-size}
 use Rattle.machine.specs.Memory.{Memory, Write}

@@ -4,13 +4,13 @@ use mathlib.Core.List.{List, [], _∷_, _++_}
 use mathlib.Core.Bool.{Bool, true, false}
 use mathlib.Core.Option.{Option, none, some}
 use Prim.Native.Nat.{ℕ}
-use Rattle.text.specs.Text.{Text, cond}
-use Rattle.token.specs.Kind.{Kind, among, names, iris, strings, at-prefix, at-base, PREFIX, BASE, GRAPH, dot, semicolon, comma, open-bracket, close-bracket, open-paren, close-paren, open-brace, close-brace, kw-a, kw-true, kw-false, carets, IRIREF, «PNAME_NS», «BLANK_NODE_LABEL», LANGTAG, INTEGER, DECIMAL, DOUBLE}
+use Rattle.text.specs.Text.{cond}
+use Rattle.token.specs.Kind.{Kind, among, iris, strings, at-prefix, at-base, PREFIX, BASE, GRAPH, dot, semicolon, comma, open-bracket, close-bracket, open-paren, close-paren, open-brace, close-brace, kw-a, kw-true, kw-false, carets, IRIREF, «PNAME_NS», «BLANK_NODE_LABEL», LANGTAG, INTEGER, DECIMAL, DOUBLE}
 use Rattle.token.specs.Tokens.{Token}
 use Rattle.grammar.specs.Productions.{Mode, trig, turtle}
 use Rattle.dataset.specs.Terms.{label, bracket as bracket-node, cell as cell-node, iri, blank, tagged, rdf-type, rdf-first, rdf-rest, rdf-nil, xsd-string, xsd-integer, xsd-decimal, xsd-double, xsd-boolean}
 use Rattle.dataset.specs.Constructors.{string-text, tag, node-label, prefix}
-use Rattle.machine.specs.Memory.{Memory, Write, return, _>>=_, _>>_, Done, done, term, new-term, typed, typed-by, iri-term, row, enter, declare-prefix, declare-base}
+use Rattle.machine.specs.Memory.{Write, return, _>>=_, _>>_, Done, done, term, new-term, typed, typed-by, iri-term, row, enter, declare-prefix, declare-base}
 use Rattle.machine.specs.Frame.{Ending, full-stop, brace, bracket-end, Place, top, subject-before, object-of, element-of, Cells, no-cell, cells, Frame, graph-label, closing-label, graph-body, label-or-subject, triples-or-end, verb, verb-or-end, object, after-object, after-semicolon, bracket, list, suffix, datatype, Directive, prefix-name, namespace-of, new-base, last-dot, Open, directive, statement}
 
 -- ---- Rows

@@ -1,6 +1,6 @@
 -- One token at a time: the refusals in number order, and the run over the tokens.
 use mathlib.Core.List.{List, [], _∷_}
-use mathlib.Core.Bool.{Bool, true, false}
+use mathlib.Core.Bool.{Bool, false}
 use mathlib.Core.Option.{Option, none, some}
 use Prim.Native.Nat.{ℕ}
 use lib.Dec.{ltb}
@@ -12,8 +12,8 @@ use Rattle.grammar.specs.Productions.{Mode}
 use Rattle.dataset.specs.Constructors.{InForce, Awaited, nothing, prefix-name as prefix-awaited, new-base as base-awaited, namespace-of as namespace-awaited, awaiting}
 use Rattle.table.specs.Tables.{store-size}
 use Rattle.machine.specs.Memory.{Memory, Write}
-use Rattle.machine.specs.Frame.{Directive, prefix-name, namespace-of, new-base, last-dot, Open, directive, statement, Frame}
-use Rattle.machine.specs.Rules.{Rule, find-rule, rules}
+use Rattle.machine.specs.Frame.{prefix-name, namespace-of, new-base, last-dot, Open, directive, statement}
+use Rattle.machine.specs.Rules.{find-rule, rules}
 use Rattle.machine.specs.Refusals.{missing, no-character, undeclared, no-base, too-long, one-prefix-more, too-deep, new-depth}
 
 -- How many rows, terms and store bytes have room.

@@ -1,21 +1,18 @@
 -- Looking for a term among others, and what adding one changes.
 use mathlib.Core.Path.{_≡_, refl, sym, ap, _∙_}
 use mathlib.Core.List.{List, [], _∷_, _++_}
-use mathlib.Core.Bool.{Bool, true, false, _&&_}
+use mathlib.Core.Bool.{true}
 use mathlib.Core.Option.{Option, none, some}
 use Prim.Native.Nat.{ℕ, zero, suc, _+_, _<_, _≤_}
-use native.Mathlib.Nat.{zero-add}
 use native.Mathlib.Omega.{arith}
-use lib.Dec.{eqb}
 use borrow.Author.Tests.{eq-eqb}
 use lib.ListN.{length, getD, drop, drop-of-length-le}
 use lib.Seq.{drop-cons}
-use Rattle.text.specs.Text.{Text, cond, same-text}
-use Rattle.text.proofs.Booleans.{is-true}
+use Rattle.text.specs.Text.{Text, cond}
 use Rattle.text.proofs.Compare.{by, same-refl}
 use Rattle.dataset.specs.Terms.{Blank, label, bracket, cell, numbered, Term, iri, blank, literal, tagged}
 use Rattle.table.specs.Tables.{same-blank, same-term, number-from, number, term-at, or-zero}
-use Rattle.table.proofs.Numbers.{Known, known-zero, not-none, found-known}
+use Rattle.table.proofs.Numbers.{known-zero, not-none, found-known}
 
 same-blank-refl : (b : Blank) → same-blank b b ≡ true
 unfolding same-blank

@@ -1,11 +1,11 @@
 -- The statements that rows and terms hold.
-use mathlib.Core.Path.{_≡_, refl, sym, ap, ap₂, _∙_, subst}
+use mathlib.Core.Path.{_≡_, refl, ap, ap₂}
 use mathlib.Core.List.{List, [], _∷_, _++_}
 use mathlib.Core.Option.{Option, none, some}
 use Prim.Native.Nat.{ℕ, zero, suc}
-use Rattle.dataset.specs.Terms.{Term, Triple, Quad}
+use Rattle.dataset.specs.Terms.{Term, Quad}
 use Rattle.table.specs.Layout.{Row}
-use Rattle.table.specs.Tables.{term-at, or-nil, term-of, graph-of, quad-of, quads}
+use Rattle.table.specs.Tables.{or-nil, term-of, graph-of, quad-of, quads}
 use Rattle.table.proofs.Numbers.{Known, known-zero, known-more}
 
 -- The number is of the graph: 0 of the default graph, else its name's.

@@ -1,8 +1,7 @@
 -- How rows and terms lie in lent words. This is the one place that knows.
-use mathlib.Core.List.{List, [], _∷_, _++_}
-use mathlib.Core.Bool.{Bool}
+use mathlib.Core.List.{List, [], _∷_}
 use Prim.Native.Nat.{ℕ, pred, _+_, _*_, _/_}
-use lib.ListN.{getD, length, take, drop}
+use lib.ListN.{getD, take, drop}
 use Rattle.text.specs.Text.{Text}
 
 -- "A row is five words: graph, subject, predicate, object, position of the object's first byte."

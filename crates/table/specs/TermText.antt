@@ -1,11 +1,11 @@
 -- A term's text, asked for by its number.
-use mathlib.Core.Bool.{Bool, true, false, _&&_}
+use mathlib.Core.Bool.{Bool, _&&_}
 use mathlib.Core.Option.{Option, none, some}
 use Prim.Native.Nat.{ℕ, _+_, _*_}
 use lib.Dec.{leb}
 use lib.ListN.{length}
 use Rattle.text.specs.Text.{Text, cond, between}
-use Rattle.table.specs.Layout.{Entry, term-size, entry-at, iri-kind, tagged-kind, Slices, span}
+use Rattle.table.specs.Layout.{term-size, entry-at, iri-kind, tagged-kind, Slices, span}
 
 -- "number 0, one over the count, a count past its slice, a kind not 1 to 4 or a span outside the used store gives 18 and an empty part."
 unfoldable pub shows : Slices → ℕ → Bool

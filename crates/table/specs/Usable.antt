@@ -1,6 +1,6 @@
 -- Which tables the writer takes, whatever lent slices hold, and the statements in them.
 use mathlib.Core.List.{List, [], _∷_}
-use mathlib.Core.Bool.{Bool, true, false, not, _&&_, _||_}
+use mathlib.Core.Bool.{Bool, true, false, _&&_, _||_}
 use mathlib.Core.Option.{Option, none, some}
 use Prim.Native.Nat.{ℕ, zero, suc, _+_, _*_}
 use lib.Dec.{eqb, leb, ltb}
@@ -12,7 +12,7 @@ use Rattle.token.specs.Kind.{kind-code, LANGTAG}
 use Rattle.token.specs.Regular.{Match, nothing, hit}
 use Rattle.token.specs.Terminals.{token-at}
 use Rattle.iri.specs.Iri.{has-scheme}
-use Rattle.dataset.specs.Terms.{Blank, numbered, Term, iri, blank, literal, tagged, Triple, Quad}
+use Rattle.dataset.specs.Terms.{numbered, Term, iri, blank, literal, tagged, Quad}
 use Rattle.table.specs.Layout.{Row, row-size, row-at, Entry, term-size, entry-at, iri-kind, blank-kind, literal-kind, tagged-kind, Slices, span}
 
 abbrev pub is-none : Option ℕ → Bool
