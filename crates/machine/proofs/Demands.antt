@@ -35,7 +35,8 @@ use Rattle.machine.proofs.Judge.{tied-same, number-of, refusal-number}
 use Rattle.machine.proofs.Accepted.{agreement, accepted-tables}
 use Rattle.machine.proofs.Grammatical.{accepted-derives, machine-grammar}
 use Rattle.machine.proofs.Agreement.{final, at-finish, taken}
-use Rattle.machine.proofs.Extends.{Extends, extends-same, extends-both, some-same, in-force-rule, extends-rule}
+use Rattle.machine.proofs.Made.{some-same}
+use Rattle.machine.proofs.Extends.{Extends, extends-same, extends-both, in-force-rule, extends-rule}
 
 -- ---- Tests
 

@@ -16,7 +16,9 @@ pub mod Correct
 pub mod Accepted
 pub mod Effects
 pub mod Constructed
+pub mod Made
 pub mod Extends
 pub mod Demands
 pub mod Order
 pub mod Rows
+pub mod Distinct

@@ -31,9 +31,7 @@ use Rattle.machine.proofs.Demands.{finish-same}
 
 count-from : (doc : Text) (state : Cutting) (at : ℕ) (cs : List ℕ) → length (tokens-of (lexemes-from doc state at cs)) ≤ length cs
 unfolding lexemes-from tokens-of
-count-from doc between at [] = omega arith
-count-from doc comment at [] = omega arith
-count-from doc (inside k) at [] = omega arith
+count-from doc state at [] = omega arith
 count-from doc (inside k) at (c ∷ cs) = let h = count-from doc (passed (k - width c)) (at + width c) cs in omega arith
 count-from doc comment at (c ∷ cs) = let h = count-from doc (in-comment c) (at + width c) cs in omega arith
 count-from doc between at (c ∷ cs) =

@@ -59,7 +59,7 @@ same-term-eq (tagged s f) (tagged t g) h = ap₂ tagged (same-text-eq s t (and-0
 abbrev pub Known : List Term → ℕ → Term → Type 0
 Known ts n t = term-at ts n ≡ some t
 
-pub not-none : {A B : Type 0} {a : A} → _≡_ {A = Option A} none (some a) → B
+pub not-none {ℓ} : {A : Type 0} {B : Type ℓ} {a : A} → _≡_ {A = Option A} none (some a) → B
 not-none e = let z : _≡_ {A = ℕ} 0 1 = cc in absurd (omega arith)
 
 -- A number is of one term, and no term has the number 0.
