@@ -2,3 +2,5 @@
 pub mod Numbering
 pub mod Agreeing
 pub mod Tagging
+pub mod Parts
+pub mod Muting
