@@ -26,7 +26,7 @@ use Rattle.characters.specs.Names.{passes, CharAt}
 front : (s : Text) (i : ℕ) → getD (drop i s) 0 0 ≡ getD s i 0
 front s i = getD-drop i s 0 0 ∙ ap (λ (n : ℕ). getD s n 0) (add-zero i)
 
-first : (s : Text) (i c : ℕ) (t : Text) → drop i s ≡ encode c ++ t → ((c < 0x80) × (getD s i 0 ≡ c)) ⊎ ((0x80 ≤ c) × (0x80 ≤ getD s i 0))
+pub first : (s : Text) (i c : ℕ) (t : Text) → drop i s ≡ encode c ++ t → ((c < 0x80) × (getD s i 0 ≡ c)) ⊎ ((0x80 ≤ c) × (0x80 ≤ getD s i 0))
 first s i c t d =
     let f = sym (front s i) ∙ ap (λ (x : Text). getD x 0 0) d in
     ⊎-elim (λ v. inl (v .0, f ∙ v .1)) (λ v. inr (v .0, subst (λ (n : ℕ). 0x80 ≤ n) (sym f) (v .1))) (head c t)

@@ -138,12 +138,16 @@ module _ (s : Text) (z : State) (k j : ℕ) where
     where
       q1 : State
       q1 = step x q
+
       u3 : T (narrow x y && ltb 0 k && sends q (one-of x y) q1 k && mimics q z (one-of x y)) × T (mimics q1 z never)
       u3 = and-true (narrow x y && ltb 0 k && sends q (one-of x y) q1 k && mimics q z (one-of x y)) (mimics q1 z never) t
+
       u2 : T (narrow x y && ltb 0 k && sends q (one-of x y) q1 k) × T (mimics q z (one-of x y))
       u2 = and-true (narrow x y && ltb 0 k && sends q (one-of x y) q1 k) (mimics q z (one-of x y)) (u3 .0)
+
       u1 : T (narrow x y && ltb 0 k) × T (sends q (one-of x y) q1 k)
       u1 = and-true (narrow x y && ltb 0 k) (sends q (one-of x y) q1 k) (u2 .0)
+
       u0 : T (narrow x y) × T (ltb 0 k)
       u0 = and-true (narrow x y) (ltb 0 k) (u1 .0)
   word-on (x ∷ x′ ∷ low) (y ∷ up) q i t g m e =
@@ -166,10 +170,13 @@ module _ (s : Text) (z : State) (k j : ℕ) where
     where
       q1 : State
       q1 = step x q
+
       u2 : T (narrow x y && sends q (one-of x y) q1 j && mimics q z (one-of x y)) × T (spells q1 (x′ ∷ low) up z k j)
       u2 = and-true (narrow x y && sends q (one-of x y) q1 j && mimics q z (one-of x y)) (spells q1 (x′ ∷ low) up z k j) t
+
       u1 : T (narrow x y && sends q (one-of x y) q1 j) × T (mimics q z (one-of x y))
       u1 = and-true (narrow x y && sends q (one-of x y) q1 j) (mimics q z (one-of x y)) (u2 .0)
+
       u0 : T (narrow x y) × T (sends q (one-of x y) q1 j)
       u0 = and-true (narrow x y) (sends q (one-of x y) q1 j) (u1 .0)
 
@@ -180,14 +187,15 @@ module _ (s : Text) (z : State) (k j : ℕ) where
   word-first x y low up q i t h p g = record {
     from = omega arith;
     read = λ m e.
-      let d : agreeing (drop i s) (x ∷ low) (y ∷ up) ≡ cond (one-of x y (getD s i 0)) (suc (agreeing (drop (i + 1) s) low up)) 0 = rw (add-one, drop-cons s i 0 h) in
-      word-more (length low) i m (agreeing (drop (i + 1) s) low up)
-      (word-on low up (step x q) (i + 1) (u .1)
-      (letter-on j (record { test = u0 .1 }) h (one-low x y (getD s i 0) (u0 .0) p) p (λ _. (refl, refl)) g) (agreeing (drop (i + 1) s) low up) refl)
-      (e ∙ d ∙ ap (λ (b : Bool). cond b (suc (agreeing (drop (i + 1) s) low up)) 0) p)
+        let d : agreeing (drop i s) (x ∷ low) (y ∷ up) ≡ cond (one-of x y (getD s i 0)) (suc (agreeing (drop (i + 1) s) low up)) 0 = rw (add-one, drop-cons s i 0 h) in
+        word-more (length low) i m (agreeing (drop (i + 1) s) low up)
+        (word-on low up (step x q) (i + 1) (u .1)
+        (letter-on j (record { test = u0 .1 }) h (one-low x y (getD s i 0) (u0 .0) p) p (λ _. (refl, refl)) g) (agreeing (drop (i + 1) s) low up) refl)
+        (e ∙ d ∙ ap (λ (b : Bool). cond b (suc (agreeing (drop (i + 1) s) low up)) 0) p);
   }
     where
       u : T (narrow x y && sends q (one-of x y) (step x q) j) × T (spells (step x q) low up z k j)
       u = and-true (narrow x y && sends q (one-of x y) (step x q) j) (spells (step x q) low up z k j) t
+
       u0 : T (narrow x y) × T (sends q (one-of x y) (step x q) j)
       u0 = and-true (narrow x y) (sends q (one-of x y) (step x q) j) (u .0)

@@ -4,3 +4,6 @@ pub mod Agreeing
 pub mod Tagging
 pub mod Parts
 pub mod Muting
+pub mod Running
+pub mod Clearing
+pub mod Fronting

@@ -13,6 +13,15 @@ use Rattle.token.specs.Regular.{Re, Item, item, Match, nothing, hit, nullable, 
 use Rattle.automaton.specs.States.{State}
 use Rattle.automaton.specs.Run.{tok, seen-kind, seen-len, run}
 
+-- No token ends in a run over a text.
+abbrev pub Mute : State → List ℕ → Type 0
+Mute q [] = now-at q ≡ nothing
+Mute q (c ∷ cs) = (now-at q ≡ nothing) × Mute (step c q) cs
+
+pub mute-dead : (cs : List ℕ) → Mute [] cs
+mute-dead [] = refl
+mute-dead (c ∷ cs) = (refl, mute-dead cs)
+
 module _ (p : ℕ → Bool) where
   -- ---- All items are of the kinds
 
@@ -60,7 +69,7 @@ module _ (p : ℕ → Bool) where
       go : (m : Match) → Passes m
           → ((k n : ℕ) → (run (step c q) (i + width c) k n cs ≡ tok k n) ⊎ (p (run (step c q) (i + width c) k n cs .kind) ≡ true))
           → (run (step c q) (i + width c) (seen-kind m kind) (seen-len m (i + width c) len) cs ≡ tok kind len)
-            ⊎ (p (run (step c q) (i + width c) (seen-kind m kind) (seen-len m (i + width c) len) cs .kind) ≡ true)
+          ⊎ (p (run (step c q) (i + width c) (seen-kind m kind) (seen-len m (i + width c) len) cs .kind) ≡ true)
       go nothing u ih = ih kind len
       go (hit k n) u ih = ⊎-elim (λ e. inr (rw e u)) (λ e. inr e) (ih k (i + width c))
 
@@ -99,14 +108,10 @@ module _ (p : ℕ → Bool) where
       some : {X : Type 0} (m : Match) → least-of k m ≡ nothing → X
       some nothing e = let z : _≡_ {A = ℕ} 0 1 = cc in absurd (omega arith)
       some (hit j n) e = let z : _≡_ {A = ℕ} 0 1 = cc in absurd (omega arith)
+
       least : (m : Match) → p k ≡ false → Fails m → Fails (least-of k m)
       least nothing e u = e
       least (hit j n) e u = least-of-two false k j e u
-
-  -- No token ends in a run over a text.
-  abbrev pub Mute : State → List ℕ → Type 0
-  Mute q [] = now-at q ≡ nothing
-  Mute q (c ∷ cs) = (now-at q ≡ nothing) × Mute (step c q) cs
 
   pub mute-fails : (cs : List ℕ) (q : State) → Mute (only-kinds q) cs → Fails (best width q cs)
   mute-fails [] q u = fails-now q u
@@ -116,7 +121,3 @@ module _ (p : ℕ → Bool) where
       fin : (m : Match) → Fails m → (other : Match) → Fails other → Fails (later (width c) m other)
       fin nothing f other g = g
       fin (hit k n) f other g = f
-
-  pub mute-dead : (cs : List ℕ) → Mute [] cs
-  mute-dead [] = refl
-  mute-dead (c ∷ cs) = (refl, mute-dead cs)

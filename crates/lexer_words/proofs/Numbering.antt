@@ -78,7 +78,7 @@ m = record {
   sign-point = record { test = tt };
   sign-end = record { low = record { test = tt }; high = record { test = tt } };
   signed-point = record { test = tt };
-  signed-point-end = record { low = record { test = tt }; high = record { test = tt } }
+  signed-point-end = record { low = record { test = tt }; high = record { test = tt } };
 }
 
 -- A digit that leads on; v is what the code's test says.

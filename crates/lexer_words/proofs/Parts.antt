@@ -88,18 +88,18 @@ module _ (rs : List Range) (least : ℕ) (s : Text) (i n : ℕ) (h : i < length 
   local-char-is z = record {
     within = ch .within;
     plx = λ e.
-      absurd
-      (z
-      (⊎-elim (λ x. no-char 37 (omega arith) no37 (eqb-true (getD s i 0) 37 x)) (λ x. no-char 92 (omega arith) no92 (eqb-true (getD s i 0) 92 x))
-      (or-true (eqb (getD s i 0) 37) (eqb (getD s i 0) 92) e)));
-    char = λ _. ch
+        absurd
+        (z
+        (⊎-elim (λ x. no-char 37 (omega arith) no37 (eqb-true (getD s i 0) 37 x)) (λ x. no-char 92 (omega arith) no92 (eqb-true (getD s i 0) 92 x))
+        (or-true (eqb (getD s i 0) 37) (eqb (getD s i 0) 92) e)));
+    char = λ _. ch;
   }
 
   pub local-plx-is : n ≡ 0 → (m : ℕ) → m ≡ plx-size (drop i s) → LocalAt rs least s i m
   local-plx-is z m e = record {
     within = let o = plx-within s i h in omega arith;
     plx = λ _. e;
-    char = λ f. subst (λ (x : ℕ). CharAt rs least s i x) (z ∙ sym (nothing f)) ch
+    char = λ f. subst (λ (x : ℕ). CharAt rs least s i x) (z ∙ sym (nothing f)) ch;
   }
     where
       nothing : is-plx (getD s i 0) ≡ false → m ≡ 0
@@ -227,7 +227,7 @@ moves = record {
   label-next = record { low = record { test = tt }; high = record { test = tt } };
   label-end = record { low = record { test = tt }; high = record { test = tt } };
   label-point = record { test = tt };
-  label-dot-like = record { test = tt }
+  label-dot-like = record { test = tt };
 }
 
 neither : (a b : Bool) → a ≡ false → b ≡ false → (a || b) ≡ false
@@ -250,7 +250,7 @@ module _ (s : Text) where
             (λ e.
             record {
               broken = λ z. char-off g (l .char e) (moves .next-none) z (λ _. neither (eqb (getD s i 0) 46) (is-plx (getD s i 0)) (ne-eqb _ _ d) e);
-              whole = λ z. char-on g (l .char e) (moves .next) z
+              whole = λ z. char-on g (l .char e) (moves .next) z;
             })
 
         pub rest-none : n ≡ 0 → TokenAt s (tok 3 end)
@@ -271,7 +271,7 @@ module _ (s : Text) where
           (λ e.
           record {
             broken = λ z. char-off g (l .char e) (moves .first-none) z (λ _. e);
-            whole = λ z. char-on g (l .char e) (moves .first) z
+            whole = λ z. char-on g (l .char e) (moves .first) z;
           })
 
       pub local-none : n ≡ 0 → TokenAt s (tok 2 at)

@@ -57,7 +57,7 @@ moves = record {
   sub-more = record { test = tt };
   sub-like = record { test = tt };
   prefix = tt;
-  base = tt
+  base = tt;
 }
 
 neither : (a b : Bool) → a ≡ false → b ≡ false → (a || b) ≡ false
@@ -85,7 +85,7 @@ module _ (s : Text) where
             let f = sp .from in
             record {
               at = as-other (enter letter-or-digit tt (omega arith) (moves .sub-first) (moves .sub-more) sp (omega arith) dashed) (moves .sub-like) (sp .stop);
-              end = λ l. letter-no (getD s j 0) (sp .stop l)
+              end = λ l. letter-no (getD s j 0) (sp .stop l);
             }
           where
             letter-no : (b : ℕ) → is-subtag b ≡ false → is-letter b ≡ false

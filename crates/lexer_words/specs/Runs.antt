@@ -6,8 +6,8 @@ use Prim.Native.Nat.{ℕ, _+_, _≤_}
 use lib.Dec.{eqb}
 use lib.ListN.{length, drop}
 use Rattle.text.specs.Text.{Text}
-use Rattle.utf8.specs.Utf8.{width}
-use Rattle.utf8.specs.Scalar.{Encodes}
+use Rattle.utf8.specs.Utf8.{encode, width}
+use Rattle.utf8.specs.Scalar.{Scalar, Encodes}
 use Rattle.token.specs.Regular.{size}
 use Rattle.characters.specs.Bytes.{name}
 use Rattle.characters.specs.Names.{passes, inner}
@@ -18,11 +18,6 @@ in-run c = passes name inner c || eqb c 46
 abbrev pub All-run : List ℕ → Type 0
 All-run [] = Unit {0}
 All-run (c ∷ cs) = (in-run c ≡ true) × All-run cs
-
--- The first code point, if there is one, is not of the run.
-abbrev pub Stopped : List ℕ → Type 0
-Stopped [] = Unit {0}
-Stopped (c ∷ cs) = in-run c ≡ false
 
 pub record Scan (s : Text) (at i : ℕ) (cs : List ℕ) : Type 0 where
   pub xs : List ℕ
@@ -38,7 +33,7 @@ pub record Scanned (s : Text) (at i : ℕ) : Type 0 where
   pub within : i ≤ length s
   pub over : (cs : List ℕ) → Encodes (drop at s) cs → Scan s at i cs
 
--- The run from at on ends at i.
+-- The run from at on ends at i: no code point of a run stands there.
 pub record RunAt (s : Text) (at i : ℕ) : Type 0 where
   pub scanned : Scanned s at i
-  pub stop : (ys : List ℕ) → Encodes (drop i s) ys → Stopped ys
+  pub stop : (c : ℕ) (t : Text) → Scalar c → drop i s ≡ encode c ++ t → in-run c ≡ false

@@ -2,7 +2,8 @@
 ghost use Rattle.automaton.specs.States.{after-underscore, in-label};
 ghost use Rattle.automaton.specs.Run.{At, TokenAt};
 use automaton::Token;
-use characters::names::{label_start, name_char};
+use characters::names::label_start;
+use characters::names::name_char;
 
 // BLANK_NODE_LABEL ::= '_:' (PN_CHARS_U | [0-9]) ((PN_CHARS | '.')* PN_CHARS)?, after its first character.
 // Dots at its end are given back.
@@ -18,13 +19,19 @@ fn label_rest(s: &[u8], at: usize) -> Token
         } else {
             let n = name_char(s, i);
             if n == 0 {
-                return Token { kind: Token::BLANK_NODE_LABEL, len: end };
+                return Token {
+                    kind: Token::BLANK_NODE_LABEL,
+                    len: end,
+                };
             }
             i += n;
             end = i;
         }
     }
-    Token { kind: Token::BLANK_NODE_LABEL, len: end }
+    Token {
+        kind: Token::BLANK_NODE_LABEL,
+        len: end,
+    }
 }
 
 // After the underscore.

@@ -9,7 +9,8 @@ ghost use Rattle.characters.specs.Names.{base, inner};
 ghost use Rattle.lexer_words.specs.Locals.{plx-size, LocalAt};
 use automaton::Token;
 use characters::bytes::is_reserved;
-use characters::names::{local_char, local_start};
+use characters::names::local_char;
+use characters::names::local_start;
 use characters::runs::hexes;
 
 // PLX ::= PERCENT | PN_LOCAL_ESC, where PERCENT ::= '%' HEX HEX
@@ -75,13 +76,19 @@ fn local_rest(s: &[u8], at: usize) -> Token
         } else {
             let n = local_next(s, i);
             if n == 0 {
-                return Token { kind: Token::PNAME_LN, len: end };
+                return Token {
+                    kind: Token::PNAME_LN,
+                    len: end,
+                };
             }
             i += n;
             end = i;
         }
     }
-    Token { kind: Token::PNAME_LN, len: end }
+    Token {
+        kind: Token::PNAME_LN,
+        len: end,
+    }
 }
 
 // PNAME_NS ::= PN_PREFIX? ':'
@@ -91,11 +98,17 @@ pub fn local_part(s: &[u8], at: usize) -> Token
     ensures { λ r. ⌜ TokenAt (now (s .entry)) r ⌝ }
 {
     if s.len() <= at {
-        return Token { kind: Token::PNAME_NS, len: at };
+        return Token {
+            kind: Token::PNAME_NS,
+            len: at,
+        };
     }
     let n = local_first(s, at);
     if n == 0 {
-        return Token { kind: Token::PNAME_NS, len: at };
+        return Token {
+            kind: Token::PNAME_NS,
+            len: at,
+        };
     }
     local_rest(s, at + n)
 }

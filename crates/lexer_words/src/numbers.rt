@@ -4,7 +4,9 @@ ghost use lib.ListN.{length};
 ghost use Rattle.automaton.specs.States.{after-sign, in-integer, integer-dot, after-dot, in-fraction, after-e, in-exponent};
 ghost use Rattle.automaton.specs.Run.{At, TokenAt};
 use automaton::Token;
-use characters::bytes::{is_digit, is_exponent, is_sign};
+use characters::bytes::is_digit;
+use characters::bytes::is_exponent;
+use characters::bytes::is_sign;
 use characters::runs::digits;
 
 // EXPONENT ::= [eE] [+-]? [0-9]+, after its first digit
@@ -13,7 +15,10 @@ fn exponent_digits(s: &[u8], at: usize) -> Token
     ensures { λ r. ⌜ TokenAt (now (s .entry)) r ⌝ }
 {
     let i = digits(s, at);
-    Token { kind: Token::DOUBLE, len: i }
+    Token {
+        kind: Token::DOUBLE,
+        len: i,
+    }
 }
 
 // After the e. Where no digits come, the number ends before it.
@@ -22,22 +27,34 @@ fn exponent(s: &[u8], at: usize, kind: u8, len: usize) -> Token
     ensures { λ r. ⌜ TokenAt (now (s .entry)) r ⌝ }
 {
     if s.len() <= at {
-        return Token { kind: kind, len: len };
+        return Token {
+            kind: kind,
+            len: len,
+        };
     }
     let b = s[at];
     if is_digit(b) {
         return exponent_digits(s, at + 1);
     }
     if !is_sign(b) {
-        return Token { kind: kind, len: len };
+        return Token {
+            kind: kind,
+            len: len,
+        };
     }
     if s.len() - at <= 1 {
-        return Token { kind: kind, len: len };
+        return Token {
+            kind: kind,
+            len: len,
+        };
     }
     if is_digit(s[at + 1]) {
         return exponent_digits(s, at + 2);
     }
-    Token { kind: kind, len: len }
+    Token {
+        kind: kind,
+        len: len,
+    }
 }
 
 // DECIMAL ::= [+-]? ([0-9]* '.' [0-9]+), after the first digit behind the dot
@@ -51,7 +68,10 @@ fn fraction(s: &[u8], at: usize) -> Token
             return exponent(s, i + 1, Token::DECIMAL, i);
         }
     }
-    Token { kind: Token::DECIMAL, len: i }
+    Token {
+        kind: Token::DECIMAL,
+        len: i,
+    }
 }
 
 // After an integer and a dot at `at`, which is of the number where a digit or an exponent follows.
@@ -60,7 +80,10 @@ fn point(s: &[u8], at: usize) -> Token
     ensures { λ r. ⌜ TokenAt (now (s .entry)) r ⌝ }
 {
     if s.len() - at <= 1 {
-        return Token { kind: Token::INTEGER, len: at };
+        return Token {
+            kind: Token::INTEGER,
+            len: at,
+        };
     }
     let b = s[at + 1];
     if is_digit(b) {
@@ -69,7 +92,10 @@ fn point(s: &[u8], at: usize) -> Token
     if is_exponent(b) {
         return exponent(s, at + 2, Token::INTEGER, at);
     }
-    Token { kind: Token::INTEGER, len: at }
+    Token {
+        kind: Token::INTEGER,
+        len: at,
+    }
 }
 
 // INTEGER ::= [+-]? [0-9]+, after its first digit
@@ -80,7 +106,10 @@ pub fn integer(s: &[u8], at: usize) -> Token
 {
     let i = digits(s, at);
     if s.len() <= i {
-        return Token { kind: Token::INTEGER, len: i };
+        return Token {
+            kind: Token::INTEGER,
+            len: i,
+        };
     }
     let b = s[i];
     if b == b'.' {
@@ -89,7 +118,10 @@ pub fn integer(s: &[u8], at: usize) -> Token
     if is_exponent(b) {
         return exponent(s, i + 1, Token::INTEGER, i);
     }
-    Token { kind: Token::INTEGER, len: i }
+    Token {
+        kind: Token::INTEGER,
+        len: i,
+    }
 }
 
 // A dot, or a number that begins with one.
@@ -102,7 +134,10 @@ pub fn dot(s: &[u8]) -> Token
             return fraction(s, 2);
         }
     }
-    Token { kind: Token::DOT, len: 1 }
+    Token {
+        kind: Token::DOT,
+        len: 1,
+    }
 }
 
 // A number after its sign.

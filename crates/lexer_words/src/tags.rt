@@ -2,10 +2,11 @@
 ghost use Rattle.automaton.specs.States.{after-at, in-tag};
 ghost use Rattle.automaton.specs.Run.{At, TokenAt};
 ghost use Rattle.lexer_words.specs.Agree.{Word, TagAt};
+use crate::words::agree;
 use automaton::Token;
 use characters::bytes::is_letter;
-use characters::runs::{letters, letters_or_digits};
-use crate::words::agree;
+use characters::runs::letters;
+use characters::runs::letters_or_digits;
 
 // LANGTAG ::= '@' [a-zA-Z]+ ('-' [a-zA-Z0-9]+)*, after its first letters
 fn subtags(s: &[u8], at: usize, kind: u8) -> Token
