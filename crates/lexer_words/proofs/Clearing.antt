@@ -227,12 +227,12 @@ module _ (s : Text) (at i : ℕ) (g : RunAt s at i) where
 pub clear-none : (s : Text) → Clear s 0
 clear-none s = record { free = λ v ds es e h. absurd (omega arith) }
 
-length-encodes : (cs : List ℕ) → length (encodes cs) ≡ size width cs
+pub length-encodes : (cs : List ℕ) → length (encodes cs) ≡ size width cs
 unfolding encodes
 length-encodes [] = refl
 length-encodes (c ∷ cs) = length-append (encode c) (encodes cs) ∙ ap₂ _+_ (length-encode c) (length-encodes cs)
 
-size-append : (xs ys : List ℕ) → size width (xs ++ ys) ≡ size width xs + size width ys
+pub size-append : (xs ys : List ℕ) → size width (xs ++ ys) ≡ size width xs + size width ys
 size-append [] ys = omega arith
 size-append (x ∷ xs) ys = let r = size-append xs ys in omega arith
 
@@ -245,28 +245,28 @@ token-left s cs S k n e h = record {
       ∙ drop-at (encodes (h .front)) (encodes (h .back)) n (length-encodes (h .front) ∙ sym (h .bytes));
 }
 
--- After a token the same is known, its bytes fewer.
+-- Further on the same is known, the bytes passed fewer.
+pub clear-drop : (s : Text) (n len : ℕ) (front back : List ℕ) → first-bad s ≡ none → Clear s n → decode s ≡ front ++ back → len ≡ size width front
+    → decode (drop len s) ≡ back → Clear (drop len s) (n - len)
+clear-drop s n len front back v c w z b = record {
+  free = λ u ds es d q.
+      let o = size-append front ds in
+      c .free v (front ++ ds) es (w ∙ ap (λ (x : List ℕ). front ++ x) (sym b ∙ d) ∙ sym (append-assoc front ds es)) (omega arith);
+}
+
 pub clear-after : (s : Text) (n k len : ℕ) → first-bad s ≡ none → Clear s n → tok k len ≡ answer (token-at (decode s)) → Clear (drop len s) (n - len)
 clear-after s n k len v c e = go (token-at (decode s)) refl (token-longest (decode s))
   where
     go : (m : Match) → token-at (decode s) ≡ m → Longest width (terminals-at (decode s)) (decode s) (token-at (decode s)) → Clear (drop len s) (n - len)
     go nothing f l =
         let z : len ≡ 0 = ap (λ (t : Token). t .len) (e ∙ ap answer f) in
-        subst (λ (x : ℕ). Clear (drop x s) (n - x)) (sym z) (subst (Clear s) (let o : n ≡ n - 0 = omega arith in o) c)
+        clear-drop s n len [] (decode s) v c refl z (ap (λ (x : ℕ). decode (drop x s)) z)
     go (hit j m) f l =
         let z : len ≡ m = ap (λ (t : Token). t .len) (e ∙ ap answer f) in
         let h : Hit width (terminals-at (decode s)) (decode s) j m = subst (Longest width (terminals-at (decode s)) (decode s)) f l in
         let g = token-left s (decode s) (terminals-at (decode s)) j m (valid-encoded s v) h in
-        subst (λ (x : ℕ). Clear (drop x s) (n - x)) (sym z)
-        (record {
-          free = λ w ds es d q.
-              let b : decode (drop m s) ≡ h .back = encoded-valid (drop m s) (h .back) g .1 in
-              let o = size-append (h .front) ds in
-              let o′ = h .bytes in
-              c .free v (h .front ++ ds) es
-              (h .whole ∙ ap (λ (x : List ℕ). h .front ++ x) (sym b ∙ d) ∙ sym (append-assoc (h .front) ds es))
-              (omega arith);
-        })
+        clear-drop s n len (h .front) (h .back) v c (h .whole) (z ∙ h .bytes)
+        (ap (λ (x : ℕ). decode (drop x s)) z ∙ encoded-valid (drop m s) (h .back) g .1)
 
 -- ---- The answers
 

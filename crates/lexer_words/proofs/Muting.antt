@@ -39,7 +39,7 @@ module _ (p : ℕ → Bool) where
       by (p k) (λ e. pass-append k (after c r) (step c xs) e (pass-step c xs (rw e at t))) (λ e. absurd (rw e at t))
 
   -- The least kind that matches the empty text.
-  abbrev Passes : Match → Type 0
+  abbrev pub Passes : Match → Type 0
   Passes nothing = Unit {0}
   Passes (hit k n) = p k ≡ true
 
@@ -59,6 +59,15 @@ module _ (p : ℕ → Bool) where
       least : (m : Match) → p k ≡ true → Passes m → Passes (least-of k m)
       least nothing e u = e
       least (hit j n) e u = least-of-two true k j e u
+
+  -- The longest match is of one of these kinds.
+  pub best-passes : (cs : List ℕ) (q : State) → T (kinds-pass q) → Passes (best width q cs)
+  best-passes [] q t = pass-now q t
+  best-passes (c ∷ cs) q t = fin (best width (step c q) cs) (best-passes cs (step c q) (pass-step c q t)) (now-at q) (pass-now q t)
+    where
+      fin : (m : Match) → Passes m → (other : Match) → Passes other → Passes (later (width c) m other)
+      fin nothing u other v = v
+      fin (hit k n) u other v = u
 
   -- A run over such a state sees no token, or ends with one of these kinds.
   pub run-passes : (cs : List ℕ) (q : State) (i kind len : ℕ) → T (kinds-pass q)

@@ -84,7 +84,8 @@ fn prefix_rest(s: &[u8], at: usize, kind: u8) -> Next
     }
 }
 
-fn minus(a: usize, b: usize) -> usize
+// a - b, or 0.
+pub fn minus(a: usize, b: usize) -> usize
     ensures { λ r. ⌜ r ≡ a - b ⌝ }
 {
     if a < b {
