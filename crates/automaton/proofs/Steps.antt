@@ -116,6 +116,10 @@ high-alias {q} {q2} {f} t c l u =
         step-solid c lo hi (v .0 .0) (v .0 .1) q (p .0) ∙ same-state-eq (step lo q) (step lo q2) (r .1)
         ∙ sym (step-solid c lo hi (v .0 .0) (v .0 .1) q2 (p .1))
 
+-- The two states move alike with a code point that does not pass f.
+pub alias-step : {q q2 : State} {f : ℕ → Bool} → Alias q q2 f → (c : ℕ) → Scalar c → (c < 128 → f c ≡ false) → step c q ≡ step c q2
+alias-step t c sc n = ⊎-elim (λ l. low-alias t c l (n l)) (λ l. high-alias t c l (sc .0)) (split c 128)
+
 -- ---- The code point at a place
 
 seen-within : (m : Match) (i j len : ℕ) → len ≤ i → i ≤ j → seen-len m j len ≤ j

@@ -7,6 +7,13 @@ pub struct Token {
     pub len: usize,
 }
 
+// A token, and how many bytes after it are known to begin no prefixed name.
+pub struct Next {
+    pub kind: u8,
+    pub len: usize,
+    pub clear: usize,
+}
+
 impl Token {
     pub const IRIREF: u8 = 1;
 

@@ -16,7 +16,7 @@ use Rattle.utf8.specs.Scalar.{Scalar}
 use Rattle.utf8.proofs.Tests.{by, split}
 use Rattle.utf8.proofs.Encoding.{head, length-encode, width-pos, size-encode, size-reads, Reads}
 use Rattle.utf8.proofs.Decoding.{tail-eq, size-within, code-encode}
-use Rattle.token.specs.Regular.{in-ranges, Match, now-at}
+use Rattle.token.specs.Regular.{in-ranges, step}
 use Rattle.automaton.specs.States.{State, ending, dead}
 use Rattle.automaton.specs.Levels.{level}
 use Rattle.automaton.specs.Run.{tok, seen-kind, seen-len, At, TokenAt}
@@ -26,7 +26,7 @@ use Rattle.characters.specs.Names.{passes, CharAt}
 front : (s : Text) (i : ℕ) → getD (drop i s) 0 0 ≡ getD s i 0
 front s i = getD-drop i s 0 0 ∙ ap (λ (n : ℕ). getD s n 0) (add-zero i)
 
-first : (s : Text) (i c : ℕ) (t : Text) → drop i s ≡ encode c ++ t → ((c < 0x80) × (getD s i 0 ≡ c)) ⊎ ((0x80 ≤ c) × (0x80 ≤ getD s i 0))
+pub first : (s : Text) (i c : ℕ) (t : Text) → drop i s ≡ encode c ++ t → ((c < 0x80) × (getD s i 0 ≡ c)) ⊎ ((0x80 ≤ c) × (0x80 ≤ getD s i 0))
 first s i c t d =
     let f = sym (front s i) ∙ ap (λ (x : Text). getD x 0 0) d in
     ⊎-elim (λ v. inl (v .0, f ∙ v .1)) (λ v. inr (v .0, subst (λ (n : ℕ). 0x80 ≤ n) (sym f) (v .1))) (head c t)
@@ -127,6 +127,20 @@ pub record CharEnds (q : State) (rs : List Range) (least : ℕ) (f : ℕ → Boo
   pub low : Sent q (λ b. not (in-ranges b rs || f b)) dead 0
   pub high : HighSent q (λ k. not (leb least k)) dead
 
+-- The move with one code point.
+pub point-to : {q : State} {rs : List Range} {least : ℕ} {q2 : State} {k : ℕ} → CharSent q rs least q2 k → (c : ℕ) → Scalar c → passes rs least c ≡ true
+    → step c q ≡ q2
+point-to t c sc e =
+    ⊎-elim (λ l. sent-to (t .low) c l (rw (lt-ltb c 128 l) at e)) (λ l. high-to (t .high) c l (sc .0) (rw (le-ltb c 128 l) at e)) (split c 128)
+
+pub point-dead : {q : State} {rs : List Range} {least : ℕ} {f : ℕ → Bool} → CharEnds q rs least f → (c : ℕ) → Scalar c → passes rs least c ≡ false
+    → (c < 128 → f c ≡ false) → step c q ≡ dead
+point-dead {q} {rs} {least} {f} t c sc e n =
+    ⊎-elim
+    (λ l. let b : in-ranges c rs ≡ false = rw (lt-ltb c 128 l) at e in let b′ = n l in sent-to (t .low) c l (rw (b, b′)))
+    (λ l. high-to (t .high) c l (sc .0) (ap not (rw (le-ltb c 128 l) at e)))
+    (split c 128)
+
 cond-pos : (b : Bool) (w n : ℕ) → n ≡ cond b w 0 → (n ≡ 0 → ⊥) → (b ≡ true) × (n ≡ w)
 cond-pos true w n e z = (refl, e)
 cond-pos false w n e z = absurd (z e)
@@ -141,20 +155,13 @@ module _ {s : Text} {q : State} {i kind len : ℕ} {rs : List Range} {least n : 
       rw (sent-kind (t .low)) at
       (by-code-point g q2 n (ch .within) (omega arith)
       (λ c ds sc d.
-      let v = cond-pos (passes rs least c) (width c) n (ch .right c (encodes ds) sc d) z in (
-        v .1,
-        ⊎-elim (λ l. sent-to (t .low) c l (rw (lt-ltb c 128 l) at (v .0))) (λ l. high-to (t .high) c l (sc .0) (rw (le-ltb c 128 l) at (v .0))) (split c 128),
-      )))
+      let v = cond-pos (passes rs least c) (width c) n (ch .right c (encodes ds) sc d) z in
+      (v .1, point-to t c sc (v .0))))
 
   pub char-off : {f : ℕ → Bool} → CharEnds q rs least f → n ≡ 0 → (i < length s → f (getD s i 0) ≡ false) → TokenAt s (tok kind len)
   char-off {f} t z no′ =
       by-nothing g
       (λ c ds sc d.
       let v : passes rs least c ≡ false = cond-zero (passes rs least c) (width c) n (width-pos c) (ch .right c (encodes ds) sc d) z in
-      ⊎-elim
-      (λ x.
-      let b : in-ranges c rs ≡ false = rw (lt-ltb c 128 (x .0)) at v in
-      let b′ : f c ≡ false = ap f (sym (x .1)) ∙ no′ (some-left s i c ds d) in
-      sent-to (t .low) c (x .0) (rw (b, b′)))
-      (λ x. high-to (t .high) c (x .0) (sc .0) (ap not (rw (le-ltb c 128 (x .0)) at v)))
-      (at-first s i c ds d))
+      point-dead t c sc v
+      (λ l. ⊎-elim (λ x. ap f (sym (x .1)) ∙ no′ (some-left s i c ds d)) (λ x. let y = x .0 in absurd (omega arith)) (at-first s i c ds d)))

@@ -53,6 +53,30 @@ keyed rs v (k ∷ j ∷ ks) t b (inl o) =
     same-eq v (in-ranges k rs) (and-true (same v (in-ranges k rs)) (every rs v (j ∷ ks)) t .0) ∙ ap (λ (x : ℕ). in-ranges x rs) (sym o)
 keyed rs v (k ∷ j ∷ ks) t b (inr o) = keyed rs v (j ∷ ks) (and-true (same v (in-ranges k rs)) (every rs v (j ∷ ks)) t .1) b o
 
+-- What a `match` says of its last arm: none of the keys of the arms before it, the last of them first.
+abbrev RestOf : List (List ℕ) → ℕ → Type 0
+RestOf [] b = Unit {0}
+RestOf (ks ∷ kss) b = RestOf kss b × (OneOf ks b → ⊥)
+
+abbrev has-any : List (List ℕ) → ℕ → Bool
+has-any [] b = false
+has-any (ks ∷ kss) b = hasKey ks b || has-any kss b
+
+has-none : (kss : List (List ℕ)) (b : ℕ) → RestOf kss b → has-any kss b ≡ false
+has-none [] b r = refl
+has-none (ks ∷ kss) b r =
+    by (hasKey ks b) (λ e. absurd (r .1 (hit ks b (subst T (sym e) tt)))) (λ e. ap (λ (v : Bool). v || has-any kss b) e ∙ has-none kss b (r .0))
+
+-- The value is v on the n bytes from lo on, but for the keys of the arms.
+pub ranged-rest : (rs : List Range) (v : Bool) (kss : List (List ℕ)) (lo n : ℕ) → T (below (λ k. has-any kss (lo + k) || same v (in-ranges (lo + k) rs)) n)
+    → (b : ℕ) → RestOf kss b → lo ≤ b → b < lo + n → v ≡ in-ranges b rs
+ranged-rest rs v kss lo n t b r l u =
+    let e : lo + (b - lo) ≡ b = omega arith in
+    let w : T (has-any kss b || same v (in-ranges b rs)) =
+    subst (λ (x : ℕ). T (has-any kss x || same v (in-ranges x rs))) e
+    (below-at (λ k. has-any kss (lo + k) || same v (in-ranges (lo + k) rs)) n t (b - lo) (omega arith)) in
+    same-eq v (in-ranges b rs) (subst (λ (x : Bool). T (x || same v (in-ranges b rs))) (has-none kss b r) w)
+
 -- ---- Sets below 128
 
 abbrev pub all-low : List Range → Bool

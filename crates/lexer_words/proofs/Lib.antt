@@ -2,3 +2,8 @@
 pub mod Numbering
 pub mod Agreeing
 pub mod Tagging
+pub mod Parts
+pub mod Muting
+pub mod Running
+pub mod Clearing
+pub mod Fronting

@@ -1,0 +1,156 @@
+-- Blanks and comments, byte by byte and code point by code point.
+use mathlib.Core.Path.{_≡_, refl, subst, sym, ap, ap₂, _∙_}
+use mathlib.Core.Logic.{_⊎_, inl, inr, ⊎-elim}
+use mathlib.Core.Bool.{Bool, true, false, not, _&&_, _||_}
+use mathlib.Core.List.{List, [], _∷_, _++_}
+use mathlib.Core.Option.{none}
+use Prim.Native.Nat.{ℕ, zero, suc, _+_, _-_, _≤_, _<_}
+use native.Mathlib.Omega.{arith}
+use native.Mathlib.Numerals.{add-one}
+use borrow.Author.Tests.{lt-ltb, ne-eqb, eq-eqb, eqb-true}
+use lib.Dec.{T, eqb}
+use lib.ListN.{length, getD, drop, drop-of-length-le}
+use lib.Seq.{drop-cons}
+use Rattle.text.specs.Text.{Text, cond, is}
+use Rattle.utf8.specs.Utf8.{encode, encodes, width, decode, first-bad}
+use Rattle.utf8.specs.Scalar.{Highs, Encodes}
+use Rattle.utf8.proofs.Tests.{by, split, below, below-at}
+use Rattle.utf8.proofs.Encoding.{length-encode, width-pos, highs-encode}
+use Rattle.utf8.proofs.Decoding.{valid-encoded}
+use Rattle.token.specs.Regular.{in-ranges}
+use Rattle.token.specs.Tokens.{white-space, line-end}
+use Rattle.lexer.specs.Blanks.{blanks, white-spaces, skips, CommentTo, BlanksAt}
+
+-- A byte or code point from 128 on is no blank.
+module _ (c : ℕ) (h : 128 ≤ c) where
+  pub high-line : line-end c ≡ false
+  high-line = simp (ne-eqb c 13 (omega arith), ne-eqb c 10 (omega arith))
+
+  pub high-blank : (white-space c || is "#" c) ≡ false
+  high-blank = simp (ne-eqb c 32 (omega arith), ne-eqb c 9 (omega arith), ne-eqb c 13 (omega arith), ne-eqb c 10 (omega arith), ne-eqb c 35 (omega arith))
+
+skips-highs : (m t : Text) → Highs m → skips true (m ++ t) ≡ length m + skips true t
+unfolding skips
+skips-highs [] t v = omega arith
+skips-highs (b ∷ m) t v = rw (high-line b (v .0)) (ap suc (skips-highs m t (v .1)) ∙ omega arith)
+
+pub skips-encodes : (b : Bool) (cs : List ℕ) → skips b (encodes cs) ≡ blanks b cs
+unfolding skips blanks encodes
+skips-encodes true [] = refl
+skips-encodes false [] = refl
+skips-encodes true (c ∷ cs) =
+    let ih = skips-encodes (not (line-end c)) cs in
+    ⊎-elim (λ h. simp (lt-ltb c 0x80 h) (omega arith))
+    (λ h.
+    let e = high-line c h in
+    let ih′ : skips true (encodes cs) ≡ blanks true cs = rw e at ih in
+    skips-highs (encode c) (encodes cs) (highs-encode c h)
+    ∙ ap₂ _+_ (length-encode c) (ih′ ∙ ap (λ (v : Bool). blanks (not v) cs) (sym e)))
+    (split c 0x80)
+skips-encodes false (c ∷ cs) =
+    let ih = skips-encodes (is "#" c) cs in
+    ⊎-elim (λ h. simp (lt-ltb c 0x80 h) (ap (λ (n : ℕ). cond (white-space c || is "#" c) (suc n) 0) ih))
+    (λ h. high (encode c) (highs-encode c h) (length-encode c) ∙ sym (ap (λ (v : Bool). cond v (suc (blanks (is "#" c) cs)) 0) (high-blank c h)))
+    (split c 0x80)
+  where
+    high : (m : Text) → Highs m → length m ≡ width c → skips false (m ++ encodes cs) ≡ 0
+    high [] v e = let o = width-pos c in absurd (omega arith)
+    high (b ∷ m) v e = ap (λ (v : Bool). cond v (suc (skips (is "#" b) (m ++ encodes cs))) 0) (high-blank b (v .0))
+
+-- ---- The routines
+
+abbrev same : Bool → Bool → Bool
+same true b = b
+same false b = not b
+
+same-eq : (a b : Bool) → T (same a b) → a ≡ b
+same-eq true true t = refl
+same-eq true false t = absurd t
+same-eq false true t = absurd t
+same-eq false false t = refl
+
+same-sets : T (below (λ b. same (in-ranges b white-spaces) (white-space b)) 256)
+same-sets = tt
+
+pub blank-is : (b : ℕ) → b < 256 → in-ranges b white-spaces ≡ white-space b
+blank-is b h = same-eq (in-ranges b white-spaces) (white-space b) (below-at (λ b. same (in-ranges b white-spaces) (white-space b)) 256 same-sets b h)
+
+nil-skips : (b : Bool) → skips b [] ≡ 0
+unfolding skips
+nil-skips true = refl
+nil-skips false = refl
+
+pub skips-end : (s : Text) (b : Bool) (i : ℕ) → length s ≤ i → skips b (drop i s) ≡ 0
+skips-end s b i h = ap (skips b) (drop-of-length-le s {i = i} h) ∙ nil-skips b
+
+skips-cons : (s : Text) (i : ℕ) → i < length s
+    → (skips true (drop i s) ≡ suc (skips (not (line-end (getD s i 0))) (drop (i + 1) s)))
+    × (skips false (drop i s) ≡ cond (white-space (getD s i 0) || is "#" (getD s i 0)) (suc (skips (is "#" (getD s i 0)) (drop (i + 1) s))) 0)
+unfolding skips
+skips-cons s i h = (rw (add-one, drop-cons s i 0 h), rw (add-one, drop-cons s i 0 h))
+
+-- A line ends where a blank stands.
+line-blank : (s : Text) (i : ℕ) → i < length s → line-end (getD s i 0) ≡ true → white-space (getD s i 0) ≡ true → is "#" (getD s i 0) ≡ false
+    → skips true (drop i s) ≡ skips false (drop i s)
+line-blank s i h l w n =
+    skips-cons s i h .0 ∙ ap (λ (v : Bool). suc (skips (not v) (drop (i + 1) s))) l
+    ∙ sym
+    (skips-cons s i h .1
+    ∙ ap₂ (λ (v u : Bool). cond (v || u) (suc (skips u (drop (i + 1) s))) 0) w n)
+
+module _ (s : Text) (at i : ℕ) (e : at + skips true (drop at s) ≡ i + skips true (drop i s)) where
+  pub comment-on : i < length s → (getD s i 0 ≡ 10 → ⊥) → (getD s i 0 ≡ 13 → ⊥) → at + skips true (drop at s) ≡ i + 1 + skips true (drop (i + 1) s)
+  comment-on h n m =
+      let l : line-end (getD s i 0) ≡ false = simp (ne-eqb _ 10 n, ne-eqb _ 13 m) in
+      let f : skips true (drop i s) ≡ suc (skips true (drop (i + 1) s)) = skips-cons s i h .0 ∙ ap (λ (v : Bool). suc (skips (not v) (drop (i + 1) s))) l in
+      omega arith
+
+  pub comment-stop : at ≤ i → i ≤ length s → length s ≤ i → CommentTo s at i
+  comment-stop l u h =
+      let a = skips-end s true i h in
+      let b = skips-end s false i h in
+      record { from = l; within = u; same = omega arith }
+
+  pub comment-feed : at ≤ i → i < length s → getD s i 0 ≡ 10 → CommentTo s at i
+  comment-feed l u f = let a = line-blank s i u (rw f) (rw f) (rw f) in record { from = l; within = omega arith; same = omega arith }
+
+  pub comment-return : at ≤ i → i < length s → getD s i 0 ≡ 13 → CommentTo s at i
+  comment-return l u f = let a = line-blank s i u (rw f) (rw f) (rw f) in record { from = l; within = omega arith; same = omega arith }
+
+-- skip_blanks: what is left is that of the rest.
+module _ (s : Text) (i : ℕ) (e : skips false s ≡ i + skips false (drop i s)) where
+  blanks-at : i ≤ length s → skips false (drop i s) ≡ 0 → BlanksAt s i
+  blanks-at w z = record {
+    within = w;
+    right = λ v.
+        let g = valid-encoded s v in
+        let k : skips false s ≡ blanks false (decode s) = ap (skips false) (g .bytes) ∙ skips-encodes false (decode s) in
+        omega arith;
+  }
+
+  pub blanks-end : i ≤ length s → length s ≤ i → BlanksAt s i
+  blanks-end w h = blanks-at w (skips-end s false i h)
+
+  module _ (h : i < length s) (b : Bool) (k : getD s i 0 < 256) (f : b ≡ in-ranges (getD s i 0) white-spaces) where
+    is-blank : white-space (getD s i 0) ≡ b
+    is-blank = sym (f ∙ blank-is (getD s i 0) k)
+
+    pub blanks-on : b ≡ true → skips false s ≡ i + 1 + skips false (drop (i + 1) s)
+    blanks-on g =
+        let w : white-space (getD s i 0) ≡ true = is-blank ∙ g in
+        let n : is "#" (getD s i 0) ≡ false = by (is "#" (getD s i 0)) (λ x. let z : true ≡ false = sym w ∙ rw (eqb-true (getD s i 0) 35 x) in absurd (subst T z tt)) (λ x. x) in
+        let a : skips false (drop i s) ≡ suc (skips false (drop (i + 1) s)) =
+        skips-cons s i h .1 ∙ ap₂ (λ (v u : Bool). cond (v || u) (suc (skips u (drop (i + 1) s))) 0) w n in
+        omega arith
+
+    pub blanks-stop : b ≡ false → (getD s i 0 ≡ 35 → ⊥) → BlanksAt s i
+    blanks-stop g n =
+        blanks-at (omega arith)
+        (skips-cons s i h .1 ∙ ap₂ (λ (v u : Bool). cond (v || u) (suc (skips u (drop (i + 1) s))) 0) (is-blank ∙ g) (ne-eqb _ 35 n))
+
+    pub blanks-comment : b ≡ false → getD s i 0 ≡ 35 → (j : ℕ) → CommentTo s (i + 1) j → skips false s ≡ j + skips false (drop j s)
+    blanks-comment g n j c =
+        let a : skips false (drop i s) ≡ suc (skips true (drop (i + 1) s)) =
+        skips-cons s i h .1 ∙ ap₂ (λ (v u : Bool). cond (v || u) (suc (skips u (drop (i + 1) s))) 0) (is-blank ∙ g) (eq-eqb _ 35 n) in
+        let o = c .same in
+        omega arith

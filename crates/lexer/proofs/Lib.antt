@@ -1,0 +1,5 @@
+-- Blanks, the first byte of a token, and cutting a document.
+pub mod Blanking
+pub mod Beginning
+
+pub mod Cutting

@@ -1,0 +1,67 @@
+-- `name_run` meets its contract. The invariant: the bytes passed are a run.
+use native.Mathlib.Omega.{arith}
+use borrow.Author.Needs.{needs}
+use denote.Ref.{now}
+use Prim.Native.Nat.{_-_}
+use lib.ListN.{length}
+use Rattle.lexer_words.specs.Runs.{Scanned}
+use Rattle.lexer_words.proofs.Running.{scan-begin, scan-dot, scan-name, run-stop, run-end}
+use Rattle.lexer_words.proofs.names.name_run.Statement.{statement}
+use Rattle.lexer_words.proofs.names.name_run.Tie as tie
+
+abbrev Inv-loop : tie.InvT-loop
+Inv-loop s at i₀ i = Scanned s at i
+
+abbrev μ-loop : tie.MeasureT-loop
+μ-loop s at i₀ i = length s - i
+
+loop-holds : tie.Need-loop-holds Inv-loop μ-loop
+loop-holds c = scan-begin (now (c .before .args .s)) (c .before .args .at) (c .before .pre)
+
+shared-slice-read-b : tie.Need-shared-slice-read-b Inv-loop μ-loop
+shared-slice-read-b c = search needs
+
+add-i : tie.Need-add-i Inv-loop μ-loop
+add-i c = search needs
+
+loop-less : tie.Need-loop-less Inv-loop μ-loop
+loop-less c = search needs
+
+loop-again : tie.Need-loop-again Inv-loop μ-loop
+loop-again c = scan-dot (now (c .before .before .before .before .before .args .s)) (c .before .before .before .before .before .args .at) (c .before .before .before .loop .i) (c .before .before .before .loop .inv) (c .before .before .loop-test .taken) (c .if1 .taken)
+
+name-char-requires : tie.Need-name-char-requires Inv-loop μ-loop
+name-char-requires c κs = search needs
+
+returns : tie.Need-returns Inv-loop μ-loop
+returns c = run-stop (now (c .before .before .before .before .before .before .before .args .s)) (c .before .before .before .before .before .before .before .args .at) (c .before .before .before .before .before .loop .i) (c .before .before .before .before .before .loop .inv) _ (c .before .name-char .ensures) (c .before .before .before .before .loop-test .taken) (c .before .before .if1 .left) (c .if2 .taken)
+
+add-i-2 : tie.Need-add-i-2 Inv-loop μ-loop
+add-i-2 c = omega (arith, (c .before .name-char .ensures) .within)
+
+loop-less-2 : tie.Need-loop-less-2 Inv-loop μ-loop
+loop-less-2 c = omega (arith, (c .before .name-char .ensures) .within)
+
+loop-again-2 : tie.Need-loop-again-2 Inv-loop μ-loop
+loop-again-2 c = scan-name (now (c .before .before .before .before .before .before .before .args .s)) (c .before .before .before .before .before .before .before .args .at) (c .before .before .before .before .before .loop .i) (c .before .before .before .before .before .loop .inv) _ (c .before .name-char .ensures) (c .if2 .left)
+
+returns-2 : tie.Need-returns-2 Inv-loop μ-loop
+returns-2 c = run-end (now (c .before .before .before .args .s)) (c .before .before .before .args .at) (c .before .loop .i) (c .before .loop .inv) (c .loop-test .left)
+
+pub name-run-spec : {M : Type 1} → statement M
+name-run-spec =
+    tie.close
+    (tie.spec
+    Inv-loop
+    μ-loop
+    loop-holds
+    shared-slice-read-b
+    add-i
+    loop-less
+    loop-again
+    name-char-requires
+    returns
+    add-i-2
+    loop-less-2
+    loop-again-2
+    returns-2)
