@@ -4,3 +4,4 @@ pub mod Buffer
 pub mod Parts
 pub mod Schemes
 pub mod Plans
+pub mod Puts

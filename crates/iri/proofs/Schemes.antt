@@ -1,7 +1,7 @@
 -- Which bytes a scheme has, and where it ends.
 use Prim.Native.Nat.{ℕ, zero, suc, _+_, _≤_, _<_}
-use mathlib.Core.Path.{_≡_, refl, ap, sym, _∙_}
-use mathlib.Core.List.{List, [], _∷_, _++_, append-assoc}
+use mathlib.Core.Path.{_≡_, refl, sym, _∙_}
+use mathlib.Core.List.{[], _∷_, _++_, append-assoc}
 use native.Mathlib.Numerals.{add-one}
 use mathlib.Core.Bool.{Bool, true, false, not, _&&_, _||_}
 use native.Mathlib.Omega.{arith}
@@ -9,14 +9,14 @@ use lib.ListN.{length, getD, take, drop, drop-of-length-le}
 use lib.Seq.{take-suc, drop-drop}
 use lib.Dec.{eqb, leb, ltb}
 use borrow.Author.Tests.{ne-eqb, eqb-true, le-leb, lt-leb, ltb-true, ltb-false}
-use Rattle.text.specs.Text.{Text, cond, is, one-of, between, until, from}
-use Rattle.text.proofs.Compare.{by, contrary, and-left, and-right}
+use Rattle.text.specs.Text.{Text, is}
+use Rattle.text.proofs.Compare.{by, contrary, and-right}
 use Rattle.iri.specs.Iri.{letter, scheme-byte, first-is, has-scheme, scheme, after-scheme}
 use Rattle.iri.specs.Code.{before, stop, scheme-end}
 use Rattle.iri.specs.declared.Part.{Part}
-use Rattle.iri.specs.declared.Part.the-variants.{Authority, Path, Query, Scheme, Colon}
+use Rattle.iri.specs.declared.Part.the-variants.{Scheme, Colon}
 use Rattle.iri.proofs.Turns.{and-false}
-use Rattle.iri.proofs.Places.{before-most, until-take, from-drop}
+use Rattle.iri.proofs.Places.{until-take, from-drop}
 
 or-right : (a b : Bool) → b ≡ true → true ≡ (a || b)
 or-right true b e = refl

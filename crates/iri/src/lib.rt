@@ -2,12 +2,14 @@
 ghost use mathlib.Core.Path.{_≡_};
 ghost use mathlib.Core.Bool.{true, false};
 ghost use Prim.Native.Nat.{_+_, _-_, _≤_, _<_};
-ghost use lib.ListN.{length, getD, take, drop};
+ghost use lib.ListN.{length, getD, take, drop, replicate};
 ghost use Rattle.iri.specs.Iri.{letter, scheme-byte, has-scheme};
 ghost use Rattle.text.specs.Text.{one-of};
-ghost use Rattle.text.specs.Slice.{over-at};
+ghost use mathlib.Core.List.{_++_};
+ghost use Rattle.text.specs.Slice.{over, over-at};
 ghost use Rattle.iri.specs.Code.{before, stop, slash-end, window, rule, rule-by, segment, Moved, Turned, Cleaned, Removed};
-ghost use Rattle.iri.specs.Code.{authority-length, ends-of, plan-by, plan-of};
+ghost use Rattle.iri.specs.Code.{authority-length, ends-of, plan-by, plan-of, Holds, ResolvedAt, Resolved};
+ghost use Rattle.iri.specs.Resolve.{resolve-with-dots};
 
 // The steps of RFC 3986, section 5.2.4, by what the rest of the path begins with.
 pub enum Rule {
@@ -476,4 +478,90 @@ fn make_plan(base: &[u8], reference: &[u8]) -> Plan
     let b = part_ends(base, k);
     let r = part_ends(reference, 0);
     choose(base, reference, k, b, r)
+}
+
+// Writes a slash, or none, at a place.
+fn put_slash(out: &mut [u8], at: usize, n: usize)
+    requires { ⌜ (n ≤ 1) × (at + n ≤ length (now out)) ⌝ }
+    ensures { λ r. ⌜ now (out .exit) ≡ over-at at (replicate n 47) (now (out .entry)) ⌝ }
+{
+    if n == 1 {
+        out[at] = 47;
+    }
+}
+
+// n bytes from start go to a place that is not behind it.
+fn move_left(out: &mut [u8], start: usize, n: usize, to: usize)
+    requires { ⌜ (to ≤ start) × (start + n ≤ length (now out)) ⌝ }
+    ensures { λ r. ⌜ now (out .exit) ≡ over-at to (take n (drop start (now (out .entry)))) (now (out .entry)) ⌝ }
+{
+    let mut i: usize = 0;
+    while i < n {
+        let c = out[start + i];
+        out[to + i] = c;
+        i += 1;
+    }
+}
+
+// Writes the part of the base, the slash and the path of the reference, which begins at start.
+fn put_front(base: &[u8], out: &mut [u8], start: usize, p: Plan)
+    requires { ⌜ ((p .keep ≤ length (now base)) × (p .slash ≤ 1)) × ((p .keep + p .slash ≤ start) × (start + p .path ≤ length (now out))) ⌝ }
+    ensures { λ r. ⌜ now (out .exit) ≡ over (take (p .keep) (now (base .entry)) ++ (replicate (p .slash) 47 ++ take (p .path) (drop start (now (out .entry))))) (now (out .entry)) ⌝ }
+{
+    let keep = p.keep;
+    let slash = p.slash;
+    let path = p.path;
+    text::copy(&base[..keep], out);
+    put_slash(out, keep, slash);
+    move_left(out, start, path, keep + slash);
+}
+
+// Writes the IRI by the plan of the reference that begins at start; its length.
+fn put_resolved(base: &[u8], out: &mut [u8], start: usize, p: Plan) -> usize
+    requires { ⌜ (((before (stop Part.Colon) (now base) < length (now base)) × (start ≤ length (now out))) × (p ≡ plan-of (now base) (drop start (now out)))) × (p .keep + p .slash ≤ start) ⌝ }
+    ensures { λ r. ⌜ Holds (now (base .entry)) (drop start (now (out .entry))) (now (out .entry)) (now (out .exit)) r ⌝ }
+{
+    let from = p.from;
+    let path = p.path;
+    let end = p.keep + p.slash + path;
+    put_front(base, out, start, p);
+    let m = remove_dots(&mut out[from..], end - from);
+    let n = out.len() - start - path;
+    move_left(out, start + path, n, from + m);
+    from + m + n
+}
+
+// Resolves the reference without a scheme that begins at start, against a base with one, into the front of the buffer.
+fn resolve_at(base: &[u8], buffer: &mut [u8], start: usize) -> Resolution
+    requires { ⌜ (before (stop Part.Colon) (now base) < length (now base)) × (start ≤ length (now buffer)) ⌝ }
+    ensures { λ r. ⌜ ResolvedAt (now (base .entry)) (now (buffer .entry)) (now (buffer .exit)) start r ⌝ }
+{
+    let p = make_plan(base, &buffer[start..]);
+    let keep = p.keep;
+    let slash = p.slash;
+    if start < keep {
+        return Resolution::Long;
+    }
+    if start - keep < slash {
+        return Resolution::Long;
+    }
+    Resolution::Written(put_resolved(base, buffer, start, p))
+}
+
+// Resolves the reference that is the buffer's last n bytes into its front. What stands behind the result is not told.
+pub fn resolve(base: &[u8], buffer: &mut [u8], n: usize) -> Resolution
+    ensures { λ r. ⌜ Resolved (now (base .entry)) (now (buffer .entry)) (now (buffer .exit)) n r ⌝ }
+{
+    if buffer.len() < n {
+        return Resolution::Long;
+    }
+    let start = buffer.len() - n;
+    if has_scheme(&buffer[start..]) {
+        move_left(buffer, start, n, 0);
+        return Resolution::Written(n);
+    }
+    if has_scheme(base) {
+        return resolve_at(base, buffer, start);
+    }
+    Resolution::NoBase
 }

@@ -6,7 +6,7 @@ use native.Mathlib.Numerals.{add-one}
 use native.Mathlib.Nat.{zero-add, suc-add}
 use native.Mathlib.Omega.{arith}
 use lib.ListN.{length, getD, take, drop, set, length-drop}
-use lib.Seq.{take-nil, take-all}
+use lib.Seq.{take-nil, take-all, take-append-seam, getD-drop}
 use Rattle.text.specs.Text.{Text}
 use Rattle.text.specs.Slice.{over, over-at}
 
@@ -95,3 +95,34 @@ over-at-whole at s x i h = rw (take-all i s h)
 pub over-at-enough : (at : ℕ) (s x : Text) (i : ℕ) → length x ≤ at + i → over-at at (take i s) x ≡ over-at at s x
 unfolding over-at
 over-at-enough at s x i h = rw (over-enough s (drop at x) i (omega (arith, length-drop at x)))
+
+-- What stands in front of the place where a text was written, the text, and what stands behind it.
+pub over-front : (s x : Text) → length s ≤ length x → take (length s) (over s x) ≡ s
+over-front s x h = rw (over-fits s x h) (take-append-seam s (drop (length s) x))
+
+pub over-back : (s x : Text) (n : ℕ) → length s ≤ n → drop n (over s x) ≡ drop n x
+unfolding over
+over-back [] x n h = refl
+over-back (a ∷ s) [] n h = refl
+over-back (a ∷ s) (b ∷ x) zero h = absurd (omega arith)
+over-back (a ∷ s) (b ∷ x) (suc n) h = over-back s x n (omega arith)
+
+pub over-at-front : (at : ℕ) (s x : Text) → at + length s ≤ length x → take (at + length s) (over-at at s x) ≡ take at x ++ s
+unfolding over-at
+over-at-front zero s x h = rw (zero-add (length s)) (over-front s x (omega arith))
+over-at-front (suc at) s [] h = absurd (omega arith)
+over-at-front (suc at) s (b ∷ x) h = rw (suc-add at (length s)) (ap (λ (l : Text). b ∷ l) (over-at-front at s x (omega arith)))
+
+pub over-at-back : (at : ℕ) (s x : Text) (n : ℕ) → at + length s ≤ n → drop n (over-at at s x) ≡ drop n x
+unfolding over-at
+over-at-back zero s x n h = over-back s x n (omega arith)
+over-at-back (suc at) s [] n h = rw (over-nothing s)
+over-at-back (suc at) s (b ∷ x) zero h = absurd (omega arith)
+over-at-back (suc at) s (b ∷ x) (suc n) h = over-at-back at s x n (omega arith)
+
+-- A place behind what was written has not changed.
+pub over-at-later : (at : ℕ) (s x : Text) (k : ℕ) → at + length s ≤ k → getD (over-at at s x) k 0 ≡ getD x k 0
+over-at-later at s x k h =
+    let e : getD (drop k (over-at at s x)) 0 0 ≡ getD (drop k x) 0 0 = ap (λ (l : Text). getD l 0 0) (over-at-back at s x k h) in
+    let z : k + 0 ≡ k = omega arith in
+    rw (getD-drop k (over-at at s x) 0 0, getD-drop k x 0 0, z) at e
