@@ -5,3 +5,4 @@ pub mod Parts
 pub mod Schemes
 pub mod Plans
 pub mod Puts
+pub mod Examples

@@ -1,10 +1,10 @@
 // IRIs: which references have a scheme, and their resolution against a base (RFC 3986, section 5.2).
 ghost use mathlib.Core.Path.{_≡_};
-ghost use mathlib.Core.Bool.{true, false};
+ghost use mathlib.Core.Bool.{true, false, not, _&&_};
 ghost use Prim.Native.Nat.{_+_, _-_, _≤_, _<_};
 ghost use lib.ListN.{length, getD, take, drop, replicate};
-ghost use Rattle.iri.specs.Iri.{letter, scheme-byte, has-scheme};
-ghost use Rattle.text.specs.Text.{one-of};
+ghost use Rattle.iri.specs.Iri.{letter, scheme-byte, has-scheme, forbidden};
+ghost use Rattle.text.specs.Text.{one-of, some-byte};
 ghost use mathlib.Core.List.{_++_};
 ghost use Rattle.text.specs.Slice.{over, over-at};
 ghost use Rattle.iri.specs.Code.{before, stop, slash-end, window, rule, rule-by, segment, Moved, Turned, Cleaned, Removed};
@@ -564,4 +564,62 @@ pub fn resolve(base: &[u8], buffer: &mut [u8], n: usize) -> Resolution
         return resolve_at(base, buffer, start);
     }
     Resolution::NoBase
+}
+
+// Whether an IRIREF forbids the byte unescaped.
+fn is_forbidden(c: u8) -> bool
+    ensures { λ r. ⌜ r ≡ forbidden c ⌝ }
+{
+    if c <= 0x20 {
+        return true;
+    }
+    if c == b'<' {
+        return true;
+    }
+    if c == b'>' {
+        return true;
+    }
+    if c == b'"' {
+        return true;
+    }
+    if c == b'{' {
+        return true;
+    }
+    if c == b'}' {
+        return true;
+    }
+    if c == b'|' {
+        return true;
+    }
+    if c == b'^' {
+        return true;
+    }
+    if c == b'`' {
+        return true;
+    }
+    c == 92
+}
+
+// Whether the text holds a byte that an IRIREF forbids unescaped.
+fn holds_forbidden(s: &[u8]) -> bool
+    ensures { λ r. ⌜ r ≡ some-byte forbidden (now (s .entry)) ⌝ }
+{
+    let mut i: usize = 0;
+    while i < s.len() {
+        if is_forbidden(s[i]) {
+            return true;
+        }
+        i += 1;
+    }
+    false
+}
+
+// Whether a lent base is no refusal, but for its length and its being UTF-8.
+pub fn is_base(s: &[u8]) -> bool
+    ensures { λ r. ⌜ r ≡ (has-scheme (now (s .entry)) && not (some-byte forbidden (now (s .entry)))) ⌝ }
+{
+    if has_scheme(s) {
+        return !holds_forbidden(s);
+    }
+    false
 }

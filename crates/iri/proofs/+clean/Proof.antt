@@ -6,6 +6,8 @@ use borrow.Author.Needs.{needs}
 use borrow.Fn.Kinds.{In}
 use borrow.Fn.PlainCycle.{Measures, is, falls, and}
 use Rattle.iri.proofs.clean.Kinds as clean-kinds
+use Rattle.iri.proofs.clean.Reads as clean
+use Rattle.iri.proofs.take_turn.Reads as take-turn-reads
 use Rattle.iri.proofs.+clean.Lts-clean as clean-lts
 use Rattle.iri.proofs.+clean.{statement}
 use Rattle.iri.proofs.+clean.Tie.{close}
