@@ -1,11 +1,11 @@
 -- Laws of writing a text over the front of a slice.
-use Prim.Native.Nat.{ℕ, zero, suc, _+_, _≤_, _<_}
+use Prim.Native.Nat.{ℕ, zero, suc, _+_, _-_, _≤_, _<_}
 use mathlib.Core.Path.{_≡_, refl, ap, sym, _∙_}
-use mathlib.Core.List.{[], _∷_, _++_}
+use mathlib.Core.List.{[], _∷_, _++_, append-nil}
 use native.Mathlib.Numerals.{add-one}
 use native.Mathlib.Nat.{zero-add, suc-add}
 use native.Mathlib.Omega.{arith}
-use lib.ListN.{length, getD, take, drop, set, length-drop}
+use lib.ListN.{length, getD, take, drop, set, length-drop, drop-of-length-le}
 use lib.Seq.{take-nil, take-all, take-append-seam, getD-drop}
 use Rattle.text.specs.Text.{Text}
 use Rattle.text.specs.Slice.{over, over-at}
@@ -126,3 +126,25 @@ over-at-later at s x k h =
     let e : getD (drop k (over-at at s x)) 0 0 ≡ getD (drop k x) 0 0 = ap (λ (l : Text). getD l 0 0) (over-at-back at s x k h) in
     let z : k + 0 ≡ k = omega arith in
     rw (getD-drop k (over-at at s x) 0 0, getD-drop k x 0 0, z) at e
+
+-- A front that ends before the place where a text was written.
+pub over-at-before : (at : ℕ) (s x : Text) (n : ℕ) → n ≤ at → take n (over-at at s x) ≡ take n x
+unfolding over-at
+over-at-before at s x zero h = refl
+over-at-before zero s x (suc n) h = absurd (omega arith)
+over-at-before (suc at) s [] (suc n) h = rw (over-nothing s)
+over-at-before (suc at) s (b ∷ x) (suc n) h = ap (λ (l : Text). b ∷ l) (over-at-before at s x n (omega arith))
+
+pub over-at-from : (at : ℕ) (s x : Text) → drop at (over-at at s x) ≡ over s (drop at x)
+unfolding over-at
+over-at-from zero s x = refl
+over-at-from (suc at) s [] = rw (over-nothing s)
+over-at-from (suc at) s (b ∷ x) = over-at-from at s x
+
+-- A text written over the front of a part is written over the whole at the part's start.
+pub over-part : (at : ℕ) (s x y : Text) (k : ℕ) → k ≡ length x - at → y ≡ over s (take k (drop at x)) → take at x ++ (y ++ drop k (drop at x)) ≡ over-at at s x
+unfolding over-at
+over-part at s x y k e f =
+    let whole : take k (drop at x) ≡ drop at x = take-all k (drop at x) (omega (arith, length-drop at x)) in
+    let gone : drop k (drop at x) ≡ [] = drop-of-length-le (drop at x) {i = k} (omega (arith, length-drop at x)) in
+    rw (f, whole, gone, append-nil)
