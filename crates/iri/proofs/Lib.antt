@@ -6,3 +6,4 @@ pub mod Schemes
 pub mod Plans
 pub mod Puts
 pub mod Examples
+pub mod Escaped

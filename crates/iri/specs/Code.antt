@@ -2,17 +2,19 @@
 use Prim.Native.Nat.{ℕ, zero, suc, _+_, _-_, _≤_}
 use mathlib.Core.Path.{_≡_}
 use mathlib.Core.List.{[], _∷_, _++_}
-use mathlib.Core.Bool.{Bool, not, _&&_, _||_}
+use mathlib.Core.Bool.{Bool, true, false, not, _&&_, _||_}
 use lib.ListN.{length, take, drop, getD, replicate}
 use lib.Dec.{eqb, ltb}
 use denote.Ref.{RefT, at-last}
 use Rattle.text.specs.Text.{Text, ascii, cond, is, one-of, begins, same-text}
-use Rattle.iri.specs.Iri.{scheme-byte, has-scheme}
+use Rattle.iri.specs.Iri.{letter, scheme-byte, has-scheme}
 use Rattle.iri.specs.Dots.{buffers, turn, turns, remove-dot-segments}
 use Rattle.iri.specs.Resolve.{resolve, resolve-with-dots, resolved}
 use Rattle.iri.specs.declared.Rule.{Rule}
 use Rattle.iri.specs.declared.Rule.the-variants.{UpSlash, HereSlash, SlashHere, SlashHereEnd, SlashUp, SlashUpEnd, Dots, Segment}
 use Rattle.iri.specs.declared.Turn.{Turn}
+use Rattle.iri.specs.declared.Verdict.{Verdict}
+use Rattle.iri.specs.declared.Verdict.the-variants.{More, Yes, No}
 use Rattle.iri.specs.declared.Part.{Part}
 use Rattle.iri.specs.declared.Part.the-variants.{Authority, Path, Query, Scheme, Colon}
 use Rattle.iri.specs.declared.Ends.{Ends}
@@ -29,6 +31,23 @@ before p (c ∷ s) = let r = suc (before p s) in cond (p c) 0 r
 unfoldable pub slash-end : Text → ℕ → ℕ
 slash-end s zero = 0
 slash-end s (suc n) = cond (eqb (getD s n 0) 47) (suc n) (slash-end s n)
+
+-- A scheme, looked for byte by byte: at the first byte, and later.
+unfoldable pub scheme-from : Bool → Text → Bool
+scheme-from first [] = false
+scheme-from true (c ∷ s) = let r = scheme-from false s in cond (letter c) r false
+scheme-from false (c ∷ s) = let r = scheme-from false s in cond (scheme-byte c) r (is ":" c)
+
+-- What the n bytes that a character has in UTF-8 say of it; v is the character, or the byte where it is one.
+unfoldable pub verdict : Bool → ℕ → ℕ → Verdict
+verdict first n v =
+    cond (eqb n 0) More
+    (cond (ltb 1 n) No
+    (cond first (cond (letter v) More No)
+    (cond (scheme-byte v) More (cond (eqb v 58) Yes No))))
+
+abbrev pub later : Bool → ℕ → Bool
+later first n = cond (ltb 0 n) false first
 
 -- What stands from at to the end.
 abbrev pub window : Text → ℕ → ℕ → Text

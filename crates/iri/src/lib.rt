@@ -1,4 +1,5 @@
 // IRIs: which references have a scheme, and their resolution against a base (RFC 3986, section 5.2).
+use escape::Scan;
 ghost use mathlib.Core.Path.{_≡_};
 ghost use mathlib.Core.Bool.{true, false, not, _&&_};
 ghost use Prim.Native.Nat.{_+_, _-_, _≤_, _<_};
@@ -7,6 +8,8 @@ ghost use Rattle.iri.specs.Iri.{letter, scheme-byte, has-scheme, forbidd
 ghost use Rattle.text.specs.Text.{one-of, some-byte};
 ghost use mathlib.Core.List.{_++_};
 ghost use Rattle.text.specs.Slice.{over, over-at};
+ghost use Rattle.escape.specs.Escape.{unescape};
+ghost use Rattle.iri.specs.Code.{scheme-from, verdict, later};
 ghost use Rattle.iri.specs.Code.{before, stop, slash-end, window, rule, rule-by, segment, Moved, Turned, Cleaned, Removed};
 ghost use Rattle.iri.specs.Code.{authority-length, ends-of, plan-by, plan-of, Holds, ResolvedAt, Resolved};
 ghost use Rattle.iri.specs.Resolve.{resolve-with-dots};
@@ -30,6 +33,13 @@ pub enum Part {
     Query,
     Scheme,
     Colon,
+}
+
+// What a byte says of a scheme: it may go on, it has ended in a colon, there is none.
+pub enum Verdict {
+    More,
+    Yes,
+    No,
 }
 
 // Where the authority, the path and the query of a text end.
@@ -353,6 +363,78 @@ pub fn has_scheme(s: &[u8]) -> bool
         return false;
     }
     s[n] == 58
+}
+
+// What a byte says of a scheme, at its first place and later.
+fn judge_byte(first: bool, c: u8) -> Verdict
+    ensures { λ r. ⌜ r ≡ verdict first 1 c ⌝ }
+{
+    if first {
+        if is_letter(c) {
+            return Verdict::More;
+        }
+        return Verdict::No;
+    }
+    if is_scheme_byte(c) {
+        return Verdict::More;
+    }
+    if c == 58 {
+        return Verdict::Yes;
+    }
+    Verdict::No
+}
+
+// What a piece of an escaped text says of a scheme: none, a byte, a character of more bytes.
+fn judge(first: bool, n: usize, v: usize) -> Verdict
+    ensures { λ r. ⌜ r ≡ verdict first n v ⌝ }
+{
+    if n == 0 {
+        return Verdict::More;
+    }
+    if 1 < n {
+        return Verdict::No;
+    }
+    if 255 < v {
+        return Verdict::No;
+    }
+    judge_byte(first, v as u8)
+}
+
+// Whether the first byte of the text is still to come.
+fn still_first(first: bool, n: usize) -> bool
+    ensures { λ r. ⌜ r ≡ later first n ⌝ }
+{
+    if 0 < n {
+        return false;
+    }
+    first
+}
+
+// Whether a reference has a scheme when its escapes are undone.
+pub fn has_scheme_unescaped(s: &[u8]) -> bool
+    ensures { λ r. ⌜ r ≡ has-scheme (unescape (now (s .entry))) ⌝ }
+{
+    let mut scan = Scan::text();
+    let mut first = true;
+    let mut i: usize = 0;
+    while i < s.len() {
+        scan = scan.step(s[i]);
+        let n = scan.n;
+        let v = judge(first, n, scan.value);
+        match v {
+            Verdict::Yes => {
+                return true;
+            }
+            Verdict::No => {
+                return false;
+            }
+            Verdict::More => {
+                first = still_first(first, n);
+                i += 1;
+            }
+        }
+    }
+    false
 }
 
 // Where the authority ends of a text that begins at start.
