@@ -4,3 +4,6 @@ pub mod Buffer
 pub mod Parts
 pub mod Schemes
 pub mod Plans
+pub mod Puts
+pub mod Examples
+pub mod Escaped

@@ -1,15 +1,15 @@
 -- Laws of places in a text, and of windows of a buffer.
 use Prim.Native.Nat.{ℕ, zero, suc, _+_, _-_, _≤_, _<_}
 use mathlib.Core.Path.{_≡_, refl, ap, sym, subst, _∙_}
-use mathlib.Core.List.{List, [], _∷_, _++_, append-nil, append-assoc}
+use mathlib.Core.List.{[], _∷_, append-nil, append-assoc}
 use mathlib.Core.Bool.{Bool, true, false, not, _||_}
 use native.Mathlib.Numerals.{add-one}
-use native.Mathlib.Nat.{zero-add, add-zero, add-assoc}
+use native.Mathlib.Nat.{add-zero}
 use native.Mathlib.Omega.{arith}
-use lib.ListN.{length, getD, take, drop, set, length-drop, length-take, length-set, length-append, List·getD-eq-default}
-use lib.Seq.{take-all, drop-cons, take-suc, drop-drop, take-take, getD-drop, getD-take, length-take-le, take-suc-set, drop-set-lt, take-add}
+use lib.ListN.{length, getD, take, drop, set, length-drop, length-set, List·getD-eq-default}
+use lib.Seq.{drop-cons, take-suc, drop-drop, getD-drop, getD-take, length-take-le, take-suc-set, drop-set-lt}
 use lib.Dec.{eqb}
-use borrow.Author.Tests.{eq-eqb, ne-eqb, eqb-true, eqb-false}
+use borrow.Author.Tests.{ne-eqb, eqb-true, eqb-false}
 use Rattle.text.specs.Text.{Text, cond, is, until, from, some-byte}
 use Rattle.text.proofs.Compare.{by}
 use Rattle.iri.specs.Dots.{without-last-segment}

@@ -1,13 +1,12 @@
 -- An IRI before its dot segments go is a front of the base, at most a slash, and the reference.
 use Prim.Native.Nat.{ℕ, zero, suc, _+_, _-_, _≤_, _<_}
-use mathlib.Core.Path.{_≡_, refl, ap, sym, subst, _∙_}
-use mathlib.Core.List.{List, [], _∷_, _++_, append-nil, append-assoc}
-use mathlib.Core.Bool.{Bool, true, false, not, _&&_}
-use native.Mathlib.Nat.{zero-add}
+use mathlib.Core.Path.{_≡_, refl, ap, sym, _∙_}
+use mathlib.Core.List.{[], _∷_, _++_, append-assoc}
+use mathlib.Core.Bool.{Bool, true, false, _&&_}
 use native.Mathlib.Omega.{arith}
 use lib.ListN.{length, getD, take, drop, replicate, length-take, length-drop, length-append, take-append-drop}
-use lib.Seq.{drop-drop, take-add, take-take, take-nil, length-take-le, take-length}
-use lib.Dec.{eqb, leb, ltb}
+use lib.Seq.{drop-drop, take-add, take-take, length-take-le}
+use lib.Dec.{eqb, ltb}
 use borrow.Author.Tests.{eq-eqb, ne-eqb, eqb-true, eqb-false, ltb-true, ltb-false}
 use Rattle.text.specs.Text.{Text, ascii, cond, empty, begins}
 use Rattle.text.proofs.Compare.{by, contrary}

@@ -1,7 +1,7 @@
 -- Which bytes a scheme has, and where it ends.
 use Prim.Native.Nat.{ℕ, zero, suc, _+_, _≤_, _<_}
-use mathlib.Core.Path.{_≡_, refl, ap, sym, _∙_}
-use mathlib.Core.List.{List, [], _∷_, _++_, append-assoc}
+use mathlib.Core.Path.{_≡_, refl, sym, _∙_}
+use mathlib.Core.List.{[], _∷_, _++_, append-assoc}
 use native.Mathlib.Numerals.{add-one}
 use mathlib.Core.Bool.{Bool, true, false, not, _&&_, _||_}
 use native.Mathlib.Omega.{arith}
@@ -9,14 +9,14 @@ use lib.ListN.{length, getD, take, drop, drop-of-length-le}
 use lib.Seq.{take-suc, drop-drop}
 use lib.Dec.{eqb, leb, ltb}
 use borrow.Author.Tests.{ne-eqb, eqb-true, le-leb, lt-leb, ltb-true, ltb-false}
-use Rattle.text.specs.Text.{Text, cond, is, one-of, between, until, from}
-use Rattle.text.proofs.Compare.{by, contrary, and-left, and-right}
-use Rattle.iri.specs.Iri.{letter, scheme-byte, first-is, has-scheme, scheme, after-scheme}
+use Rattle.text.specs.Text.{Text, is}
+use Rattle.text.proofs.Compare.{by, contrary, and-right}
+use Rattle.iri.specs.Iri.{letter, scheme-byte, first-is, has-scheme, scheme, after-scheme, forbidden}
 use Rattle.iri.specs.Code.{before, stop, scheme-end}
 use Rattle.iri.specs.declared.Part.{Part}
-use Rattle.iri.specs.declared.Part.the-variants.{Authority, Path, Query, Scheme, Colon}
+use Rattle.iri.specs.declared.Part.the-variants.{Scheme, Colon}
 use Rattle.iri.proofs.Turns.{and-false}
-use Rattle.iri.proofs.Places.{before-most, until-take, from-drop}
+use Rattle.iri.proofs.Places.{until-take, from-drop}
 
 or-right : (a b : Bool) → b ≡ true → true ≡ (a || b)
 or-right true b e = refl
@@ -119,3 +119,8 @@ module _ (s : Text) (h : before (stop Colon) s < length s) where
 pub or-false : (b : Bool) → (b || false) ≡ b
 or-false true = refl
 or-false false = refl
+
+-- The last byte that an IRIREF forbids unescaped.
+pub forbidden-last : (c : ℕ) → 0x20 < c → (c ≡ 60 → ⊥) → (c ≡ 62 → ⊥) → (c ≡ 34 → ⊥) → (c ≡ 123 → ⊥) → (c ≡ 125 → ⊥) → (c ≡ 124 → ⊥) → (c ≡ 94 → ⊥) → (c ≡ 96 → ⊥) → eqb c 92 ≡ forbidden c
+forbidden-last c h n1 n2 n3 n4 n5 n6 n7 n8 =
+    rw (lt-leb c 0x20 h, ne-eqb c 60 n1, ne-eqb c 62 n2, ne-eqb c 34 n3, ne-eqb c 123 n4, ne-eqb c 125 n5, ne-eqb c 124 n6, ne-eqb c 94 n7, ne-eqb c 96 n8) (sym (or-false (eqb c 92)))

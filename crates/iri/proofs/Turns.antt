@@ -1,19 +1,19 @@
 -- The turns of 5.2.4's loop: by the first bytes; each shortens the input; one more turn.
-use Prim.Native.Nat.{ℕ, zero, suc, _+_, _-_, _≤_, _<_}
+use Prim.Native.Nat.{ℕ, zero, suc, _+_, _≤_, _<_}
 use mathlib.Core.Path.{_≡_, refl, ap, sym, subst, _∙_}
-use mathlib.Core.List.{List, [], _∷_, _++_, append-nil}
+use mathlib.Core.List.{[], _∷_, _++_, append-nil}
 use mathlib.Core.Bool.{Bool, true, false, _&&_, _||_}
 use native.Mathlib.Omega.{arith}
 use lib.ListN.{length, getD, take, drop, length-drop}
 use lib.Dec.{eqb}
 use borrow.Author.Tests.{eq-eqb, ne-eqb, eqb-true, eqb-false}
-use Rattle.text.specs.Text.{Text, ascii, cond, is, begins, same-text, until, from}
+use Rattle.text.specs.Text.{Text, ascii, cond, is, begins, same-text}
 use Rattle.text.proofs.Compare.{by, begins-length, same-eq}
-use Rattle.iri.specs.Dots.{Buffers, buffers, without-last-segment, first-segment, after-first-segment, turn, turns, remove-dot-segments}
-use Rattle.iri.specs.Code.{before, rule, rule-by, segment, clean, window}
+use Rattle.iri.specs.Dots.{Buffers, buffers, without-last-segment, first-segment, after-first-segment, turn, turns}
+use Rattle.iri.specs.Code.{before, rule, rule-by, segment, clean}
 use Rattle.iri.specs.declared.Rule.{Rule}
 use Rattle.iri.specs.declared.Rule.the-variants.{UpSlash, HereSlash, SlashHere, SlashHereEnd, SlashUp, SlashUpEnd, Dots, Segment}
-use Rattle.iri.proofs.Places.{before-most, before-more, before-here, before-end, until-take, from-drop, window-length}
+use Rattle.iri.proofs.Places.{before-most, before-more, before-here, before-end, until-take, from-drop}
 
 pub eqb-sym : (a b : ℕ) → eqb a b ≡ eqb b a
 eqb-sym a b = by (eqb a b) (λ e. e ∙ sym (eq-eqb b a (sym (eqb-true a b e)))) (λ e. e ∙ sym (ne-eqb b a (λ q. eqb-false a b e (sym q))))

@@ -1,18 +1,20 @@
 -- What the helper functions of the code promise.
 use Prim.Native.Nat.{ℕ, zero, suc, _+_, _-_, _≤_}
 use mathlib.Core.Path.{_≡_}
-use mathlib.Core.List.{List, [], _∷_, _++_}
+use mathlib.Core.List.{[], _∷_, _++_}
 use mathlib.Core.Bool.{Bool, true, false, not, _&&_, _||_}
 use lib.ListN.{length, take, drop, getD, replicate}
-use lib.Dec.{eqb, leb, ltb}
+use lib.Dec.{eqb, ltb}
 use denote.Ref.{RefT, at-last}
-use Rattle.text.specs.Text.{Text, ascii, cond, is, one-of, begins, same-text, some-byte}
-use Rattle.iri.specs.Iri.{letter, scheme-byte, has-scheme, forbidden}
-use Rattle.iri.specs.Dots.{Buffers, buffers, turn, turns, remove-dot-segments}
-use Rattle.iri.specs.Resolve.{resolve, resolve-with-dots, resolved, authority-of}
+use Rattle.text.specs.Text.{Text, ascii, cond, is, one-of, begins, same-text}
+use Rattle.iri.specs.Iri.{letter, scheme-byte, has-scheme}
+use Rattle.iri.specs.Dots.{buffers, turn, turns, remove-dot-segments}
+use Rattle.iri.specs.Resolve.{resolve, resolve-with-dots, resolved}
 use Rattle.iri.specs.declared.Rule.{Rule}
 use Rattle.iri.specs.declared.Rule.the-variants.{UpSlash, HereSlash, SlashHere, SlashHereEnd, SlashUp, SlashUpEnd, Dots, Segment}
 use Rattle.iri.specs.declared.Turn.{Turn}
+use Rattle.iri.specs.declared.Verdict.{Verdict}
+use Rattle.iri.specs.declared.Verdict.the-variants.{More, Yes, No}
 use Rattle.iri.specs.declared.Part.{Part}
 use Rattle.iri.specs.declared.Part.the-variants.{Authority, Path, Query, Scheme, Colon}
 use Rattle.iri.specs.declared.Ends.{Ends}
@@ -29,6 +31,23 @@ before p (c ∷ s) = let r = suc (before p s) in cond (p c) 0 r
 unfoldable pub slash-end : Text → ℕ → ℕ
 slash-end s zero = 0
 slash-end s (suc n) = cond (eqb (getD s n 0) 47) (suc n) (slash-end s n)
+
+-- A scheme, looked for byte by byte: at the first byte, and later.
+unfoldable pub scheme-from : Bool → Text → Bool
+scheme-from first [] = false
+scheme-from true (c ∷ s) = let r = scheme-from false s in cond (letter c) r false
+scheme-from false (c ∷ s) = let r = scheme-from false s in cond (scheme-byte c) r (is ":" c)
+
+-- What the n bytes that a character has in UTF-8 say of it; v is the character, or the byte where it is one.
+unfoldable pub verdict : Bool → ℕ → ℕ → Verdict
+verdict first n v =
+    cond (eqb n 0) More
+    (cond (ltb 1 n) No
+    (cond first (cond (letter v) More No)
+    (cond (scheme-byte v) More (cond (eqb v 58) Yes No))))
+
+abbrev pub later : Bool → ℕ → Bool
+later first n = cond (ltb 0 n) false first
 
 -- What stands from at to the end.
 abbrev pub window : Text → ℕ → ℕ → Text
@@ -161,3 +180,33 @@ pub record Planned (base ref : Text) (p : Plan) : Type 0 where
   pub kept : p .keep ≤ length base
   pub one : p .slash ≤ 1
   pub inside : p .path ≤ length ref
+
+-- The front of y holds the reference resolved, r bytes long.
+pub record Holds (base ref x y : Text) (r : ℕ) : Type 0 where
+  pub long : r ≡ length (resolve base ref)
+  pub size : length y ≡ length x
+  pub front : take r y ≡ resolve base ref
+
+-- What resolving a reference without a scheme against a base with one answers, and leaves in the buffer.
+unfoldable pub relative-answer : Text → Text → ℕ → Resolution
+relative-answer base ref room = cond (ltb room (length (resolve-with-dots base ref))) Long (Written (length (resolve base ref)))
+
+-- "A reference with a scheme .. is taken as written"; "relative reference, no base in force"; an IRI "as resolved before
+-- its dot segments go" has to fit the buffer.
+unfoldable pub answer : Text → Text → ℕ → Resolution
+answer base ref room = cond (has-scheme ref) (Written (length ref)) (cond (has-scheme base) (relative-answer base ref room) NoBase)
+
+-- The reference is the end of the buffer, n bytes; what is written stands in its front.
+unfoldable pub reference : Text → ℕ → Text
+reference x n = drop (length x - n) x
+
+pub record Resolved (base x y : Text) (n : ℕ) (a : Resolution) : Type 0 where
+  pub is : a ≡ cond (ltb (length x) n) Long (answer base (reference x n) (length x))
+  pub size : length y ≡ length x
+  pub front : (k : ℕ) → a ≡ Written k → take k y ≡ resolved base (reference x n)
+
+-- The same of a reference without a scheme that begins at a place, against a base with one.
+pub record ResolvedAt (base x y : Text) (start : ℕ) (a : Resolution) : Type 0 where
+  pub is : a ≡ relative-answer base (drop start x) (length x)
+  pub size : length y ≡ length x
+  pub front : (k : ℕ) → a ≡ Written k → take k y ≡ resolve base (drop start x)

@@ -1,13 +1,18 @@
 // IRIs: which references have a scheme, and their resolution against a base (RFC 3986, section 5.2).
+use escape::Scan;
 ghost use mathlib.Core.Path.{_≡_};
-ghost use mathlib.Core.Bool.{true, false};
+ghost use mathlib.Core.Bool.{true, false, not, _&&_};
 ghost use Prim.Native.Nat.{_+_, _-_, _≤_, _<_};
-ghost use lib.ListN.{length, getD, take, drop};
-ghost use Rattle.iri.specs.Iri.{letter, scheme-byte, has-scheme};
-ghost use Rattle.text.specs.Text.{one-of};
-ghost use Rattle.text.specs.Slice.{over-at};
+ghost use lib.ListN.{length, getD, take, drop, replicate};
+ghost use Rattle.iri.specs.Iri.{letter, scheme-byte, has-scheme, forbidden};
+ghost use Rattle.text.specs.Text.{one-of, some-byte};
+ghost use mathlib.Core.List.{_++_};
+ghost use Rattle.text.specs.Slice.{over, over-at};
+ghost use Rattle.escape.specs.Escape.{unescape};
+ghost use Rattle.iri.specs.Code.{scheme-from, verdict, later};
 ghost use Rattle.iri.specs.Code.{before, stop, slash-end, window, rule, rule-by, segment, Moved, Turned, Cleaned, Removed};
-ghost use Rattle.iri.specs.Code.{authority-length, ends-of, plan-by, plan-of};
+ghost use Rattle.iri.specs.Code.{authority-length, ends-of, plan-by, plan-of, Holds, ResolvedAt, Resolved};
+ghost use Rattle.iri.specs.Resolve.{resolve-with-dots};
 
 // The steps of RFC 3986, section 5.2.4, by what the rest of the path begins with.
 pub enum Rule {
@@ -28,6 +33,13 @@ pub enum Part {
     Query,
     Scheme,
     Colon,
+}
+
+// What a byte says of a scheme: it may go on, it has ended in a colon, there is none.
+pub enum Verdict {
+    More,
+    Yes,
+    No,
 }
 
 // Where the authority, the path and the query of a text end.
@@ -353,6 +365,78 @@ pub fn has_scheme(s: &[u8]) -> bool
     s[n] == 58
 }
 
+// What a byte says of a scheme, at its first place and later.
+fn judge_byte(first: bool, c: u8) -> Verdict
+    ensures { λ r. ⌜ r ≡ verdict first 1 c ⌝ }
+{
+    if first {
+        if is_letter(c) {
+            return Verdict::More;
+        }
+        return Verdict::No;
+    }
+    if is_scheme_byte(c) {
+        return Verdict::More;
+    }
+    if c == 58 {
+        return Verdict::Yes;
+    }
+    Verdict::No
+}
+
+// What a piece of an escaped text says of a scheme: none, a byte, a character of more bytes.
+fn judge(first: bool, n: usize, v: usize) -> Verdict
+    ensures { λ r. ⌜ r ≡ verdict first n v ⌝ }
+{
+    if n == 0 {
+        return Verdict::More;
+    }
+    if 1 < n {
+        return Verdict::No;
+    }
+    if 255 < v {
+        return Verdict::No;
+    }
+    judge_byte(first, v as u8)
+}
+
+// Whether the first byte of the text is still to come.
+fn still_first(first: bool, n: usize) -> bool
+    ensures { λ r. ⌜ r ≡ later first n ⌝ }
+{
+    if 0 < n {
+        return false;
+    }
+    first
+}
+
+// Whether a reference has a scheme when its escapes are undone.
+pub fn has_scheme_unescaped(s: &[u8]) -> bool
+    ensures { λ r. ⌜ r ≡ has-scheme (unescape (now (s .entry))) ⌝ }
+{
+    let mut scan = Scan::text();
+    let mut first = true;
+    let mut i: usize = 0;
+    while i < s.len() {
+        scan = scan.step(s[i]);
+        let n = scan.n;
+        let v = judge(first, n, scan.value);
+        match v {
+            Verdict::Yes => {
+                return true;
+            }
+            Verdict::No => {
+                return false;
+            }
+            Verdict::More => {
+                first = still_first(first, n);
+                i += 1;
+            }
+        }
+    }
+    false
+}
+
 // Where the authority ends of a text that begins at start.
 fn authority_end(s: &[u8], start: usize) -> usize
     requires { ⌜ start ≤ length (now s) ⌝ }
@@ -476,4 +560,148 @@ fn make_plan(base: &[u8], reference: &[u8]) -> Plan
     let b = part_ends(base, k);
     let r = part_ends(reference, 0);
     choose(base, reference, k, b, r)
+}
+
+// Writes a slash, or none, at a place.
+fn put_slash(out: &mut [u8], at: usize, n: usize)
+    requires { ⌜ (n ≤ 1) × (at + n ≤ length (now out)) ⌝ }
+    ensures { λ r. ⌜ now (out .exit) ≡ over-at at (replicate n 47) (now (out .entry)) ⌝ }
+{
+    if n == 1 {
+        out[at] = 47;
+    }
+}
+
+// n bytes from start go to a place that is not behind it.
+fn move_left(out: &mut [u8], start: usize, n: usize, to: usize)
+    requires { ⌜ (to ≤ start) × (start + n ≤ length (now out)) ⌝ }
+    ensures { λ r. ⌜ now (out .exit) ≡ over-at to (take n (drop start (now (out .entry)))) (now (out .entry)) ⌝ }
+{
+    let mut i: usize = 0;
+    while i < n {
+        let c = out[start + i];
+        out[to + i] = c;
+        i += 1;
+    }
+}
+
+// Writes the part of the base, the slash and the path of the reference, which begins at start.
+fn put_front(base: &[u8], out: &mut [u8], start: usize, p: Plan)
+    requires { ⌜ ((p .keep ≤ length (now base)) × (p .slash ≤ 1)) × ((p .keep + p .slash ≤ start) × (start + p .path ≤ length (now out))) ⌝ }
+    ensures { λ r. ⌜ now (out .exit) ≡ over (take (p .keep) (now (base .entry)) ++ (replicate (p .slash) 47 ++ take (p .path) (drop start (now (out .entry))))) (now (out .entry)) ⌝ }
+{
+    let keep = p.keep;
+    let slash = p.slash;
+    let path = p.path;
+    text::copy(&base[..keep], out);
+    put_slash(out, keep, slash);
+    move_left(out, start, path, keep + slash);
+}
+
+// Writes the IRI by the plan of the reference that begins at start; its length.
+fn put_resolved(base: &[u8], out: &mut [u8], start: usize, p: Plan) -> usize
+    requires { ⌜ (((before (stop Part.Colon) (now base) < length (now base)) × (start ≤ length (now out))) × (p ≡ plan-of (now base) (drop start (now out)))) × (p .keep + p .slash ≤ start) ⌝ }
+    ensures { λ r. ⌜ Holds (now (base .entry)) (drop start (now (out .entry))) (now (out .entry)) (now (out .exit)) r ⌝ }
+{
+    let from = p.from;
+    let path = p.path;
+    let end = p.keep + p.slash + path;
+    put_front(base, out, start, p);
+    let m = remove_dots(&mut out[from..], end - from);
+    let n = out.len() - start - path;
+    move_left(out, start + path, n, from + m);
+    from + m + n
+}
+
+// Resolves the reference without a scheme that begins at start, against a base with one, into the front of the buffer.
+fn resolve_at(base: &[u8], buffer: &mut [u8], start: usize) -> Resolution
+    requires { ⌜ (before (stop Part.Colon) (now base) < length (now base)) × (start ≤ length (now buffer)) ⌝ }
+    ensures { λ r. ⌜ ResolvedAt (now (base .entry)) (now (buffer .entry)) (now (buffer .exit)) start r ⌝ }
+{
+    let p = make_plan(base, &buffer[start..]);
+    let keep = p.keep;
+    let slash = p.slash;
+    if start < keep {
+        return Resolution::Long;
+    }
+    if start - keep < slash {
+        return Resolution::Long;
+    }
+    Resolution::Written(put_resolved(base, buffer, start, p))
+}
+
+// Resolves the reference that is the buffer's last n bytes into its front. What stands behind the result is not told.
+pub fn resolve(base: &[u8], buffer: &mut [u8], n: usize) -> Resolution
+    ensures { λ r. ⌜ Resolved (now (base .entry)) (now (buffer .entry)) (now (buffer .exit)) n r ⌝ }
+{
+    if buffer.len() < n {
+        return Resolution::Long;
+    }
+    let start = buffer.len() - n;
+    if has_scheme(&buffer[start..]) {
+        move_left(buffer, start, n, 0);
+        return Resolution::Written(n);
+    }
+    if has_scheme(base) {
+        return resolve_at(base, buffer, start);
+    }
+    Resolution::NoBase
+}
+
+// Whether an IRIREF forbids the byte unescaped.
+fn is_forbidden(c: u8) -> bool
+    ensures { λ r. ⌜ r ≡ forbidden c ⌝ }
+{
+    if c <= 0x20 {
+        return true;
+    }
+    if c == b'<' {
+        return true;
+    }
+    if c == b'>' {
+        return true;
+    }
+    if c == b'"' {
+        return true;
+    }
+    if c == b'{' {
+        return true;
+    }
+    if c == b'}' {
+        return true;
+    }
+    if c == b'|' {
+        return true;
+    }
+    if c == b'^' {
+        return true;
+    }
+    if c == b'`' {
+        return true;
+    }
+    c == 92
+}
+
+// Whether the text holds a byte that an IRIREF forbids unescaped.
+fn holds_forbidden(s: &[u8]) -> bool
+    ensures { λ r. ⌜ r ≡ some-byte forbidden (now (s .entry)) ⌝ }
+{
+    let mut i: usize = 0;
+    while i < s.len() {
+        if is_forbidden(s[i]) {
+            return true;
+        }
+        i += 1;
+    }
+    false
+}
+
+// Whether a lent base is no refusal, but for its length and its being UTF-8.
+pub fn is_base(s: &[u8]) -> bool
+    ensures { λ r. ⌜ r ≡ (has-scheme (now (s .entry)) && not (some-byte forbidden (now (s .entry)))) ⌝ }
+{
+    if has_scheme(s) {
+        return !holds_forbidden(s);
+    }
+    false
 }

@@ -9,7 +9,7 @@ use lib.ListN.{length, getD, drop, drop-of-length-le}
 use lib.Seq.{drop-cons}
 use lib.Dec.{eqb, ltb}
 use borrow.Author.Tests.{eq-eqb, ne-eqb, eqb-true, eqb-false, ltb-true, ltb-false}
-use Rattle.text.specs.Text.{Text, same-text, begins}
+use Rattle.text.specs.Text.{Text, same-text, begins, some-byte}
 
 -- Cases on a test, with its equation.
 pub by : {X : Type 0} (b : Bool) → (b ≡ true → X) → (b ≡ false → X) → X
@@ -93,3 +93,17 @@ same-end t j g =
 pub same-ends : (s t : Text) (i : ℕ) → length s ≤ i → length t ≤ i → same-text (drop i s) (drop i t) ≡ true
 unfolding same-text
 same-ends s t i h g = rw (drop-of-length-le s {i = i} h, drop-of-length-le t {i = i} g)
+
+-- A search for a byte that passes a test: it is here, it is further on, there is none.
+module _ (p : ℕ → Bool) (s : Text) (i : ℕ) where
+  pub some-here : i < length s → p (getD s i 0) ≡ true → some-byte p (drop i s) ≡ true
+  unfolding some-byte
+  some-here h e = rw (drop-cons s i 0 h, e)
+
+  pub some-further : i < length s → p (getD s i 0) ≡ false → some-byte p (drop i s) ≡ some-byte p (drop (i + 1) s)
+  unfolding some-byte
+  some-further h e = rw (add-one i, drop-cons s i 0 h, e)
+
+  pub some-nowhere : length s ≤ i → some-byte p (drop i s) ≡ false
+  unfolding some-byte
+  some-nowhere h = rw (drop-of-length-le s {i = i} h)

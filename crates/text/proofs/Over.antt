@@ -1,12 +1,12 @@
 -- Laws of writing a text over the front of a slice.
-use Prim.Native.Nat.{ℕ, zero, suc, _+_, _≤_, _<_}
+use Prim.Native.Nat.{ℕ, zero, suc, _+_, _-_, _≤_, _<_}
 use mathlib.Core.Path.{_≡_, refl, ap, sym, _∙_}
-use mathlib.Core.List.{[], _∷_, _++_}
+use mathlib.Core.List.{[], _∷_, _++_, append-nil}
 use native.Mathlib.Numerals.{add-one}
 use native.Mathlib.Nat.{zero-add, suc-add}
 use native.Mathlib.Omega.{arith}
-use lib.ListN.{length, getD, take, drop, set, length-drop}
-use lib.Seq.{take-nil, take-all}
+use lib.ListN.{length, getD, take, drop, set, length-drop, drop-of-length-le}
+use lib.Seq.{take-nil, take-all, take-append-seam, getD-drop}
 use Rattle.text.specs.Text.{Text}
 use Rattle.text.specs.Slice.{over, over-at}
 
@@ -95,3 +95,56 @@ over-at-whole at s x i h = rw (take-all i s h)
 pub over-at-enough : (at : ℕ) (s x : Text) (i : ℕ) → length x ≤ at + i → over-at at (take i s) x ≡ over-at at s x
 unfolding over-at
 over-at-enough at s x i h = rw (over-enough s (drop at x) i (omega (arith, length-drop at x)))
+
+-- What stands in front of the place where a text was written, the text, and what stands behind it.
+pub over-front : (s x : Text) → length s ≤ length x → take (length s) (over s x) ≡ s
+over-front s x h = rw (over-fits s x h) (take-append-seam s (drop (length s) x))
+
+pub over-back : (s x : Text) (n : ℕ) → length s ≤ n → drop n (over s x) ≡ drop n x
+unfolding over
+over-back [] x n h = refl
+over-back (a ∷ s) [] n h = refl
+over-back (a ∷ s) (b ∷ x) zero h = absurd (omega arith)
+over-back (a ∷ s) (b ∷ x) (suc n) h = over-back s x n (omega arith)
+
+pub over-at-front : (at : ℕ) (s x : Text) → at + length s ≤ length x → take (at + length s) (over-at at s x) ≡ take at x ++ s
+unfolding over-at
+over-at-front zero s x h = rw (zero-add (length s)) (over-front s x (omega arith))
+over-at-front (suc at) s [] h = absurd (omega arith)
+over-at-front (suc at) s (b ∷ x) h = rw (suc-add at (length s)) (ap (λ (l : Text). b ∷ l) (over-at-front at s x (omega arith)))
+
+pub over-at-back : (at : ℕ) (s x : Text) (n : ℕ) → at + length s ≤ n → drop n (over-at at s x) ≡ drop n x
+unfolding over-at
+over-at-back zero s x n h = over-back s x n (omega arith)
+over-at-back (suc at) s [] n h = rw (over-nothing s)
+over-at-back (suc at) s (b ∷ x) zero h = absurd (omega arith)
+over-at-back (suc at) s (b ∷ x) (suc n) h = over-at-back at s x n (omega arith)
+
+-- A place behind what was written has not changed.
+pub over-at-later : (at : ℕ) (s x : Text) (k : ℕ) → at + length s ≤ k → getD (over-at at s x) k 0 ≡ getD x k 0
+over-at-later at s x k h =
+    let e : getD (drop k (over-at at s x)) 0 0 ≡ getD (drop k x) 0 0 = ap (λ (l : Text). getD l 0 0) (over-at-back at s x k h) in
+    let z : k + 0 ≡ k = omega arith in
+    rw (getD-drop k (over-at at s x) 0 0, getD-drop k x 0 0, z) at e
+
+-- A front that ends before the place where a text was written.
+pub over-at-before : (at : ℕ) (s x : Text) (n : ℕ) → n ≤ at → take n (over-at at s x) ≡ take n x
+unfolding over-at
+over-at-before at s x zero h = refl
+over-at-before zero s x (suc n) h = absurd (omega arith)
+over-at-before (suc at) s [] (suc n) h = rw (over-nothing s)
+over-at-before (suc at) s (b ∷ x) (suc n) h = ap (λ (l : Text). b ∷ l) (over-at-before at s x n (omega arith))
+
+pub over-at-from : (at : ℕ) (s x : Text) → drop at (over-at at s x) ≡ over s (drop at x)
+unfolding over-at
+over-at-from zero s x = refl
+over-at-from (suc at) s [] = rw (over-nothing s)
+over-at-from (suc at) s (b ∷ x) = over-at-from at s x
+
+-- A text written over the front of a part is written over the whole at the part's start.
+pub over-part : (at : ℕ) (s x y : Text) (k : ℕ) → k ≡ length x - at → y ≡ over s (take k (drop at x)) → take at x ++ (y ++ drop k (drop at x)) ≡ over-at at s x
+unfolding over-at
+over-part at s x y k e f =
+    let whole : take k (drop at x) ≡ drop at x = take-all k (drop at x) (omega (arith, length-drop at x)) in
+    let gone : drop k (drop at x) ≡ [] = drop-of-length-le (drop at x) {i = k} (omega (arith, length-drop at x)) in
+    rw (f, whole, gone, append-nil)

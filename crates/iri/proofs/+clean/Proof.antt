@@ -1,16 +1,14 @@
 -- The measure is what is left of the path.
-use Prim.Native.Nat.{_-_}
-use mathlib.Core.Path.{_≡_, ap, sym, _∙_}
+use Prim.Native.Nat.{_-_, ℕ, _<_}
 use native.Mathlib.Omega.{arith}
 use Rattle.iri.proofs.Buffer.{cleaned-none, cleaned-turn}
 use borrow.Author.Needs.{needs}
-use Prim.Native.Nat.{ℕ, _<_}
 use borrow.Fn.Kinds.{In}
 use borrow.Fn.PlainCycle.{Measures, is, falls, and}
-use Rattle.iri.proofs.clean.Reads as clean
 use Rattle.iri.proofs.clean.Kinds as clean-kinds
-use Rattle.iri.proofs.+clean.Lts-clean as clean-lts
+use Rattle.iri.proofs.clean.Reads as clean
 use Rattle.iri.proofs.take_turn.Reads as take-turn-reads
+use Rattle.iri.proofs.+clean.Lts-clean as clean-lts
 use Rattle.iri.proofs.+clean.{statement}
 use Rattle.iri.proofs.+clean.Tie.{close}
 
@@ -23,7 +21,6 @@ clean-at t = and 2 clean-kinds.ps (is 2 clean-kinds.ps μ-clean t) clean.Pre
 abbrev clean-below : ℕ → In 2 clean-kinds.ps
 clean-below t = and 2 clean-kinds.ps (falls 2 clean-kinds.ps _<_ μ-clean t) clean.Pre
 
--- src/lib.rt:199:9
 clean-returns : (t : ℕ) → clean-lts.Need-returns (
   take-turn-reads.Asked,
   take-turn-reads.Learnt,
@@ -32,7 +29,6 @@ clean-returns : (t : ℕ) → clean-lts.Need-returns (
 ) (clean-at t) clean.Post
 clean-returns t c = cleaned-none (c .before .args .b .now) (c .before .args .at) (c .before .args .end) (c .before .args .w) (omega arith) (omega arith) (omega arith)
 
--- src/lib.rt:201:9
 clean-take-turn-requires : (t : ℕ) → clean-lts.Need-take-turn-requires (
   take-turn-reads.Asked,
   take-turn-reads.Learnt,
@@ -41,7 +37,6 @@ clean-take-turn-requires : (t : ℕ) → clean-lts.Need-take-turn-requires (
 ) (clean-at t) clean.Post
 clean-take-turn-requires t c κs = search needs
 
--- src/lib.rt:202:5
 clean-clean-requires : (t : ℕ) → clean-lts.Need-clean-requires (
   take-turn-reads.Asked,
   take-turn-reads.Learnt,
@@ -50,7 +45,6 @@ clean-clean-requires : (t : ℕ) → clean-lts.Need-clean-requires (
 ) (clean-at t) clean.Post
 clean-clean-requires t c κs = let m = c .before .take-turn .ensures in (omega (arith, m .less), (m .behind, (m .inside, omega (arith, m .size, m .within))))
 
--- src/lib.rt:194:1
 clean-returns-2 : (t : ℕ) → clean-lts.Need-returns-2 (
   take-turn-reads.Asked,
   take-turn-reads.Learnt,

@@ -1,50 +1,35 @@
-use mathlib.Core.Path.{sym, _∙_}
-use native.Mathlib.Omega.{arith}
 use Rattle.iri.proofs.Parts.{authority-short, authority-one, authority-two, authority-here}
 use borrow.Author.Needs.{needs}
 use Rattle.iri.proofs.authority_end.Statement.{statement}
 use Rattle.iri.proofs.authority_end.Tie as tie
-use Rattle.iri.proofs.authority_end.Reads as reads
-use Rattle.iri.proofs.authority_end.Lts as lts
-use Rattle.iri.proofs.find.Reads as find-reads
 
--- src/lib.rt:348:8
 sub-if1 : tie.Need-sub-if1
 sub-if1 c = search needs
 
--- src/lib.rt:349:9
 returns : tie.Need-returns
 returns c = authority-short (c .before .before .args .s .now) (c .before .before .args .start) (c .if1 .taken)
 
--- src/lib.rt:351:8
 shared-slice-read-if2 : tie.Need-shared-slice-read-if2
 shared-slice-read-if2 c = search needs
 
--- src/lib.rt:352:9
 returns-2 : tie.Need-returns-2
 returns-2 c = authority-one (c .before .before .before .before .args .s .now) (c .before .before .before .before .args .start) (c .if2 .taken)
 
--- src/lib.rt:354:10
 add-if3 : tie.Need-add-if3
 add-if3 c = search needs
 
--- src/lib.rt:354:8
 shared-slice-read-if3 : tie.Need-shared-slice-read-if3
 shared-slice-read-if3 c = search needs
 
--- src/lib.rt:355:9
 returns-3 : tie.Need-returns-3
 returns-3 c = authority-two (c .before .before .before .before .before .before .args .s .now) (c .before .before .before .before .before .before .args .start) (c .before .before .if2 .left) (c .if3 .taken)
 
--- src/lib.rt:357:13
 add-find : tie.Need-add-find
 add-find c = search needs
 
--- src/lib.rt:357:5
 find-requires : tie.Need-find-requires
 find-requires c κs = search needs
 
--- src/lib.rt:344:1
 returns-4 : tie.Need-returns-4
 returns-4 c = authority-here (c .before .before .before .before .before .before .before .args .s .now) (c .before .before .before .before .before .before .before .args .start) _ (c .before .before .before .if2 .left) (c .before .if3 .left) (c .find .ensures)
 

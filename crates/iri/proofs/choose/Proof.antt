@@ -1,72 +1,55 @@
-use borrow.Author.Tests.{lt-ltb, le-ltb, le-leb, lt-leb, eq-eqb, ne-eqb}
+use borrow.Author.Tests.{lt-ltb, le-ltb, eq-eqb, ne-eqb}
 use Rattle.iri.specs.Code.{plan-by}
 use Rattle.iri.proofs.Plans.{slash-fits}
 use borrow.Author.Needs.{needs}
 use Rattle.iri.proofs.choose.Statement.{statement}
 use Rattle.iri.proofs.choose.Tie as tie
-use Rattle.iri.proofs.choose.Reads as reads
-use Rattle.iri.proofs.choose.Lts as lts
-use Rattle.iri.proofs.slash_end.Reads as slash-end-reads
 
--- src/lib.rt:404:19
 add-t14 : tie.Need-add-t14
 add-t14 c = search needs
 
--- src/lib.rt:401:9
 returns : tie.Need-returns
 unfolding plan-by
 returns c = simp (lt-ltb _ _ (c .if1 .taken))
 
--- src/lib.rt:410:13
 returns-2 : tie.Need-returns-2
 unfolding plan-by
 returns-2 c = simp (eq-eqb _ _ (c .if3 .taken), eq-eqb _ _ (c .before .if2 .taken), le-ltb _ _ (c .before .before .if1 .left))
 
--- src/lib.rt:417:9
 returns-3 : tie.Need-returns-3
 unfolding plan-by
 returns-3 c = simp (ne-eqb _ _ (c .if3 .left), eq-eqb _ _ (c .before .if2 .taken), le-ltb _ _ (c .before .before .if1 .left))
 
--- src/lib.rt:424:8
 shared-slice-read-if4 : tie.Need-shared-slice-read-if4
 shared-slice-read-if4 c = search needs
 
--- src/lib.rt:425:9
 returns-4 : tie.Need-returns-4
 unfolding plan-by
 returns-4 c = simp (eq-eqb _ _ (c .if4 .taken), ne-eqb _ _ (c .before .before .if2 .left), le-ltb _ _ (c .before .before .before .if1 .left))
 
--- src/lib.rt:433:27
 sub-slash-end : tie.Need-sub-slash-end
 sub-slash-end c = search needs
 
--- src/lib.rt:433:27
 part-slash-end-start : tie.Need-part-slash-end-start
 part-slash-end-start c = search needs
 
--- src/lib.rt:433:27
 part-slash-end-end : tie.Need-part-slash-end-end
 part-slash-end-end c = search needs
 
--- src/lib.rt:433:13
 slash-end-requires : tie.Need-slash-end-requires
 slash-end-requires c κs = search needs
 
--- src/lib.rt:435:19
 add-t19 : tie.Need-add-t19
 add-t19 c = let h = slash-fits (c .before .before .before .before .before .before .before .before .before .args .base .now) (c .before .before .before .before .before .before .before .before .before .args .b .authority) (c .before .before .before .before .before .before .before .before .before .args .b .path) (c .slash-end .result) (c .slash-end .ensures) in search needs
 
--- src/lib.rt:434:9
 returns-5 : tie.Need-returns-5
 unfolding plan-by
 returns-5 c = simp (c .slash-end .ensures, lt-ltb _ _ (c .before .before .if5 .taken), ne-eqb _ _ (c .before .before .before .if4 .left), ne-eqb _ _ (c .before .before .before .before .before .if2 .left), le-ltb _ _ (c .before .before .before .before .before .before .if1 .left))
 
--- src/lib.rt:442:9
 returns-6 : tie.Need-returns-6
 unfolding plan-by
 returns-6 c = simp (lt-ltb _ _ (c .if6 .taken), le-ltb _ _ (c .before .if5 .left), ne-eqb _ _ (c .before .before .if4 .left), ne-eqb _ _ (c .before .before .before .before .if2 .left), le-ltb _ _ (c .before .before .before .before .before .if1 .left))
 
--- src/lib.rt:390:1
 returns-7 : tie.Need-returns-7
 unfolding plan-by
 returns-7 c = simp (le-ltb _ _ (c .if6 .left), le-ltb _ _ (c .before .if5 .left), ne-eqb _ _ (c .before .before .if4 .left), ne-eqb _ _ (c .before .before .before .before .if2 .left), le-ltb _ _ (c .before .before .before .before .before .if1 .left))

@@ -1,14 +1,12 @@
 -- The invariant: no slash stands from n on.
-use Prim.Native.Nat.{ℕ, _≤_, _-_, _+_}
-use mathlib.Core.Path.{_≡_, refl, ap, sym, _∙_}
+use Prim.Native.Nat.{_≤_, _-_, _+_}
+use mathlib.Core.Path.{_≡_, refl, _∙_}
 use native.Mathlib.Omega.{arith}
 use Rattle.iri.specs.Code.{slash-end}
 use Rattle.iri.proofs.Places.{cut-here, cut-on}
 use borrow.Author.Needs.{needs}
 use Rattle.iri.proofs.cut.Statement.{statement}
 use Rattle.iri.proofs.cut.Tie as tie
-use Rattle.iri.proofs.cut.Reads as reads
-use Rattle.iri.proofs.cut.Lts as lts
 
 abbrev Inv-loop : tie.InvT-loop
 Inv-loop b w n₀ n = (n ≤ w) × (slash-end (b .now) w ≡ slash-end (b .now) n)
@@ -16,31 +14,24 @@ Inv-loop b w n₀ n = (n ≤ w) × (slash-end (b .now) w ≡ slash-end (b .now) 
 abbrev μ-loop : tie.MeasureT-loop
 μ-loop b w n₀ n = n
 
--- src/lib.rt:111:5
 loop-holds : tie.Need-loop-holds Inv-loop μ-loop
 loop-holds c = search needs
 
--- src/lib.rt:112:9
 sub-n : tie.Need-sub-n Inv-loop μ-loop
 sub-n c = search needs
 
--- src/lib.rt:113:12
 index-1-if1 : tie.Need-index-1-if1 Inv-loop μ-loop
 index-1-if1 c = search needs
 
--- src/lib.rt:114:13
 returns : tie.Need-returns Inv-loop μ-loop
 returns c = let n : c .before .before .before .loop .n - 1 + 1 ≡ c .before .before .before .loop .n = omega arith in (refl, omega (arith, c .before .before .before .loop .inv .1, rw n at (cut-here (c .before .before .before .before .args .b .now .now) (c .before .before .before .loop .n - 1) (c .if1 .taken))))
 
--- src/lib.rt:111:5
 loop-less : tie.Need-loop-less Inv-loop μ-loop
 loop-less c = search needs
 
--- src/lib.rt:111:5
 loop-again : tie.Need-loop-again Inv-loop μ-loop
 loop-again c = let n : c .before .before .before .loop .n - 1 + 1 ≡ c .before .before .before .loop .n = omega arith in (omega arith, c .before .before .before .loop .inv .1 ∙ rw n at (cut-on (c .before .before .before .before .args .b .now .now) (c .before .before .before .loop .n - 1) (c .if1 .left)))
 
--- src/lib.rt:106:1
 returns-2 : tie.Need-returns-2 Inv-loop μ-loop
 unfolding slash-end
 returns-2 c = let n : c .before .loop .n ≡ 0 = omega arith in (refl, omega (arith, rw n at (c .before .loop .inv .1)))

@@ -1,20 +1,14 @@
-use borrow.Author.Tests.{lt-ltb, le-ltb, le-leb, lt-leb, eq-eqb, ne-eqb}
+use borrow.Author.Tests.{eq-eqb, ne-eqb}
 use borrow.Author.Needs.{needs}
 use Rattle.iri.proofs.ends_authority.Statement.{statement}
 use Rattle.iri.proofs.ends_authority.Tie as tie
-use Rattle.iri.proofs.ends_authority.Reads as reads
-use Rattle.iri.proofs.ends_authority.Lts as lts
-use Rattle.iri.proofs.ends_path.Reads as ends-path-reads
 
--- src/lib.rt:306:9
 returns : tie.Need-returns
 returns c = simp (eq-eqb _ _ (c .if1 .taken))
 
--- src/lib.rt:308:5
 ends-path-requires : tie.Need-ends-path-requires
 ends-path-requires c κs = search needs
 
--- src/lib.rt:302:1
 returns-2 : tie.Need-returns-2
 returns-2 c = simp (ne-eqb _ _ (c .before .if1 .left)) (c .ends-path .ensures)
 

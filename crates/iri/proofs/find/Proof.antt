@@ -1,6 +1,6 @@
 -- The invariant: no byte from start up to i ends the part.
-use Prim.Native.Nat.{ℕ, _≤_, _-_, _+_}
-use mathlib.Core.Path.{_≡_, refl, ap, sym, _∙_}
+use Prim.Native.Nat.{_≤_, _-_, _+_}
+use mathlib.Core.Path.{_≡_, refl, sym, _∙_}
 use native.Mathlib.Omega.{arith}
 use lib.ListN.{length, drop}
 use Rattle.iri.specs.Code.{before, stop}
@@ -8,9 +8,6 @@ use Rattle.iri.proofs.Places.{before-more, before-here, before-end}
 use borrow.Author.Needs.{needs}
 use Rattle.iri.proofs.find.Statement.{statement}
 use Rattle.iri.proofs.find.Tie as tie
-use Rattle.iri.proofs.find.Reads as reads
-use Rattle.iri.proofs.find.Lts as lts
-use Rattle.iri.proofs.stops.Reads as stops-reads
 
 abbrev Inv-loop : tie.InvT-loop
 Inv-loop s start part i₀ i = (i ≤ length s) × (i + before (stop part) (drop i s) ≡ start + before (stop part) (drop start s))
@@ -18,35 +15,27 @@ Inv-loop s start part i₀ i = (i ≤ length s) × (i + before (stop part) (drop
 abbrev μ-loop : tie.MeasureT-loop
 μ-loop s start part i₀ i = length s - i
 
--- src/lib.rt:317:5
 loop-holds : tie.Need-loop-holds Inv-loop μ-loop
 loop-holds c = (omega arith, refl)
 
--- src/lib.rt:318:24
 shared-slice-read-stops : tie.Need-shared-slice-read-stops Inv-loop μ-loop
 shared-slice-read-stops c = search needs
 
--- src/lib.rt:318:12
 stops-requires : tie.Need-stops-requires Inv-loop μ-loop
 stops-requires c κs = search needs
 
--- src/lib.rt:319:13
 returns : tie.Need-returns Inv-loop μ-loop
 returns c = omega (arith, c .before .before .before .before .loop .inv .1, before-here (stop (c .before .before .before .before .before .before .args .part)) (c .before .before .before .before .before .before .args .s .now) (c .before .before .before .before .loop .i) (omega arith) (sym (c .before .stops .ensures) ∙ c .if1 .taken))
 
--- src/lib.rt:321:9
 add-i : tie.Need-add-i Inv-loop μ-loop
 add-i c = search needs
 
--- src/lib.rt:317:5
 loop-less : tie.Need-loop-less Inv-loop μ-loop
 loop-less c = search needs
 
--- src/lib.rt:317:5
 loop-again : tie.Need-loop-again Inv-loop μ-loop
 loop-again c = (omega arith, omega (arith, c .before .before .before .before .loop .inv .1, before-more (stop (c .before .before .before .before .before .before .args .part)) (c .before .before .before .before .before .before .args .s .now) (c .before .before .before .before .loop .i) (omega arith) (sym (c .before .stops .ensures) ∙ c .if1 .left)))
 
--- src/lib.rt:312:1
 returns-2 : tie.Need-returns-2 Inv-loop μ-loop
 returns-2 c = omega (arith, c .before .loop .inv .1, before-end (stop (c .before .before .before .args .part)) (c .before .before .before .args .s .now) (c .before .loop .i) (omega arith))
 

@@ -5,40 +5,28 @@ use Rattle.iri.proofs.Schemes.{no-scheme-empty, no-scheme-letter, no-sc
 use borrow.Author.Needs.{needs}
 use Rattle.iri.proofs.has_scheme.Statement.{statement}
 use Rattle.iri.proofs.has_scheme.Tie as tie
-use Rattle.iri.proofs.has_scheme.Reads as reads
-use Rattle.iri.proofs.has_scheme.Lts as lts
-use Rattle.iri.proofs.find.Reads as find-reads
-use Rattle.iri.proofs.is_letter.Reads as is-letter-reads
 
--- src/lib.rt:331:9
 returns : tie.Need-returns
 returns c = no-scheme-empty (c .before .before .args .s .now) (c .if1 .taken)
 
--- src/lib.rt:333:19
 shared-slice-read-is-letter : tie.Need-shared-slice-read-is-letter
 shared-slice-read-is-letter c = search needs
 
--- src/lib.rt:333:9
 is-letter-requires : tie.Need-is-letter-requires
 is-letter-requires c κs = search needs
 
--- src/lib.rt:334:9
 returns-2 : tie.Need-returns-2
 returns-2 c = no-scheme-letter (c .before .before .before .before .before .args .s .now) (omega arith) (sym (c .before .is-letter .ensures) ∙ not-true _ (c .if2 .taken))
 
--- src/lib.rt:336:9
 find-requires : tie.Need-find-requires
 find-requires c κs = search needs
 
--- src/lib.rt:338:9
 returns-3 : tie.Need-returns-3
 returns-3 c = no-scheme-end (c .before .before .before .before .before .before .before .args .s .now) (c .before .find .result) (c .before .find .ensures) (c .if3 .taken)
 
--- src/lib.rt:340:5
 shared-slice-read-result : tie.Need-shared-slice-read-result
 shared-slice-read-result c = search needs
 
--- src/lib.rt:327:1
 returns-4 : tie.Need-returns-4
 returns-4 c = scheme-there (c .before .before .before .before .before .before .before .before .args .s .now) (c .before .before .find .result) (c .before .before .find .ensures) (c .before .if3 .left) (sym (c .before .before .before .before .is-letter .ensures) ∙ not-false _ (c .before .before .before .if2 .left))
 

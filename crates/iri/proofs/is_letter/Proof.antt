@@ -1,25 +1,17 @@
-use borrow.Author.Tests.{lt-ltb, le-ltb, le-leb, lt-leb, eq-eqb, ne-eqb}
+use borrow.Author.Tests.{le-leb, lt-leb}
 use native.Mathlib.Omega.{arith}
-use mathlib.Core.Path.{sym, _∙_}
-use borrow.Author.Needs.{needs}
 use Rattle.iri.proofs.is_letter.Statement.{statement}
 use Rattle.iri.proofs.is_letter.Tie as tie
-use Rattle.iri.proofs.is_letter.Reads as reads
-use Rattle.iri.proofs.is_letter.Lts as lts
 
--- src/lib.rt:259:9
 returns : tie.Need-returns
 returns c = simp (lt-leb 65 (c .before .args .c) (omega arith), lt-leb 97 (c .before .args .c) (omega arith))
 
--- src/lib.rt:262:9
 returns-2 : tie.Need-returns-2
 returns-2 c = simp (le-leb 65 (c .before .before .args .c) (omega arith), le-leb (c .before .before .args .c) 90 (omega arith))
 
--- src/lib.rt:265:9
 returns-3 : tie.Need-returns-3
 returns-3 c = simp (le-leb 65 (c .before .before .before .args .c) (omega arith), lt-leb (c .before .before .before .args .c) 90 (omega arith), lt-leb 97 (c .before .before .before .args .c) (omega arith))
 
--- src/lib.rt:255:1
 returns-4 : tie.Need-returns-4
 returns-4 c = simp (le-leb 65 (c .before .before .before .args .c) (omega arith), lt-leb (c .before .before .before .args .c) 90 (omega arith), le-leb 97 (c .before .before .before .args .c) (omega arith))
 

@@ -1,39 +1,27 @@
-use borrow.Author.Tests.{lt-ltb, le-ltb, le-leb, lt-leb, eq-eqb, ne-eqb}
-use native.Mathlib.Omega.{arith}
 use mathlib.Core.Path.{sym, _∙_}
 use Rattle.iri.proofs.Schemes.{scheme-letter, scheme-plus, scheme-minus, scheme-dot, scheme-low, scheme-digit}
 use borrow.Author.Needs.{needs}
 use Rattle.iri.proofs.is_scheme_byte.Statement.{statement}
 use Rattle.iri.proofs.is_scheme_byte.Tie as tie
-use Rattle.iri.proofs.is_scheme_byte.Reads as reads
-use Rattle.iri.proofs.is_scheme_byte.Lts as lts
-use Rattle.iri.proofs.is_letter.Reads as is-letter-reads
 
--- src/lib.rt:274:8
 is-letter-requires : tie.Need-is-letter-requires
 is-letter-requires c κs = search needs
 
--- src/lib.rt:275:9
 returns : tie.Need-returns
 returns c = scheme-letter (c .before .before .args .c) (sym (c .before .is-letter .ensures) ∙ c .if1 .taken)
 
--- src/lib.rt:278:9
 returns-2 : tie.Need-returns-2
 returns-2 c = scheme-plus (c .before .before .before .args .c) (c .if2 .taken)
 
--- src/lib.rt:281:9
 returns-3 : tie.Need-returns-3
 returns-3 c = scheme-minus (c .before .before .before .before .args .c) (c .if3 .taken)
 
--- src/lib.rt:284:9
 returns-4 : tie.Need-returns-4
 returns-4 c = scheme-dot (c .before .before .before .before .before .args .c) (c .if4 .taken)
 
--- src/lib.rt:287:9
 returns-5 : tie.Need-returns-5
 returns-5 c = scheme-low (c .before .before .before .before .before .before .args .c) (sym (c .before .before .before .before .before .is-letter .ensures) ∙ c .before .before .before .before .if1 .left) (c .before .before .before .if2 .left) (c .before .before .if3 .left) (c .before .if4 .left) (c .if5 .taken)
 
--- src/lib.rt:271:1
 returns-6 : tie.Need-returns-6
 returns-6 c = scheme-digit (c .before .before .before .before .before .before .args .c) (sym (c .before .before .before .before .before .is-letter .ensures) ∙ c .before .before .before .before .if1 .left) (c .before .before .before .if2 .left) (c .before .before .if3 .left) (c .before .if4 .left) (c .if5 .left)
 

@@ -5,29 +5,19 @@ use Rattle.iri.proofs.Plans.{ends-fit, plan-as}
 use borrow.Author.Needs.{needs}
 use Rattle.iri.proofs.make_plan.Statement.{statement}
 use Rattle.iri.proofs.make_plan.Tie as tie
-use Rattle.iri.proofs.make_plan.Reads as reads
-use Rattle.iri.proofs.make_plan.Lts as lts
-use Rattle.iri.proofs.choose.Reads as choose-reads
-use Rattle.iri.proofs.find.Reads as find-reads
-use Rattle.iri.proofs.part_ends.Reads as part-ends-reads
 
--- src/lib.rt:462:13
 find-requires : tie.Need-find-requires
 find-requires c κs = search needs
 
--- src/lib.rt:462:13
 add-k : tie.Need-add-k
 add-k c = search needs
 
--- src/lib.rt:463:9
 part-ends-requires : tie.Need-part-ends-requires
 part-ends-requires c κs = search needs
 
--- src/lib.rt:464:9
 part-ends-requires-2 : tie.Need-part-ends-requires-2
 part-ends-requires-2 c κs = search needs
 
--- src/lib.rt:465:5
 choose-requires : tie.Need-choose-requires
 choose-requires c κs =
     let e : c .before .before .find .result + 1 ≤ length (c .before .before .before .before .before .args .base .now) = omega (arith, c .before .before .find .ensures, c .before .before .before .before .before .pre) in
@@ -35,7 +25,6 @@ choose-requires c κs =
     let q = ends-fit (c .before .before .before .before .before .args .reference .now) 0 (c .part-ends2 .result) (omega arith) (c .part-ends2 .ensures) in
     ((e, p .1), (q .0, q .1))
 
--- src/lib.rt:458:1
 returns : tie.Need-returns
 returns c = plan-as (c .before .before .before .before .before .before .args .base .now) (c .before .before .before .before .before .before .args .reference .now) (c .before .before .before .find .result) _ _ _ (c .before .before .before .find .ensures) (c .before .before .part-ends .ensures) (c .before .part-ends2 .ensures) (c .choose .ensures)
 

@@ -1,40 +1,29 @@
-use mathlib.Core.Path.{_≡_, refl, ap, sym, _∙_}
+use mathlib.Core.Path.{refl, _∙_}
 use native.Mathlib.Omega.{arith}
 use Rattle.iri.proofs.Places.{len-of, now-of, past-read}
 use Rattle.iri.proofs.Buffer.{rule-read}
 use borrow.Author.Needs.{needs}
 use Rattle.iri.proofs.next_rule.Statement.{statement}
 use Rattle.iri.proofs.next_rule.Tie as tie
-use Rattle.iri.proofs.next_rule.Reads as reads
-use Rattle.iri.proofs.next_rule.Lts as lts
-use Rattle.iri.proofs.peek.Reads as peek-reads
-use Rattle.iri.proofs.which.Reads as which-reads
 
--- src/lib.rt:98:9
 peek-requires : tie.Need-peek-requires
 peek-requires c κs = search needs
 
--- src/lib.rt:99:9
 peek-requires-2 : tie.Need-peek-requires-2
 peek-requires-2 c κs = (search needs, omega (arith, len-of (c .before .peek .ensures .0)))
 
--- src/lib.rt:100:9
 peek-requires-3 : tie.Need-peek-requires-3
 peek-requires-3 c κs = (search needs, omega (arith, len-of (c .before .before .before .peek .ensures .0), len-of (c .before .peek2 .ensures .0)))
 
--- src/lib.rt:101:9
 peek-requires-4 : tie.Need-peek-requires-4
 peek-requires-4 c κs = (search needs, omega (arith, len-of (c .before .before .before .before .before .peek .ensures .0), len-of (c .before .before .before .peek2 .ensures .0), len-of (c .before .peek3 .ensures .0)))
 
--- src/lib.rt:102:11
 sub-which : tie.Need-sub-which
 sub-which c = search needs
 
--- src/lib.rt:102:5
 which-requires : tie.Need-which-requires
 which-requires c κs = λ e. past-read (c .before .before .before .before .before .before .before .before .args .b .now .now) _ (c .before .before .before .before .before .before .before .before .args .at) (c .before .before .before .before .before .before .before .before .args .end) _ (omega arith) (now-of (c .before .before .before .before .before .before .peek .ensures .0)) (c .before .before .before .before .peek2 .ensures .1) e
 
--- src/lib.rt:94:1
 returns : tie.Need-returns
 returns c = (c .before .peek4 .ensures .0 ∙ (c .before .before .before .peek3 .ensures .0 ∙ (c .before .before .before .before .before .peek2 .ensures .0 ∙ c .before .before .before .before .before .before .before .peek .ensures .0)), rule-read _ _ _ _ _ _ _ _ _ _ _ _ (omega arith) (now-of (c .before .before .before .before .before .before .before .peek .ensures .0)) (now-of (c .before .before .before .before .before .peek2 .ensures .0 ∙ c .before .before .before .before .before .before .before .peek .ensures .0)) (now-of (c .before .before .before .peek3 .ensures .0 ∙ (c .before .before .before .before .before .peek2 .ensures .0 ∙ c .before .before .before .before .before .before .before .peek .ensures .0))) refl (c .before .before .before .before .before .before .before .peek .ensures .1) (c .before .before .before .before .before .peek2 .ensures .1) (c .before .before .before .peek3 .ensures .1) (c .before .peek4 .ensures .1) (c .which .ensures))
 

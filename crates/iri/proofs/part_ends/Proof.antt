@@ -7,24 +7,16 @@ use Rattle.iri.proofs.Parts.{authority-most, ends-are}
 use borrow.Author.Needs.{needs}
 use Rattle.iri.proofs.part_ends.Statement.{statement}
 use Rattle.iri.proofs.part_ends.Tie as tie
-use Rattle.iri.proofs.part_ends.Reads as reads
-use Rattle.iri.proofs.part_ends.Lts as lts
-use Rattle.iri.proofs.authority_end.Reads as authority-end-reads
-use Rattle.iri.proofs.find.Reads as find-reads
 
--- src/lib.rt:365:9
 authority-end-requires : tie.Need-authority-end-requires
 authority-end-requires c κs = search needs
 
--- src/lib.rt:366:9
 find-requires : tie.Need-find-requires
 find-requires c κs = omega (arith, authority-most (drop (c .before .before .args .start) (c .before .before .args .s .now)), length-drop (c .before .before .args .start) (c .before .before .args .s .now), c .authority-end .ensures)
 
--- src/lib.rt:367:9
 find-requires-2 : tie.Need-find-requires-2
 find-requires-2 c κs = omega (arith, authority-most (drop (c .before .before .before .args .start) (c .before .before .before .args .s .now)), length-drop (c .before .before .before .args .start) (c .before .before .before .args .s .now), c .before .authority-end .ensures, c .find .ensures, before-most (stop Path) (drop (c .before .authority-end .result) (c .before .before .before .args .s .now)), length-drop (c .before .authority-end .result) (c .before .before .before .args .s .now))
 
--- src/lib.rt:361:1
 returns : tie.Need-returns
 returns c = ends-are (c .before .before .before .before .args .s .now) (c .before .before .before .before .args .start) _ _ _ (c .before .before .authority-end .ensures) (c .before .find .ensures) (c .find2 .ensures)
 

@@ -4,26 +4,19 @@ use Rattle.iri.proofs.Places.{window-get, window-past}
 use borrow.Author.Needs.{needs}
 use Rattle.iri.proofs.peek.Statement.{statement}
 use Rattle.iri.proofs.peek.Tie as tie
-use Rattle.iri.proofs.peek.Reads as reads
-use Rattle.iri.proofs.peek.Lts as lts
 
--- src/lib.rt:40:12
 sub-if1 : tie.Need-sub-if1
 sub-if1 c = search needs
 
--- src/lib.rt:41:18
 add-result : tie.Need-add-result
 add-result c = search needs
 
--- src/lib.rt:41:16
 index-1-result : tie.Need-index-1-result
 index-1-result c = search needs
 
--- src/lib.rt:41:9
 returns : tie.Need-returns
 returns c = (refl, window-get (c .before .before .args .b .now .now) (c .before .before .args .at) (c .before .before .args .end) (c .before .before .args .k) (omega arith))
 
--- src/lib.rt:36:1
 returns-2 : tie.Need-returns-2
 returns-2 c = (refl, window-past (c .before .args .b .now .now) (c .before .args .at) (c .before .args .end) (c .before .args .k) (omega arith) (omega arith))
 

@@ -1,6 +1,6 @@
 -- The invariant: n bytes have moved, all of the first segment.
 use Prim.Native.Nat.{ℕ, _≤_, _<_, _-_, _+_}
-use mathlib.Core.Path.{_≡_, refl, ap, sym, _∙_}
+use mathlib.Core.Path.{_≡_, sym, _∙_}
 use mathlib.Core.Logic.{⊎-elim}
 use native.Mathlib.Omega.{arith}
 use lib.ListN.{length, getD, drop}
@@ -11,8 +11,6 @@ use Rattle.iri.proofs.Turns.{segment-more, segment-stop, segment-end}
 use borrow.Author.Needs.{needs}
 use Rattle.iri.proofs.shift.Statement.{statement}
 use Rattle.iri.proofs.shift.Tie as tie
-use Rattle.iri.proofs.shift.Reads as reads
-use Rattle.iri.proofs.shift.Lts as lts
 
 abbrev Inv-loop : tie.InvT-loop
 Inv-loop b₀ at end w n₀ b n = Moved b₀ b at w n × ((at + n ≤ end) × (0 < n → segment (window (b₀ .now) at end) ≡ n + before (is "/") (drop n (window (b₀ .now) at end))))
@@ -20,23 +18,18 @@ Inv-loop b₀ at end w n₀ b n = Moved b₀ b at w n × ((at + n ≤ end) × (0
 abbrev μ-loop : tie.MeasureT-loop
 μ-loop b₀ at end w n₀ b n = end - (at + n)
 
--- src/lib.rt:126:5
 loop-holds : tie.Need-loop-holds Inv-loop μ-loop
 loop-holds c = (moved-none (c .args .b .now) (c .args .at) (c .args .w) (omega arith), (omega arith, λ h. absurd (omega arith)))
 
--- src/lib.rt:126:11
 add-loop : tie.Need-add-loop Inv-loop μ-loop
 add-loop c = search needs
 
--- src/lib.rt:127:19
 add-c : tie.Need-add-c Inv-loop μ-loop
 add-c c = search needs
 
--- src/lib.rt:127:17
 index-1-c : tie.Need-index-1-c Inv-loop μ-loop
 index-1-c c = search needs
 
--- src/lib.rt:130:17
 returns : tie.Need-returns Inv-loop μ-loop
 returns c = let x = c .before .before .before .before .before .args .b .now in
     let at : ℕ = c .before .before .before .before .before .args .at in
@@ -46,23 +39,18 @@ returns c = let x = c .before .before .before .before .before .args .b .now in
     let next : getD (c .before .before .before .before .loop .b .now) (at + n) 0 ≡ getD (window (x .now) at end) n 0 = moved-next x (c .before .before .before .before .loop .b) at end (c .before .before .before .before .before .args .w) n (c .before .before .before .before .loop .inv .0) (omega arith) in
     (segment-stop (window (x .now) at end) n (omega arith) (omega arith) (c .before .before .before .before .loop .inv .1 .1) (sym next ∙ c .before .if1 .taken), c .before .before .before .before .loop .inv .0)
 
--- src/lib.rt:133:11
 add-b : tie.Need-add-b Inv-loop μ-loop
 add-b c = search needs
 
--- src/lib.rt:133:9
 index-1-b : tie.Need-index-1-b Inv-loop μ-loop
 index-1-b c = search needs
 
--- src/lib.rt:134:9
 add-n : tie.Need-add-n Inv-loop μ-loop
 add-n c = search needs
 
--- src/lib.rt:126:5
 loop-less : tie.Need-loop-less Inv-loop μ-loop
 loop-less c = search needs
 
--- src/lib.rt:126:5
 loop-again : tie.Need-loop-again Inv-loop μ-loop
 loop-again c = let x = c .before .before .before .before .args .b .now in
     let at : ℕ = c .before .before .before .before .args .at in
@@ -77,7 +65,6 @@ loop-again c = let x = c .before .before .before .before .args .b .now in
       ),
     )
 
--- src/lib.rt:121:1
 returns-2 : tie.Need-returns-2 Inv-loop μ-loop
 returns-2 c = let x = c .before .before .args .b .now in
     let at : ℕ = c .before .before .args .at in

@@ -1,6 +1,6 @@
 -- The invariant: no slash stands from n on.
-use Prim.Native.Nat.{ℕ, _≤_, _-_, _+_}
-use mathlib.Core.Path.{_≡_, refl, ap, sym, _∙_}
+use Prim.Native.Nat.{_≤_, _-_, _+_}
+use mathlib.Core.Path.{_≡_, refl, sym, _∙_}
 use native.Mathlib.Omega.{arith}
 use lib.ListN.{length}
 use Rattle.iri.specs.Code.{slash-end}
@@ -8,8 +8,6 @@ use Rattle.iri.proofs.Places.{cut-here, cut-on}
 use borrow.Author.Needs.{needs}
 use Rattle.iri.proofs.slash_end.Statement.{statement}
 use Rattle.iri.proofs.slash_end.Tie as tie
-use Rattle.iri.proofs.slash_end.Reads as reads
-use Rattle.iri.proofs.slash_end.Lts as lts
 
 abbrev Inv-loop : tie.InvT-loop
 Inv-loop s n₀ n = (n ≤ length s) × (slash-end s (length s) ≡ slash-end s n)
@@ -17,35 +15,27 @@ Inv-loop s n₀ n = (n ≤ length s) × (slash-end s (length s) ≡ slash-end s 
 abbrev μ-loop : tie.MeasureT-loop
 μ-loop s n₀ n = n
 
--- src/lib.rt:380:5
 loop-holds : tie.Need-loop-holds Inv-loop μ-loop
 loop-holds c = (omega arith, refl)
 
--- src/lib.rt:381:14
 sub-if1 : tie.Need-sub-if1 Inv-loop μ-loop
 sub-if1 c = search needs
 
--- src/lib.rt:381:12
 shared-slice-read-if1 : tie.Need-shared-slice-read-if1 Inv-loop μ-loop
 shared-slice-read-if1 c = search needs
 
--- src/lib.rt:382:13
 returns : tie.Need-returns Inv-loop μ-loop
 returns c = let n : c .before .before .before .loop .n - 1 + 1 ≡ c .before .before .before .loop .n = omega arith in sym (c .before .before .before .loop .inv .1 ∙ rw n at (cut-here (c .before .before .before .before .args .s .now) (c .before .before .before .loop .n - 1) (c .if1 .taken)))
 
--- src/lib.rt:384:9
 sub-n : tie.Need-sub-n Inv-loop μ-loop
 sub-n c = search needs
 
--- src/lib.rt:380:5
 loop-less : tie.Need-loop-less Inv-loop μ-loop
 loop-less c = search needs
 
--- src/lib.rt:380:5
 loop-again : tie.Need-loop-again Inv-loop μ-loop
 loop-again c = let n : c .before .before .before .loop .n - 1 + 1 ≡ c .before .before .before .loop .n = omega arith in (omega arith, c .before .before .before .loop .inv .1 ∙ rw n at (cut-on (c .before .before .before .before .args .s .now) (c .before .before .before .loop .n - 1) (c .if1 .left)))
 
--- src/lib.rt:376:1
 returns-2 : tie.Need-returns-2 Inv-loop μ-loop
 unfolding slash-end
 returns-2 c = let n : c .before .loop .n ≡ 0 = omega arith in sym (rw n at (c .before .loop .inv .1))

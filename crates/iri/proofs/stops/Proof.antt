@@ -1,69 +1,51 @@
-use mathlib.Core.Path.{refl, ap, _∙_}
+use mathlib.Core.Path.{refl, ap}
 use mathlib.Core.Bool.{not}
 use Rattle.iri.specs.Code.{stop}
 use Rattle.iri.proofs.Schemes.{stop-as}
 use borrow.Author.Needs.{needs}
 use Rattle.iri.proofs.stops.Statement.{statement}
 use Rattle.iri.proofs.stops.Tie as tie
-use Rattle.iri.proofs.stops.Reads as reads
-use Rattle.iri.proofs.stops.Lts as lts
-use Rattle.iri.proofs.ends_authority.Reads as ends-authority-reads
-use Rattle.iri.proofs.ends_path.Reads as ends-path-reads
-use Rattle.iri.proofs.is_scheme_byte.Reads as is-scheme-byte-reads
 
--- src/lib.rt:316:28
 enum-told : tie.Need-enum-told
 enum-told c = search needs
 
--- src/lib.rt:316:28
 ends-authority-requires : tie.Need-ends-authority-requires
 ends-authority-requires c κs = search needs
 
--- src/lib.rt:317:23
 enum-told-2 : tie.Need-enum-told-2
 enum-told-2 c = search needs
 
--- src/lib.rt:317:23
 ends-path-requires : tie.Need-ends-path-requires
 ends-path-requires c κs = search needs
 
--- src/lib.rt:318:24
 enum-told-3 : tie.Need-enum-told-3
 enum-told-3 c = search needs
 
--- src/lib.rt:319:26
 enum-told-4 : tie.Need-enum-told-4
 enum-told-4 c = search needs
 
--- src/lib.rt:319:26
 is-scheme-byte-requires : tie.Need-is-scheme-byte-requires
 is-scheme-byte-requires c κs = search needs
 
--- src/lib.rt:320:24
 enum-told-5 : tie.Need-enum-told-5
 enum-told-5 c = search needs
 
--- src/lib.rt:312:1
 returns : tie.Need-returns
 unfolding stop
 returns c = stop-as (c .before .before .before .args .c) (c .before .enum-told .given .1) (c .ends-authority .ensures)
 
--- src/lib.rt:312:1
 returns-2 : tie.Need-returns-2
 unfolding stop
 returns-2 c = stop-as (c .before .before .before .args .c) (c .before .enum-told2 .given .1) (c .ends-path .ensures)
 
--- src/lib.rt:312:1
 returns-3 : tie.Need-returns-3
 unfolding stop
 returns-3 c = stop-as (c .before .before .args .c) (c .enum-told3 .given .1) refl
 
--- src/lib.rt:312:1
 returns-4 : tie.Need-returns-4
 unfolding stop
 returns-4 c = stop-as (c .before .before .before .args .c) (c .before .enum-told4 .given .1) (ap not (c .is-scheme-byte .ensures))
 
--- src/lib.rt:312:1
 returns-5 : tie.Need-returns-5
 unfolding stop
 returns-5 c = stop-as (c .before .before .args .c) (c .enum-told5 .given .1) refl

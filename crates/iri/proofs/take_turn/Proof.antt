@@ -1,127 +1,94 @@
 -- Each step is the rule's that the rest of the path asks for.
-use mathlib.Core.Path.{_≡_, ap, sym, _∙_}
+use mathlib.Core.Path.{_∙_}
 use native.Mathlib.Omega.{arith}
-use Rattle.iri.specs.declared.Rule.the-variants.{UpSlash, HereSlash, SlashHere, SlashHereEnd, SlashUp, SlashUpEnd}
-use Rattle.iri.proofs.Places.{len-of, now-of}
+use Rattle.iri.specs.declared.Rule.the-variants.{UpSlash, HereSlash, SlashHere, SlashUp}
+use Rattle.iri.proofs.Places.{len-of}
 use Rattle.iri.proofs.Buffer.{long, turned-up, turned-here, turned-stay, turned-stay-end, turned-dots, turned-back, turned-back-end, turned-segment, segment-fits, moved-from, segment-from, cut-from}
 use borrow.Author.Needs.{needs}
 use Rattle.iri.proofs.take_turn.Statement.{statement}
 use Rattle.iri.proofs.take_turn.Tie as tie
-use Rattle.iri.proofs.take_turn.Reads as reads
-use Rattle.iri.proofs.take_turn.Lts as lts
-use Rattle.iri.proofs.cut.Reads as cut-reads
-use Rattle.iri.proofs.next_rule.Reads as next-rule-reads
-use Rattle.iri.proofs.shift.Reads as shift-reads
 
--- src/lib.rt:144:9
 next-rule-requires : tie.Need-next-rule-requires
 next-rule-requires c κs = search needs
 
--- src/lib.rt:147:17
 enum-told : tie.Need-enum-told
 enum-told c = search needs
 
--- src/lib.rt:147:17
 add-t9 : tie.Need-add-t9
 add-t9 c = let h = long (c .before .before .before .before .args .b .now) (c .before .before .before .before .args .at) (c .before .before .before .before .args .end) (c .before .before .before .before .args .w) (omega arith) (omega arith) (omega arith) (c .before .before .next-rule .result) (c .before .before .next-rule .ensures .1) UpSlash (c .enum-told .given .1) in search needs
 
--- src/lib.rt:152:17
 enum-told-2 : tie.Need-enum-told-2
 enum-told-2 c = search needs
 
--- src/lib.rt:152:17
 add-t10 : tie.Need-add-t10
 add-t10 c = let h = long (c .before .before .before .before .args .b .now) (c .before .before .before .before .args .at) (c .before .before .before .before .args .end) (c .before .before .before .before .args .w) (omega arith) (omega arith) (omega arith) (c .before .before .next-rule .result) (c .before .before .next-rule .ensures .1) HereSlash (c .enum-told2 .given .1) in search needs
 
--- src/lib.rt:157:17
 enum-told-3 : tie.Need-enum-told-3
 enum-told-3 c = search needs
 
--- src/lib.rt:157:17
 add-t11 : tie.Need-add-t11
 add-t11 c = let h = long (c .before .before .before .before .args .b .now) (c .before .before .before .before .args .at) (c .before .before .before .before .args .end) (c .before .before .before .before .args .w) (omega arith) (omega arith) (omega arith) (c .before .before .next-rule .result) (c .before .before .next-rule .ensures .1) SlashHere (c .enum-told3 .given .1) in search needs
 
--- src/lib.rt:163:18
 enum-told-4 : tie.Need-enum-told-4
 enum-told-4 c = search needs
 
--- src/lib.rt:163:18
 add-t12 : tie.Need-add-t12
 add-t12 c = search needs
 
--- src/lib.rt:167:17
 enum-told-5 : tie.Need-enum-told-5
 enum-told-5 c = search needs
 
--- src/lib.rt:167:17
 add-t13 : tie.Need-add-t13
 add-t13 c = let h = long (c .before .before .before .before .args .b .now) (c .before .before .before .before .args .at) (c .before .before .before .before .args .end) (c .before .before .before .before .args .w) (omega arith) (omega arith) (omega arith) (c .before .before .next-rule .result) (c .before .before .next-rule .ensures .1) SlashUp (c .enum-told5 .given .1) in search needs
 
--- src/lib.rt:169:16
 cut-requires : tie.Need-cut-requires
 cut-requires c κs = omega (arith, len-of (c .before .before .before .next-rule .ensures .0))
 
--- src/lib.rt:173:18
 enum-told-6 : tie.Need-enum-told-6
 enum-told-6 c = search needs
 
--- src/lib.rt:173:18
 add-t16 : tie.Need-add-t16
 add-t16 c = search needs
 
--- src/lib.rt:174:16
 cut-requires-2 : tie.Need-cut-requires-2
 cut-requires-2 c κs = omega (arith, len-of (c .before .before .before .next-rule .ensures .0))
 
--- src/lib.rt:176:23
 enum-told-7 : tie.Need-enum-told-7
 enum-told-7 c = search needs
 
--- src/lib.rt:182:27
 enum-told-8 : tie.Need-enum-told-8
 enum-told-8 c = search needs
 
--- src/lib.rt:182:17
 shift-requires : tie.Need-shift-requires
 shift-requires c κs = (omega arith, (omega arith, omega (arith, len-of (c .before .before .before .next-rule .ensures .0))))
 
--- src/lib.rt:184:21
 add-t20 : tie.Need-add-t20
 add-t20 c = let h = segment-fits (c .before .before .before .before .before .before .args .b .now) (c .before .before .before .before .before .before .args .at) (c .before .before .before .before .before .before .args .end) (c .before .before .before .before .before .before .args .w) (omega arith) (omega arith) (omega arith) (c .before .before .before .before .next-rule .result) (c .before .before .before .before .next-rule .ensures .1) (c .shift .result) (segment-from (c .before .before .before .before .next-rule .ensures .0) (c .before .before .before .before .before .before .args .at) (c .before .before .before .before .before .before .args .end) (c .shift .result) (c .shift .ensures .0)) in search needs
 
--- src/lib.rt:186:20
 add-t21 : tie.Need-add-t21
 add-t21 c = let h = segment-fits (c .before .before .before .before .before .before .args .b .now) (c .before .before .before .before .before .before .args .at) (c .before .before .before .before .before .before .args .end) (c .before .before .before .before .before .before .args .w) (omega arith) (omega arith) (omega arith) (c .before .before .before .before .next-rule .result) (c .before .before .before .before .next-rule .ensures .1) (c .shift .result) (segment-from (c .before .before .before .before .next-rule .ensures .0) (c .before .before .before .before .before .before .args .at) (c .before .before .before .before .before .before .args .end) (c .shift .result) (c .shift .ensures .0)) in search needs
 
--- src/lib.rt:140:1
 returns : tie.Need-returns
 returns c = turned-up (c .before .before .before .before .args .b .now) (c .before .before .before .before .args .at) (c .before .before .before .before .args .end) (c .before .before .before .before .args .w) (omega arith) (omega arith) (omega arith) (c .before .before .next-rule .result) (c .before .before .next-rule .ensures .1) (c .enum-told .given .1) _ (c .before .before .next-rule .ensures .0)
 
--- src/lib.rt:140:1
 returns-2 : tie.Need-returns-2
 returns-2 c = turned-here (c .before .before .before .before .args .b .now) (c .before .before .before .before .args .at) (c .before .before .before .before .args .end) (c .before .before .before .before .args .w) (omega arith) (omega arith) (omega arith) (c .before .before .next-rule .result) (c .before .before .next-rule .ensures .1) (c .enum-told2 .given .1) _ (c .before .before .next-rule .ensures .0)
 
--- src/lib.rt:140:1
 returns-3 : tie.Need-returns-3
 returns-3 c = turned-stay (c .before .before .before .before .args .b .now) (c .before .before .before .before .args .at) (c .before .before .before .before .args .end) (c .before .before .before .before .args .w) (omega arith) (omega arith) (omega arith) (c .before .before .next-rule .result) (c .before .before .next-rule .ensures .1) (c .enum-told3 .given .1) _ (c .before .before .next-rule .ensures .0)
 
--- src/lib.rt:140:1
 returns-4 : tie.Need-returns-4
 returns-4 c = turned-stay-end (c .before .before .before .before .args .b .now) (c .before .before .before .before .args .at) (c .before .before .before .before .args .end) (c .before .before .before .before .args .w) (omega arith) (omega arith) (omega arith) (c .before .before .next-rule .result) (c .before .before .next-rule .ensures .1) (c .enum-told4 .given .1) _ (c .before .before .next-rule .ensures .0)
 
--- src/lib.rt:140:1
 returns-5 : tie.Need-returns-5
 returns-5 c = turned-back (c .before .before .before .before .before .before .args .b .now) (c .before .before .before .before .before .before .args .at) (c .before .before .before .before .before .before .args .end) (c .before .before .before .before .before .before .args .w) (omega arith) (omega arith) (omega arith) (c .before .before .before .before .next-rule .result) (c .before .before .before .before .next-rule .ensures .1) (c .cut .result) (cut-from (c .before .before .before .before .next-rule .ensures .0) (c .before .before .before .before .before .before .args .w) (c .cut .result) (c .cut .ensures .1)) (c .before .before .enum-told5 .given .1) _ (c .cut .ensures .0 ∙ c .before .before .before .before .next-rule .ensures .0)
 
--- src/lib.rt:140:1
 returns-6 : tie.Need-returns-6
 returns-6 c = turned-back-end (c .before .before .before .before .before .before .args .b .now) (c .before .before .before .before .before .before .args .at) (c .before .before .before .before .before .before .args .end) (c .before .before .before .before .before .before .args .w) (omega arith) (omega arith) (omega arith) (c .before .before .before .before .next-rule .result) (c .before .before .before .before .next-rule .ensures .1) (c .cut2 .result) (cut-from (c .before .before .before .before .next-rule .ensures .0) (c .before .before .before .before .before .before .args .w) (c .cut2 .result) (c .cut2 .ensures .1)) (c .before .before .enum-told6 .given .1) _ (c .cut2 .ensures .0 ∙ c .before .before .before .before .next-rule .ensures .0)
 
--- src/lib.rt:140:1
 returns-7 : tie.Need-returns-7
 returns-7 c = turned-dots (c .before .before .before .before .args .b .now) (c .before .before .before .before .args .at) (c .before .before .before .before .args .end) (c .before .before .before .before .args .w) (omega arith) (omega arith) (omega arith) (c .before .before .next-rule .result) (c .before .before .next-rule .ensures .1) (c .enum-told7 .given .1) _ (c .before .before .next-rule .ensures .0)
 
--- src/lib.rt:140:1
 returns-8 : tie.Need-returns-8
 returns-8 c = turned-segment (c .before .before .before .before .before .before .args .b .now) (c .before .before .before .before .before .before .args .at) (c .before .before .before .before .before .before .args .end) (c .before .before .before .before .before .before .args .w) (omega arith) (omega arith) (omega arith) (c .before .before .before .before .next-rule .result) (c .before .before .before .before .next-rule .ensures .1) (c .shift .result) (segment-from (c .before .before .before .before .next-rule .ensures .0) (c .before .before .before .before .before .before .args .at) (c .before .before .before .before .before .before .args .end) (c .shift .result) (c .shift .ensures .0)) (c .before .before .enum-told8 .given .1) _ (moved-from (c .before .before .before .before .next-rule .ensures .0) (c .before .before .before .before .before .before .args .at) (c .before .before .before .before .before .before .args .w) (c .shift .result) (c .shift .ensures .1))
 

@@ -1,0 +1,75 @@
+-- How the work slice and the array of lengths hold what is in force.
+use mathlib.Core.List.{List, [], _∷_}
+use mathlib.Core.Path.{_≡_}
+use mathlib.Core.Bool.{Bool}
+use mathlib.Core.Option.{none, some}
+use Prim.Native.Nat.{ℕ, zero, suc, _+_, _*_, _≤_}
+use lib.Dec.{leb}
+use lib.ListN.{length, take, drop, getD, set}
+use Rattle.text.specs.Text.{Text, cond, same-text}
+use Rattle.text.specs.Slice.{over-at}
+use Rattle.scope.specs.Scope.{Binding, Scope, longest-iri, longest-prefix, most-prefixes, work-size, lookup, declare-answer, after-declare}
+use Rattle.scope.specs.declared.Declared.{Declared}
+use Rattle.scope.specs.declared.Found.{Found}
+use Rattle.scope.specs.declared.Found.the-variants.{At, Missing}
+
+abbrev pub at-most : ℕ → ℕ → ℕ
+at-most n most = cond (leb n most) n most
+
+-- The first n bytes of a cell, which begins at a place and has so many bytes.
+unfoldable pub cell : Text → ℕ → ℕ → ℕ → Text
+cell work start size n = take (at-most n size) (drop start work)
+
+-- "32 prefixes of 64 + 1,024 bytes, and a base of 1,024". The array has the prefixes' lengths, the namespaces', the count and the base's length.
+unfoldable pub binding : Text → List ℕ → ℕ → Binding
+binding work lens i = record {
+  prefix = cell work (i * 1088) longest-prefix (getD lens i 0);
+  namespace = cell work (i * 1088 + 64) longest-iri (getD lens (32 + i) 0);
+}
+
+-- n bindings from the k-th on.
+unfoldable pub listed : (ℕ → Binding) → ℕ → ℕ → List Binding
+listed f k zero = []
+listed f k (suc n) = f k ∷ listed f (suc k) n
+
+abbrev pub count : List ℕ → ℕ
+count lens = at-most (getD lens 64 0) most-prefixes
+
+unfoldable pub base-cell : Text → List ℕ → Text
+base-cell work lens = cell work 34816 longest-iri (getD lens 65 0)
+
+-- What the work slice and the array hold.
+unfoldable pub in-force : Text → List ℕ → Scope
+in-force work lens = record { bindings = listed (binding work lens) 0 (count lens); base = base-cell work lens }
+
+-- The place of a prefix among the bindings, their number where it has none.
+unfoldable pub place : Text → List Binding → ℕ
+place p [] = 0
+place p (b ∷ bs) = let r = suc (place p bs) in cond (same-text p (b .prefix)) 0 r
+
+-- The namespace that was found stands in the work slice.
+unfoldable pub FoundIn : Text → Scope → Text → Found → Type 0
+FoundIn p s work Missing = lookup p (s .bindings) ≡ none
+FoundIn p s work (At start n) = (lookup p (s .bindings) ≡ some (take n (drop start work))) × ((start + n ≤ length work) × (n ≤ longest-iri))
+
+-- A work slice and an array that can hold all this; the caller's are.
+pub record Usable (work : Text) (lens : List ℕ) : Type 0 where
+  pub room : work-size ≤ length work
+  pub words : length lens ≡ 66
+
+-- A prefix and its namespace have gone into the i-th cell.
+pub record WroteBinding (work work' : Text) (lens lens' : List ℕ) (i : ℕ) (p ns : Text) : Type 0 where
+  pub texts : work' ≡ over-at (i * 1088 + 64) ns (over-at (i * 1088) p work)
+  pub lengths : lens' ≡ set (set lens i (length p)) (32 + i) (length ns)
+
+-- What a declaration answers and leaves.
+pub record Declares (work work' : Text) (lens lens' : List ℕ) (p ns : Text) (r : Declared) : Type 0 where
+  pub answer : r ≡ declare-answer (in-force work lens) p ns
+  pub after : in-force work' lens' ≡ after-declare r (in-force work lens) p ns
+  pub usable : Usable work' lens'
+
+-- What setting the base answers and leaves.
+pub record SetsBase (work work' : Text) (lens lens' : List ℕ) (iri : Text) (r : Bool) : Type 0 where
+  pub answer : r ≡ leb (length iri) longest-iri
+  pub after : in-force work' lens' ≡ cond r (record { bindings = in-force work lens .bindings; base = iri }) (in-force work lens)
+  pub usable : Usable work' lens'
