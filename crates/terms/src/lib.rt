@@ -1,11 +1,16 @@
-// Terms in lent slices: finding an equal one and adding a new one.
+// Terms and rows in lent slices: finding an equal term, adding a new one, adding a row.
 ghost use mathlib.Core.Path.{_≡_};
+ghost use mathlib.Core.Bool.{false};
+ghost use mathlib.Core.List.{_++_};
 ghost use Prim.Native.Nat.{ℕ, suc, _+_, _*_, _-_, _≤_, _<_};
-ghost use lib.ListN.{length};
-ghost use Rattle.form.specs.Form.{joined};
-ghost use Rattle.table.specs.Layout.{entry-at};
-ghost use Rattle.terms.specs.Code.{matches};
-ghost use Rattle.terms.specs.Keeps.{Keeps};
+ghost use lib.ListN.{length, getD};
+ghost use Rattle.text.specs.Slice.{over-at};
+ghost use Rattle.form.specs.Form.{joined, bad};
+ghost use Rattle.table.specs.Layout.{entry-at, entry-words};
+ghost use Rattle.terms.specs.Code.{same-rest, matches, first, Inside, Readable, fourth, next-entry, next-counts};
+ghost use Rattle.terms.specs.Keeps.{Keeps, Room, Finds, Added, RowAdded};
+
+use form::Form;
 
 // How many terms there are, how many bytes of the store they use, and how many of them are blank nodes.
 pub struct Counts {
@@ -24,4 +29,101 @@ fn wide(w: u32) -> usize
     ensures { λ r. ⌜ r ≡ w ⌝ }
 {
     w as usize
+}
+
+// Whether an entry of the same kind has the same datatype, or the same tag.
+fn same_rest(terms: &[u32], store: &[u8], i: usize, sort: Sort, tag: &[u8]) -> bool
+    requires { ⌜ Inside (now terms) (now store) i × (entry-at (now terms) (suc i) .kind ≡ sort .kind) ⌝ }
+    ensures { λ r. ⌜ r ≡ same-rest (now (store .entry)) (entry-at (now (terms .entry)) (suc i)) sort (now (tag .entry)) ⌝ }
+{
+    let at = 5 * i;
+    let kind = sort.kind;
+    if kind == 3 {
+        return wide(terms[at + 3]) == sort.datatype;
+    }
+    if kind == 4 {
+        let start = wide(terms[at + 3]);
+        let end = start + wide(terms[at + 4]);
+        return text::same(tag, &store[start..end]);
+    }
+    true
+}
+
+// Whether the entry at i is of the term of this sort with this text and tag.
+pub fn is_term(terms: &[u32], store: &[u8], i: usize, sort: Sort, front: &[u8], form: Form, back: &[u8], tag: &[u8]) -> bool
+    requires { ⌜ Inside (now terms) (now store) i ⌝ }
+    ensures { λ r. ⌜ r ≡ matches (now (store .entry)) (entry-at (now (terms .entry)) (suc i)) sort (joined (now (front .entry)) form (now (back .entry))) (now (tag .entry)) ⌝ }
+{
+    let at = 5 * i;
+    let kind = sort.kind;
+    if wide(terms[at]) != kind {
+        return false;
+    }
+    let start = wide(terms[at + 1]);
+    let end = start + wide(terms[at + 2]);
+    if form::same_joined(front, form, back, &store[start..end]) {
+        return same_rest(terms, store, i, sort, tag);
+    }
+    false
+}
+
+// The first number of such a term behind the first `from` terms, or 0.
+pub fn find_from(terms: &[u32], store: &[u8], from: usize, count: usize, sort: Sort, front: &[u8], form: Form, back: &[u8], tag: &[u8]) -> usize
+    requires { ⌜ Readable (now terms) (now store) count × (from ≤ count) ⌝ }
+    ensures { λ r. ⌜ r ≡ first (λ i. matches (now (store .entry)) (entry-at (now (terms .entry)) (suc i)) sort (joined (now (front .entry)) form (now (back .entry))) (now (tag .entry))) from (count - from) ⌝ }
+{
+    let mut i = from;
+    while i < count {
+        if is_term(terms, store, i, sort, front, form, back, tag) {
+            return i + 1;
+        }
+        i += 1;
+    }
+    0
+}
+
+// The number of the equal term, or 0.
+pub fn find(terms: &[u32], store: &[u8], counts: Counts, sort: Sort, front: &[u8], form: Form, back: &[u8], tag: &[u8]) -> usize
+    requires { ⌜ Readable (now terms) (now store) (counts .terms) ⌝ }
+    ensures { λ r. ⌜ Finds (now (terms .entry)) (now (store .entry)) counts sort (joined (now (front .entry)) form (now (back .entry))) (now (tag .entry)) r ⌝ }
+{
+    let count = counts.terms;
+    find_from(terms, store, 0, count, sort, front, form, back, tag)
+}
+
+// Writes words at a place.
+fn put_words(words: &mut [u32], at: usize, s: &[usize])
+    requires { ⌜ (at + length (now s) ≤ length (now words)) × ((i : ℕ) → getD (now s) i 0 < 4294967296) ⌝ }
+    ensures { λ _. ⌜ now (words .exit) ≡ over-at at (now (s .entry)) (now (words .entry)) ⌝ }
+{
+    let mut i: usize = 0;
+    while i < s.len() {
+        words[at + i] = s[i] as u32;
+        i += 1;
+    }
+}
+
+// Adds a row behind the others.
+pub fn add_row(rows: &mut [u32], count: usize, row: &[usize])
+    requires { ⌜ (5 * count + length (now row) ≤ length (now rows)) × ((i : ℕ) → getD (now row) i 0 < 4294967296) ⌝ }
+    ensures { λ _. ⌜ RowAdded (now (rows .entry)) (now (rows .exit)) count (now (row .entry)) ⌝ }
+{
+    put_words(rows, 5 * count, row);
+}
+
+fn fourth_word(counts: Counts, sort: Sort, size: usize) -> usize
+    requires { ⌜ counts .used + size < 4294967296 ⌝ }
+    ensures { λ r. ⌜ r ≡ fourth counts sort size ⌝ }
+{
+    let kind = sort.kind;
+    if kind == 2 {
+        return counts.blanks;
+    }
+    if kind == 3 {
+        return sort.datatype;
+    }
+    if kind == 4 {
+        return counts.used + size;
+    }
+    0
 }
