@@ -53,14 +53,18 @@ Means ts sort x g (blank b) = (sort .kind ≡ blank-kind) × ((label-of b ≡ x)
 Means ts sort x g (literal s d) = (sort .kind ≡ literal-kind) × ((s ≡ x) × ((g ≡ []) × (or-zero (number (iri d) ts) ≡ sort .datatype)))
 Means ts sort x g (tagged s h) = (sort .kind ≡ tagged-kind) × ((s ≡ x) × (h ≡ g))
 
--- There is room for one term more, in words, in bytes, and in 32 bits.
-pub record Room (terms : List ℕ) (store : Text) (c : Counts) (sort : Sort) (x g : Text) : Type 0 where
-  pub words : term-size * c .terms + term-size ≤ length terms
-  pub bytes : c .used + (length x + length g) ≤ length store
-  pub used : c .used + (length x + length g) < 4294967296
+-- The numbers of one term more, with so many bytes, fit 32 bits.
+pub record Small (c : Counts) (sort : Sort) (bytes : ℕ) : Type 0 where
+  pub used : c .used + bytes < 4294967296
   pub blanks : c .blanks < 4294967296
   pub kind : sort .kind < 4294967296
   pub datatype : sort .datatype < 4294967296
+
+-- There is room for one term more.
+pub record Room (terms : List ℕ) (store : Text) (c : Counts) (sort : Sort) (x g : Text) : Type 0 where
+  pub words : term-size * c .terms + term-size ≤ length terms
+  pub bytes : c .used + (length x + length g) ≤ length store
+  pub small : Small c sort (length x + length g)
 
 -- What looking for the term answers: its number, or 0.
 abbrev pub Finds : List ℕ → Text → Counts → Sort → Text → Text → ℕ → Type 0

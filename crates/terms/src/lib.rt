@@ -8,8 +8,7 @@ ghost use Rattle.text.specs.Slice.{over-at};
 ghost use Rattle.form.specs.Form.{joined, bad};
 ghost use Rattle.table.specs.Layout.{entry-at, entry-words};
 ghost use Rattle.terms.specs.Code.{same-rest, matches, first, Inside, Readable, fourth, next-entry, next-counts};
-ghost use Rattle.terms.specs.Keeps.{Keeps, Room, Finds, Added, RowAdded};
-
+ghost use Rattle.terms.specs.Keeps.{Keeps, Small, Room, Finds, Added, RowAdded};
 use form::Form;
 
 // How many terms there are, how many bytes of the store they use, and how many of them are blank nodes.
@@ -50,7 +49,16 @@ fn same_rest(terms: &[u32], store: &[u8], i: usize, sort: Sort, tag: &[u8]) -> b
 }
 
 // Whether the entry at i is of the term of this sort with this text and tag.
-pub fn is_term(terms: &[u32], store: &[u8], i: usize, sort: Sort, front: &[u8], form: Form, back: &[u8], tag: &[u8]) -> bool
+pub fn is_term(
+    terms: &[u32],
+    store: &[u8],
+    i: usize,
+    sort: Sort,
+    front: &[u8],
+    form: Form,
+    back: &[u8],
+    tag: &[u8],
+) -> bool
     requires { ⌜ Inside (now terms) (now store) i ⌝ }
     ensures { λ r. ⌜ r ≡ matches (now (store .entry)) (entry-at (now (terms .entry)) (suc i)) sort (joined (now (front .entry)) form (now (back .entry))) (now (tag .entry)) ⌝ }
 {
@@ -68,7 +76,17 @@ pub fn is_term(terms: &[u32], store: &[u8], i: usize, sort: Sort, front: &[u8], 
 }
 
 // The first number of such a term behind the first `from` terms, or 0.
-pub fn find_from(terms: &[u32], store: &[u8], from: usize, count: usize, sort: Sort, front: &[u8], form: Form, back: &[u8], tag: &[u8]) -> usize
+pub fn find_from(
+    terms: &[u32],
+    store: &[u8],
+    from: usize,
+    count: usize,
+    sort: Sort,
+    front: &[u8],
+    form: Form,
+    back: &[u8],
+    tag: &[u8],
+) -> usize
     requires { ⌜ Readable (now terms) (now store) count × (from ≤ count) ⌝ }
     ensures { λ r. ⌜ r ≡ first (λ i. matches (now (store .entry)) (entry-at (now (terms .entry)) (suc i)) sort (joined (now (front .entry)) form (now (back .entry))) (now (tag .entry))) from (count - from) ⌝ }
 {
@@ -83,7 +101,16 @@ pub fn find_from(terms: &[u32], store: &[u8], from: usize, count: usize, sort: S
 }
 
 // The number of the equal term, or 0.
-pub fn find(terms: &[u32], store: &[u8], counts: Counts, sort: Sort, front: &[u8], form: Form, back: &[u8], tag: &[u8]) -> usize
+pub fn find(
+    terms: &[u32],
+    store: &[u8],
+    counts: Counts,
+    sort: Sort,
+    front: &[u8],
+    form: Form,
+    back: &[u8],
+    tag: &[u8],
+) -> usize
     requires { ⌜ Readable (now terms) (now store) (counts .terms) ⌝ }
     ensures { λ r. ⌜ Finds (now (terms .entry)) (now (store .entry)) counts sort (joined (now (front .entry)) form (now (back .entry))) (now (tag .entry)) r ⌝ }
 {
@@ -126,4 +153,74 @@ fn fourth_word(counts: Counts, sort: Sort, size: usize) -> usize
         return counts.used + size;
     }
     0
+}
+
+// Writes the words of a term behind those of the others.
+fn put_entry(terms: &mut [u32], counts: Counts, sort: Sort, size: usize, tag: usize)
+    requires { ⌜ (5 * counts .terms + 5 ≤ length (now terms)) × Small counts sort (size + tag) ⌝ }
+    ensures { λ _. ⌜ now (terms .exit) ≡ over-at (5 * counts .terms) (entry-words (next-entry counts sort size tag)) (now (terms .entry)) ⌝ }
+{
+    let used = counts.used;
+    let at = 5 * counts.terms;
+    let kind = sort.kind;
+    let five = [kind, used, size, fourth_word(counts, sort, size), tag];
+    put_words(terms, at, &five);
+}
+
+// Writes a text, and the tag behind it, into the unused end of the store; the text's length.
+fn write_bytes(
+    store: &mut [u8],
+    used: usize,
+    front: &[u8],
+    form: Form,
+    back: &[u8],
+    tag: &[u8],
+) -> usize
+    requires { ⌜ (used + (length (joined (now front) form (now back)) + length (now tag)) ≤ length (now store)) × (bad form (now back) ≡ false) ⌝ }
+    ensures { λ r. ⌜ (r ≡ length (joined (now (front .entry)) form (now (back .entry)))) × (now (store .exit) ≡ over-at used (joined (now (front .entry)) form (now (back .entry)) ++ now (tag .entry)) (now (store .entry))) ⌝ }
+{
+    let size = form::write_joined(front, form, back, &mut store[used..]);
+    let end = used + size;
+    text::copy(tag, &mut store[end..]);
+    size
+}
+
+fn count_term(counts: Counts, sort: Sort, bytes: usize) -> Counts
+    requires { ⌜ (counts .terms < 18446744073709551615) × Small counts sort bytes ⌝ }
+    ensures { λ r. ⌜ r ≡ next-counts counts sort bytes ⌝ }
+{
+    let kind = sort.kind;
+    if kind == 2 {
+        return Counts {
+            terms: counts.terms + 1,
+            used: counts.used + bytes,
+            blanks: counts.blanks + 1,
+        };
+    }
+    Counts {
+        terms: counts.terms + 1,
+        used: counts.used + bytes,
+        blanks: counts.blanks,
+    }
+}
+
+// Adds a term behind the others; the counts with it.
+pub fn add(
+    terms: &mut [u32],
+    store: &mut [u8],
+    counts: Counts,
+    sort: Sort,
+    front: &[u8],
+    form: Form,
+    back: &[u8],
+    tag: &[u8],
+) -> Counts
+    requires { ⌜ Room (now terms) (now store) counts sort (joined (now front) form (now back)) (now tag) × (bad form (now back) ≡ false) ⌝ }
+    ensures { λ r. ⌜ Added (now (terms .entry)) (now (terms .exit)) (now (store .entry)) (now (store .exit)) counts r sort (joined (now (front .entry)) form (now (back .entry))) (now (tag .entry)) ⌝ }
+{
+    let used = counts.used;
+    let tag_size = tag.len();
+    let size = write_bytes(store, used, front, form, back, tag);
+    put_entry(terms, counts, sort, size, tag_size);
+    count_term(counts, sort, size + tag_size)
 }

@@ -1,22 +1,16 @@
+use mathlib.Core.Path.{sym, ap, _∙_}
+use native.Mathlib.Omega.{arith}
 use Rattle.terms.proofs.Kept.{found-first}
 use Rattle.table.proofs.Finding.{number-start}
 use Rattle.table.specs.Tables.{or-zero}
 use Rattle.form.specs.Form.{joined}
-use mathlib.Core.Path.{sym, ap, _∙_}
-use native.Mathlib.Omega.{arith}
-use Prim.Native.Nat.{suc}
 use borrow.Author.Needs.{needs}
 use Rattle.terms.proofs.find.Statement.{statement}
 use Rattle.terms.proofs.find.Tie as tie
-use Rattle.terms.proofs.find.Reads as reads
-use Rattle.terms.proofs.find.Lts as lts
-use Rattle.terms.proofs.find_from.Reads as find-from-reads
 
--- src/lib.rt:91:5
 find-from-requires : tie.Need-find-from-requires
 find-from-requires c κs = search needs
 
--- src/lib.rt:86:1
 returns : tie.Need-returns
 returns c = λ ts t K M f. c .find-from .ensures ∙ (found-first K (c .before .before .before .before .before .before .args .sort) (joined (c .before .before .before .before .before .before .args .front .now) (c .before .before .before .before .before .before .args .form) (c .before .before .before .before .before .before .args .back .now)) (c .before .before .before .before .before .before .args .tag .now) t M f 0 _ (omega arith) ∙ ap or-zero (sym (number-start t ts)))
 

@@ -1,5 +1,5 @@
 -- The invariant: the search from the start on answers what the search from the place reached on answers.
-use Prim.Native.Nat.{ℕ, suc, _≤_, _-_}
+use Prim.Native.Nat.{suc, _≤_, _-_}
 use mathlib.Core.Path.{_≡_, refl, sym, _∙_}
 use native.Mathlib.Omega.{arith}
 use Rattle.form.specs.Form.{joined}
@@ -9,9 +9,6 @@ use Rattle.terms.proofs.Tests.{first-here, first-further, first-none}
 use borrow.Author.Needs.{needs}
 use Rattle.terms.proofs.find_from.Statement.{statement}
 use Rattle.terms.proofs.find_from.Tie as tie
-use Rattle.terms.proofs.find_from.Reads as reads
-use Rattle.terms.proofs.find_from.Lts as lts
-use Rattle.terms.proofs.is_term.Reads as is-term-reads
 
 abbrev Inv-loop : tie.InvT-loop
 Inv-loop terms store from count sort front form back tag i₀ i = ((from ≤ i) × (i ≤ count)) × (first (λ k. matches store (entry-at terms (suc k)) sort (joined front form back) tag) from (count - from) ≡ first (λ k. matches store (entry-at terms (suc k)) sort (joined front form back) tag) i (count - i))
@@ -19,35 +16,27 @@ Inv-loop terms store from count sort front form back tag i₀ i = ((from ≤ i) 
 abbrev μ-loop : tie.MeasureT-loop
 μ-loop terms store from count sort front form back tag i₀ i = count - i
 
--- src/lib.rt:76:5
 loop-holds : tie.Need-loop-holds Inv-loop μ-loop
 loop-holds c = ((omega arith, c .before .before .before .before .before .pre .1), refl)
 
--- src/lib.rt:77:12
 is-term-requires : tie.Need-is-term-requires Inv-loop μ-loop
 is-term-requires c κs = c .before .before .before .before .before .before .before .pre .0 (c .before .loop .i) (omega arith)
 
--- src/lib.rt:78:20
 add-result : tie.Need-add-result Inv-loop μ-loop
 add-result c = search needs
 
--- src/lib.rt:78:13
 returns : tie.Need-returns Inv-loop μ-loop
 returns c = first-here (λ k. matches (c .before .before .before .before .before .before .before .before .before .args .store .now) (entry-at (c .before .before .before .before .before .before .before .before .before .args .terms .now) (suc k)) (c .before .before .before .before .before .before .before .before .before .args .sort) (joined (c .before .before .before .before .before .before .before .before .before .args .front .now) (c .before .before .before .before .before .before .before .before .before .args .form) (c .before .before .before .before .before .before .before .before .before .args .back .now)) (c .before .before .before .before .before .before .before .before .before .args .tag .now)) (c .before .before .before .loop .i) (c .before .before .before .before .before .before .before .before .before .args .count) (omega arith) (sym (c .before .is-term .ensures) ∙ c .if1 .taken) ∙ sym (c .before .before .before .loop .inv .1)
 
--- src/lib.rt:80:9
 add-i : tie.Need-add-i Inv-loop μ-loop
 add-i c = search needs
 
--- src/lib.rt:76:5
 loop-less : tie.Need-loop-less Inv-loop μ-loop
 loop-less c = search needs
 
--- src/lib.rt:76:5
 loop-again : tie.Need-loop-again Inv-loop μ-loop
 loop-again c = ((omega arith, omega arith), c .before .before .before .loop .inv .1 ∙ first-further (λ k. matches (c .before .before .before .before .before .before .before .before .before .args .store .now) (entry-at (c .before .before .before .before .before .before .before .before .before .args .terms .now) (suc k)) (c .before .before .before .before .before .before .before .before .before .args .sort) (joined (c .before .before .before .before .before .before .before .before .before .args .front .now) (c .before .before .before .before .before .before .before .before .before .args .form) (c .before .before .before .before .before .before .before .before .before .args .back .now)) (c .before .before .before .before .before .before .before .before .before .args .tag .now)) (c .before .before .before .loop .i) (c .before .before .before .before .before .before .before .before .before .args .count) (omega arith) (sym (c .before .is-term .ensures) ∙ c .if1 .left))
 
--- src/lib.rt:71:1
 returns-2 : tie.Need-returns-2 Inv-loop μ-loop
 returns-2 c = sym (c .before .loop .inv .1 ∙ first-none (λ k. matches (c .before .before .before .before .before .before .before .args .store .now) (entry-at (c .before .before .before .before .before .before .before .args .terms .now) (suc k)) (c .before .before .before .before .before .before .before .args .sort) (joined (c .before .before .before .before .before .before .before .args .front .now) (c .before .before .before .before .before .before .before .args .form) (c .before .before .before .before .before .before .before .args .back .now)) (c .before .before .before .before .before .before .before .args .tag .now)) (c .before .loop .i) (c .before .before .before .before .before .before .before .args .count) (omega arith))
 

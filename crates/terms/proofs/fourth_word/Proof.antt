@@ -3,29 +3,22 @@ use Rattle.terms.specs.Code.{fourth}
 use borrow.Author.Needs.{needs}
 use Rattle.terms.proofs.fourth_word.Statement.{statement}
 use Rattle.terms.proofs.fourth_word.Tie as tie
-use Rattle.terms.proofs.fourth_word.Reads as reads
-use Rattle.terms.proofs.fourth_word.Lts as lts
 
--- src/lib.rt:120:9
 returns : tie.Need-returns
 unfolding fourth
 returns c = rw (eq-eqb (c .before .args .sort .kind) 2 (c .if1 .taken))
 
--- src/lib.rt:123:9
 returns-2 : tie.Need-returns-2
 unfolding fourth
 returns-2 c = rw (ne-eqb (c .before .before .args .sort .kind) 2 (c .before .if1 .left), eq-eqb (c .before .before .args .sort .kind) 3 (c .if2 .taken))
 
--- src/lib.rt:126:16
 add-result : tie.Need-add-result
 add-result c = search needs
 
--- src/lib.rt:126:9
 returns-3 : tie.Need-returns-3
 unfolding fourth
 returns-3 c = rw (ne-eqb (c .before .before .before .before .args .sort .kind) 2 (c .before .before .before .if1 .left), ne-eqb (c .before .before .before .before .args .sort .kind) 3 (c .before .before .if2 .left), eq-eqb (c .before .before .before .before .args .sort .kind) 4 (c .before .if3 .taken))
 
--- src/lib.rt:114:1
 returns-4 : tie.Need-returns-4
 unfolding fourth
 returns-4 c = rw (ne-eqb (c .before .before .before .args .sort .kind) 2 (c .before .before .if1 .left), ne-eqb (c .before .before .before .args .sort .kind) 3 (c .before .if2 .left), ne-eqb (c .before .before .before .args .sort .kind) 4 (c .if3 .left))

@@ -8,8 +8,6 @@ use Rattle.text.proofs.Over.{over-at-length, over-at-start, over-at-next, over-
 use borrow.Author.Needs.{needs}
 use Rattle.terms.proofs.put_words.Statement.{statement}
 use Rattle.terms.proofs.put_words.Tie as tie
-use Rattle.terms.proofs.put_words.Reads as reads
-use Rattle.terms.proofs.put_words.Lts as lts
 
 abbrev Inv-loop : tie.InvT-loop
 Inv-loop words₀ at s i₀ words i = (i ≤ length s) × (words ≡ over-at at (take i s) words₀)
@@ -17,51 +15,39 @@ Inv-loop words₀ at s i₀ words i = (i ≤ length s) × (words ≡ over-at at 
 abbrev μ-loop : tie.MeasureT-loop
 μ-loop words₀ at s i₀ words i = length s - i
 
--- src/lib.rt:100:5
 loop-holds : tie.Need-loop-holds Inv-loop μ-loop
 loop-holds c = (omega arith, over-at-start (c .args .at) (c .args .s .now) (c .args .words .now))
 
--- src/lib.rt:101:25
 mul-words : tie.Need-mul-words Inv-loop μ-loop
 mul-words c = search needs
 
--- src/lib.rt:101:25
 shared-slice-read-words : tie.Need-shared-slice-read-words Inv-loop μ-loop
 shared-slice-read-words c = search needs
 
--- src/lib.rt:101:25
 cast-words : tie.Need-cast-words Inv-loop μ-loop
 cast-words c = omega (arith, c .before .before .before .pre .1 (c .before .before .loop .i))
 
--- src/lib.rt:101:15
 add-words : tie.Need-add-words Inv-loop μ-loop
 add-words c = omega arith
 
--- src/lib.rt:101:9
 mul-words-2 : tie.Need-mul-words-2 Inv-loop μ-loop
 mul-words-2 c = search needs
 
--- src/lib.rt:101:9
 slice-write-words : tie.Need-slice-write-words Inv-loop μ-loop
 slice-write-words c = omega (arith, ap length (c .before .before .loop .inv .1), over-at-length (c .before .before .before .args .at) (take (c .before .before .loop .i) (c .before .before .before .args .s .now)) (c .before .before .before .args .words .now))
 
--- src/lib.rt:102:9
 add-i : tie.Need-add-i Inv-loop μ-loop
 add-i c = search needs
 
--- src/lib.rt:100:5
 loop-less : tie.Need-loop-less Inv-loop μ-loop
 loop-less c = search needs
 
--- src/lib.rt:100:5
 loop-again : tie.Need-loop-again Inv-loop μ-loop
 loop-again c = (omega arith, over-at-next (c .before .before .before .args .at) (c .before .before .before .args .s .now) (c .before .before .before .args .words .now) (c .before .before .loop .words) (c .before .before .loop .i) _ (omega arith) refl (c .before .before .loop .inv .1))
 
--- src/lib.rt:95:1
 same-length : tie.Need-same-length Inv-loop μ-loop
 same-length c = ap length (c .before .loop .inv .1) ∙ over-at-length (c .before .before .args .at) (take (c .before .loop .i) (c .before .before .args .s .now)) (c .before .before .args .words .now)
 
--- src/lib.rt:95:1
 returns : tie.Need-returns Inv-loop μ-loop
 returns c = c .before .loop .inv .1 ∙ over-at-whole (c .before .before .args .at) (c .before .before .args .s .now) (c .before .before .args .words .now) (c .before .loop .i) (omega arith)
 

@@ -1,101 +1,76 @@
-use Rattle.terms.proofs.Tests.{rest-literal, rest-tagged, rest-other}
-use Rattle.table.specs.Layout.{entry-at}
+use Prim.Native.Nat.{suc}
 use mathlib.Core.Path.{_∙_}
 use native.Mathlib.Omega.{arith}
-use Prim.Native.Nat.{suc}
+use Rattle.terms.proofs.Tests.{rest-literal, rest-tagged, rest-other}
+use Rattle.table.specs.Layout.{entry-at}
 use borrow.Author.Needs.{needs}
 use Rattle.terms.proofs.same_rest.Statement.{statement}
 use Rattle.terms.proofs.same_rest.Tie as tie
-use Rattle.terms.proofs.same_rest.Reads as reads
-use Rattle.terms.proofs.same_rest.Lts as lts
-use Rattle.terms.proofs.wide.Reads as wide-reads
-use Rattle.text.proofs.same.Reads as same-reads
 
--- src/lib.rt:39:14
 mul-at : tie.Need-mul-at
 mul-at c = search needs
 
--- src/lib.rt:42:27
 add-wide : tie.Need-add-wide
 add-wide c = search needs
 
--- src/lib.rt:42:21
 mul-wide : tie.Need-mul-wide
 mul-wide c = search needs
 
--- src/lib.rt:42:21
 shared-slice-read-wide : tie.Need-shared-slice-read-wide
 shared-slice-read-wide c = search needs
 
--- src/lib.rt:42:16
 wide-requires : tie.Need-wide-requires
 wide-requires c κs = search needs
 
--- src/lib.rt:42:9
 returns : tie.Need-returns
 unfolding entry-at
 returns c = rest-literal (c .before .before .before .before .before .before .before .args .store .now) (entry-at (c .before .before .before .before .before .before .before .args .terms .now) (suc (c .before .before .before .before .before .before .before .args .i))) (c .before .before .before .before .before .before .before .args .sort) (c .before .before .before .before .before .before .before .args .tag .now) (c .before .before .before .before .before .before .before .args .tag .now) (c .before .before .before .if1 .taken) (c .before .wide .result) (c .before .wide .ensures)
 
--- src/lib.rt:45:32
 add-wide-2 : tie.Need-add-wide-2
 add-wide-2 c = search needs
 
--- src/lib.rt:45:26
 mul-wide-2 : tie.Need-mul-wide-2
 mul-wide-2 c = search needs
 
--- src/lib.rt:45:26
 shared-slice-read-wide-2 : tie.Need-shared-slice-read-wide-2
 shared-slice-read-wide-2 c = search needs
 
--- src/lib.rt:45:13
 wide-requires-2 : tie.Need-wide-requires-2
 wide-requires-2 c κs = search needs
 
--- src/lib.rt:46:38
 add-wide-3 : tie.Need-add-wide-3
 add-wide-3 c = search needs
 
--- src/lib.rt:46:32
 mul-wide-3 : tie.Need-mul-wide-3
 mul-wide-3 c = search needs
 
--- src/lib.rt:46:32
 shared-slice-read-wide-3 : tie.Need-shared-slice-read-wide-3
 shared-slice-read-wide-3 c = search needs
 
--- src/lib.rt:46:27
 wide-requires-3 : tie.Need-wide-requires-3
 wide-requires-3 c κs = search needs
 
--- src/lib.rt:46:19
 add-end : tie.Need-add-end
 unfolding entry-at
 add-end c = omega (arith, c .before .before .before .before .before .before .before .before .before .pre .0 .tag (c .before .before .before .before .before .before .before .before .before .pre .1 ∙ c .before .before .before .before .if2 .taken), c .before .before .wide2 .ensures, c .wide3 .ensures)
 
--- src/lib.rt:47:32
 sub-same : tie.Need-sub-same
 sub-same c = search needs
 
--- src/lib.rt:47:32
 part-same-start : tie.Need-part-same-start
 part-same-start c = search needs
 
--- src/lib.rt:47:32
 part-same-end : tie.Need-part-same-end
 unfolding entry-at
 part-same-end c = omega (arith, c .before .before .before .before .before .before .before .before .before .pre .0 .tag (c .before .before .before .before .before .before .before .before .before .pre .1 ∙ c .before .before .before .before .if2 .taken), c .before .before .wide2 .ensures, c .wide3 .ensures)
 
--- src/lib.rt:47:9
 same-requires : tie.Need-same-requires
 same-requires c κs = search needs
 
--- src/lib.rt:47:9
 returns-2 : tie.Need-returns-2
 unfolding entry-at
 returns-2 c = rest-tagged (c .before .before .before .before .before .before .before .before .before .before .before .args .store .now) (entry-at (c .before .before .before .before .before .before .before .before .before .before .before .args .terms .now) (suc (c .before .before .before .before .before .before .before .before .before .before .before .args .i))) (c .before .before .before .before .before .before .before .before .before .before .before .args .sort) (c .before .before .before .before .before .before .before .before .before .before .before .args .tag .now) (c .before .before .before .before .before .before .before .before .before .before .before .args .tag .now) (c .before .before .before .before .before .before .if2 .taken) (c .before .before .before .before .wide2 .result) _ (c .before .before .before .before .wide2 .ensures) (omega (arith, c .before .before .before .before .wide2 .ensures, c .before .before .wide3 .ensures)) _ (c .same .ensures)
 
--- src/lib.rt:35:1
 returns-3 : tie.Need-returns-3
 returns-3 c = rest-other (c .before .before .before .before .before .args .store .now) (entry-at (c .before .before .before .before .before .args .terms .now) (suc (c .before .before .before .before .before .args .i))) (c .before .before .before .before .before .args .sort) (c .before .before .before .before .before .args .tag .now) (c .before .before .before .before .before .args .tag .now) (c .before .if1 .left) (c .if2 .left)
 
