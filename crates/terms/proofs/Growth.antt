@@ -12,6 +12,7 @@ use lib.Seq.{take-at, length-take-le, getD-append-seam}
 use Rattle.text.specs.Text.{Text, cond}
 use Rattle.text.specs.Slice.{over, over-at}
 use Rattle.text.proofs.Compare.{by}
+use Rattle.text.proofs.Over.{over-at-none}
 use Rattle.terms.proofs.Slices.{take-over-at}
 use Rattle.dataset.specs.Terms.{Term, iri, blank, literal, tagged}
 use Rattle.table.specs.Layout.{Row, row-words, Entry, entry-words}
@@ -20,7 +21,7 @@ use Rattle.table.proofs.Finding.{number-more, number-last}
 use Rattle.table.proofs.Store.{last-bytes, last-size}
 use Rattle.terms.specs.declared.Counts.{Counts}
 use Rattle.terms.specs.declared.Sort.{Sort}
-use Rattle.terms.specs.Keeps.{blank-count, findable, Typed, Keeps, Means, Small, Room, Added, KeepsRows, RowAdded}
+use Rattle.terms.specs.Keeps.{blank-count, findable, Typed, Keeps, Means, Small, Room, Added, blank-sort, BlankAdded, KeepsRows, RowAdded}
 use Rattle.terms.specs.Code.{fourth, next-entry, next-counts}
 use Rattle.terms.proofs.Words.{words-last}
 
@@ -145,3 +146,8 @@ added terms terms' store store' c c' sort x g n R h w b e =
     let w' : terms' ≡ over-at (5 * c .terms) (entry-words (next-entry c sort (length x) (length g))) terms = w ∙ rw h in
     let e' : c' ≡ next-counts c sort (length x + length g) = e ∙ rw h in
     record { words = w'; bytes = b; counts = e'; keeps = λ ts t K M y new. rw (w', b, e') (keeps-added ts terms store c sort x g t K R M y new) }
+
+pub blank-added : (terms terms' : List ℕ) (c c' : Counts) → 5 * c .terms + 5 ≤ length terms → Small c blank-sort 0
+    → terms' ≡ over-at (5 * c .terms) (entry-words (next-entry c blank-sort 0 0)) terms → c' ≡ next-counts c blank-sort 0 → BlankAdded terms terms' c c'
+blank-added terms terms' c c' room small w e store u =
+    added terms terms' store store c c' blank-sort [] [] 0 (record { words = room; bytes = omega arith; small = small }) refl w (sym (over-at-none (c .used) store)) e

@@ -77,6 +77,14 @@ pub record Added (terms terms' : List ℕ) (store store' : Text) (c c' : Counts)
   pub counts : c' ≡ next-counts c sort (length x + length g)
   pub keeps : (ts : List Term) (t : Term) → Keeps ts terms store c → Means ts sort x g t → Typed ts t → (findable t ≡ true → number t ts ≡ none) → Keeps (ts ++ t ∷ []) terms' store' c'
 
+-- The sort of a [ or a list cell.
+abbrev pub blank-sort : Sort
+blank-sort = record { kind = blank-kind; datatype = 0 }
+
+-- What adding a blank node without a label leaves, whatever the store holds.
+abbrev pub BlankAdded : List ℕ → List ℕ → Counts → Counts → Type 0
+BlankAdded terms terms' c c' = (store : Text) → c .used ≤ length store → Added terms terms' store store c c' blank-sort [] []
+
 -- The slice holds the rows rs.
 pub record KeepsRows (rs : List Row) (rows : List ℕ) (count : ℕ) : Type 0 where
   pub words : take (row-size * count) rows ≡ rows-words rs

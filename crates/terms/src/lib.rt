@@ -3,12 +3,12 @@ ghost use mathlib.Core.Path.{_≡_};
 ghost use mathlib.Core.Bool.{false};
 ghost use mathlib.Core.List.{_++_};
 ghost use Prim.Native.Nat.{ℕ, suc, _+_, _*_, _-_, _≤_, _<_};
-ghost use lib.ListN.{length, getD};
+ghost use lib.ListN.{length, getD, replicate};
 ghost use Rattle.text.specs.Slice.{over-at};
 ghost use Rattle.form.specs.Form.{joined, bad};
 ghost use Rattle.table.specs.Layout.{entry-at, entry-words};
 ghost use Rattle.terms.specs.Code.{same-rest, matches, first, Inside, Readable, fourth, next-entry, next-counts};
-ghost use Rattle.terms.specs.Keeps.{Keeps, Small, Room, Finds, Added, RowAdded};
+ghost use Rattle.terms.specs.Keeps.{Keeps, Small, Room, Finds, Added, blank-sort, BlankAdded, RowAdded};
 use form::Form;
 
 // How many terms there are, how many bytes of the store they use, and how many of them are blank nodes.
@@ -223,4 +223,39 @@ pub fn add(
     let size = write_bytes(store, used, front, form, back, tag);
     put_entry(terms, counts, sort, size, tag_size);
     count_term(counts, sort, size + tag_size)
+}
+
+// Adds a blank node without a label, as each [ and each list cell is; the counts with it.
+pub fn add_blank(terms: &mut [u32], counts: Counts) -> Counts
+    requires { ⌜ (5 * counts .terms + 5 ≤ length (now terms)) × Small counts blank-sort 0 ⌝ }
+    ensures { λ r. ⌜ BlankAdded (now (terms .entry)) (now (terms .exit)) counts r ⌝ }
+{
+    let sort = Sort {
+        kind: 2,
+        datatype: 0,
+    };
+    put_entry(terms, counts, sort, 0, 0);
+    count_term(counts, sort, 0)
+}
+
+// Makes every byte zero.
+pub fn clear_bytes(s: &mut [u8])
+    ensures { λ _. ⌜ now (s .exit) ≡ replicate (length (now (s .entry))) 0 ⌝ }
+{
+    let mut i: usize = 0;
+    while i < s.len() {
+        s[i] = 0;
+        i += 1;
+    }
+}
+
+// Makes every word zero.
+pub fn clear_words(s: &mut [u32])
+    ensures { λ _. ⌜ now (s .exit) ≡ replicate (length (now (s .entry))) 0 ⌝ }
+{
+    let mut i: usize = 0;
+    while i < s.len() {
+        s[i] = 0;
+        i += 1;
+    }
 }
