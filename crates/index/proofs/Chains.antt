@@ -47,9 +47,9 @@ module _ {m : ℕ} {bucket heads nexts : ℕ → ℕ} {count : ℕ} (I : Chained
         within = omega (arith, I .next-in (k - 1) (omega arith));
         of = λ r. I .next-of (k - 1) h l r ∙ L .of q;
         none = λ i a g. three i (k - 1)
-          (λ lt. by (p i) (λ e. absurd (I .next-none (k - 1) h l i a lt (here i g e ∙ sym (L .of q)))) (λ e. e))
-          (λ eq. ap p eq ∙ miss)
-          (λ gt. L .none i (omega arith) g);
+            (λ lt. by (p i) (λ e. absurd (I .next-none (k - 1) h l i a lt (here i g e ∙ sym (L .of q)))) (λ e. e))
+            (λ eq. ap p eq ∙ miss)
+            (λ gt. L .none i (omega arith) g);
       }
 
   pub missed : (k : ℕ) → Left b count bucket p k → k ≡ 0 → Followed p count 0
@@ -104,24 +104,24 @@ module _ {m : ℕ} {bucket heads nexts : ℕ → ℕ} {count : ℕ} (I : Chained
     pub linked : Chained m bucket' heads' nexts' (count + 1)
     linked = record {
       head-none = λ d h i a g e. two d b
-        (λ q. omega (arith, ap heads' q))
-        (λ ne. three i count
+          (λ q. omega (arith, ap heads' q))
+          (λ ne. three i count
           (λ lt. I .head-none d h i (omega (arith, head-old d h ne)) lt (sym (old i lt) ∙ e))
           (λ eq. ne (sym e ∙ (ap bucket' eq ∙ new)))
           (λ gt. omega arith));
       head-in = λ d h. two d b (λ q. omega (arith, ap heads' q)) (λ ne. omega (arith, head-old d h ne, I .head-in d h));
       head-of = λ d h q. two d b
-        (λ e. let w : heads' d - 1 ≡ count = omega (arith, ap heads' e) in ap bucket' w ∙ (new ∙ sym e))
-        (λ ne. let w : heads' d - 1 ≡ heads d - 1 = omega (arith, head-old d h ne) in ap bucket' w ∙ head-of' d h (omega (arith, head-old d h ne)));
+          (λ e. let w : heads' d - 1 ≡ count = omega (arith, ap heads' e) in ap bucket' w ∙ (new ∙ sym e))
+          (λ ne. let w : heads' d - 1 ≡ heads d - 1 = omega (arith, head-old d h ne) in ap bucket' w ∙ head-of' d h (omega (arith, head-old d h ne)));
       next-none = λ c h l i a g e. three c count
-        (λ lt. next-none' c lt l i (omega (arith, next-before c lt)) g e)
-        (λ eq. I .head-none b in-m i (omega (arith, ap nexts' eq)) (omega arith) (sym (old i (omega arith)) ∙ (e ∙ (ap bucket' eq ∙ new))))
-        (λ gt. omega arith);
+          (λ lt. next-none' c lt l i (omega (arith, next-before c lt)) g e)
+          (λ eq. I .head-none b in-m i (omega (arith, ap nexts' eq)) (omega arith) (sym (old i (omega arith)) ∙ (e ∙ (ap bucket' eq ∙ new))))
+          (λ gt. omega arith);
       next-in = λ c h. two c count (λ eq. omega (arith, ap nexts' eq, I .head-in b in-m)) (λ ne. omega (arith, next-old c h ne, I .next-in c h));
       next-of = λ c h l q. three c count
-        (λ lt. let w : nexts' c - 1 ≡ nexts c - 1 = omega (arith, next-before c lt) in ap bucket' w ∙ next-of' c lt l (omega (arith, next-before c lt)))
-        (λ eq. let w : nexts' c - 1 ≡ heads b - 1 = omega (arith, ap nexts' eq) in ap bucket' w ∙ (head-of' b in-m (omega (arith, ap nexts' eq)) ∙ sym (ap bucket' eq ∙ new)))
-        (λ gt. absurd (omega arith));
+          (λ lt. let w : nexts' c - 1 ≡ nexts c - 1 = omega (arith, next-before c lt) in ap bucket' w ∙ next-of' c lt l (omega (arith, next-before c lt)))
+          (λ eq. let w : nexts' c - 1 ≡ heads b - 1 = omega (arith, ap nexts' eq) in ap bucket' w ∙ (head-of' b in-m (omega (arith, ap nexts' eq)) ∙ sym (ap bucket' eq ∙ new)))
+          (λ gt. absurd (omega arith));
     }
 
 -- The smaller of two numbers.

@@ -12,19 +12,20 @@ use lib.ListN.{length, getD, drop, replicate, length-append, getD-replicate, len
 use lib.Seq.{getD-append-seam}
 use Rattle.text.specs.Text.{Text, cond}
 use Rattle.text.proofs.Compare.{by, contrary}
-use Rattle.dataset.specs.Terms.{Term, iri, blank, literal, tagged}
+use Rattle.dataset.specs.Terms.{Blank, Term, iri, blank, literal, tagged}
 use Rattle.table.specs.Layout.{entry-at}
-use Rattle.table.specs.Tables.{same-term, number-from, number, or-zero, text-of}
+use Rattle.table.specs.Tables.{same-term, number-from, number, or-zero, label-of, text-of, words-from, terms-words, store-bytes, store-size}
 use Rattle.table.proofs.Numbers.{same-term-eq}
 use Rattle.table.proofs.Finding.{number-step, number-start}
 use Rattle.form.specs.Hash.{hash}
 use Rattle.terms.specs.declared.Counts.{Counts}
 use Rattle.terms.specs.declared.Sort.{Sort}
-use Rattle.terms.specs.Keeps.{findable, Keeps, Means}
+use Rattle.terms.specs.Keeps.{blank-count, findable, Typed, Keeps, Means, Added, BlankAdded}
 use Rattle.terms.specs.Code.{matches, first}
-use Rattle.terms.proofs.Kept.{test-same, found-first}
+use Rattle.terms.proofs.Kept.{bytes-room, readable, test-same, found-first}
 use Rattle.index.specs.Slots.{slot-at, put-slot}
 use Rattle.index.specs.Chains.{Chained, buckets, least, bucket-of, Chains, Indexed, Linked, Followed, Follows, Links}
+use Rattle.index.specs.Holds.{Holds, Searchable, Enters}
 use Rattle.index.proofs.Slots.{put-length, slot-same, slot-other}
 use Rattle.index.proofs.Chains.{same-chains, skipped, linked, least-left, least-right, least-low, least-high}
 
@@ -194,3 +195,43 @@ links-new x x' count h l small w ts t I e f k =
     let size : length x' ≡ length x = ap length w ∙ (put-length (put-slot x (m + count) (slot-at x (h % m))) (h % m) (count + 1) ∙ put-length x (m + count) (slot-at x (h % m))) in
     let same : buckets x' ≡ m = ap (λ (n : ℕ). n / 8) size in
     rw (same, w, k, ← e) (on-chain ts t m x (omega arith) (omega arith) (omega arith) f I)
+
+-- ---- The whole memory
+
+pub searchable : (ts : List Term) (terms : List ℕ) (store index : Text) (c : Counts) → Holds ts terms store index c → Searchable terms store index c
+searchable ts terms store index c H = record { readable = readable (H .keeps); linked = rw (H .keeps .count) (indexed-linked ts index (H .indexed)) }
+
+-- No terms yet, in any slices, with an index of zeros.
+pub holds-none : (terms : List ℕ) (store : Text) (n : ℕ) (c : Counts) → c .terms ≡ 0 → c .used ≡ 0 → c .blanks ≡ 0 → Holds [] terms store (zeros n) c
+unfolding terms-words words-from store-bytes store-size blank-count
+holds-none terms store n c a b d = record {
+  keeps = record {
+    words = rw a;
+    bytes = rw b;
+    count = a;
+    used = b;
+    blanks = d;
+    typed = λ i h. absurd (omega arith);
+    own = λ i h f. absurd (omega arith);
+  };
+  indexed = indexed-none n;
+}
+
+-- A [ or a list cell more.
+pub holds-blank : (ts : List Term) (b : Blank) (terms terms' : List ℕ) (store index : Text) (c c' : Counts) → Holds ts terms store index c → BlankAdded terms terms' c c'
+    → label-of b ≡ [] → findable (blank b) ≡ false → Holds (ts ++ blank b ∷ []) terms' store index c'
+unfolding Means Typed
+holds-blank ts b terms terms' store index c c' H A e f = record {
+  keeps = A store (bytes-room (H .keeps)) .keeps ts (blank b) (H .keeps) (refl, (e, refl)) tt (λ g. contrary (sym g ∙ f));
+  indexed = indexed-blank ts (blank b) index f (H .indexed);
+}
+
+pub enters : (terms terms' : List ℕ) (store store' index index' : Text) (c c' : Counts) (sort : Sort) (x g : Text) (h : ℕ) → Added terms terms' store store' c c' sort x g
+    → Links index index' (c .terms) h → h ≡ hash x → Enters terms terms' store store' index index' c c' sort x g
+enters terms terms' store store' index index' c c' sort x g h A L e = record {
+  added = A;
+  holds = λ ts t H M y f n. record {
+    keeps = A .keeps ts t (H .keeps) M y (λ _. n);
+    indexed = L ts t (H .indexed) (sym (H .keeps .count)) f (e ∙ ap hash (sym (means-text ts sort x g t M)));
+  };
+}

@@ -8,12 +8,10 @@ use lib.Dec.{ltb}
 use lib.ListN.{length, getD}
 use Rattle.text.specs.Text.{Text, cond}
 use Rattle.dataset.specs.Terms.{Term, iri}
-use Rattle.table.specs.Tables.{number, or-zero, text-of}
+use Rattle.table.specs.Tables.{text-of}
 use Rattle.form.specs.Hash.{hash}
-use Rattle.terms.specs.Keeps.{findable, Keeps, Means}
-use Rattle.terms.specs.declared.Counts.{Counts}
-use Rattle.terms.specs.declared.Sort.{Sort}
-use Rattle.index.specs.Slots.{slot-at, put-slot}
+use Rattle.terms.specs.Keeps.{findable}
+use Rattle.index.specs.Slots.{slot-at}
 
 -- Each of the first `count` terms that has a bucket is on its chain, and the chains go down.
 pub record Chained (m : ℕ) (bucket heads nexts : ℕ → ℕ) (count : ℕ) : Type 0 where
@@ -60,7 +58,3 @@ Follows x b count p r = (bucket : ℕ → ℕ) → Chained (buckets x) bucket (s
 -- What putting a term with this hash on its chain leaves.
 abbrev pub Links : Text → Text → ℕ → ℕ → Type 0
 Links x x' count h = (ts : List Term) (t : Term) → Indexed ts x → length ts ≡ count → findable t ≡ true → h ≡ hash (text-of t) → Indexed (ts ++ t ∷ []) x'
-
--- What looking for the term answers: its number, or 0.
-abbrev pub Finds : Text → List ℕ → Text → Counts → Sort → Text → Text → ℕ → Type 0
-Finds x terms store c sort s g r = (ts : List Term) (t : Term) → Indexed ts x → Keeps ts terms store c → Means ts sort s g t → findable t ≡ true → r ≡ or-zero (number t ts)

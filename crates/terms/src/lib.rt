@@ -186,7 +186,7 @@ fn write_bytes(
 }
 
 fn count_term(counts: Counts, sort: Sort, bytes: usize) -> Counts
-    requires { ⌜ (counts .terms < 18446744073709551615) × Small counts sort bytes ⌝ }
+    requires { ⌜ Small counts sort bytes ⌝ }
     ensures { λ r. ⌜ r ≡ next-counts counts sort bytes ⌝ }
 {
     let kind = sort.kind;

@@ -1,85 +1,63 @@
-use Rattle.index.specs.Slots.{slot-at}
 use native.Mathlib.Omega.{arith}
+use Rattle.index.specs.Slots.{slot-at}
 use borrow.Author.Needs.{needs}
 use Rattle.index.proofs.slot.Statement.{statement}
 use Rattle.index.proofs.slot.Tie as tie
-use Rattle.index.proofs.slot.Reads as reads
-use Rattle.index.proofs.slot.Lts as lts
-use Rattle.index.proofs.wide.Reads as wide-reads
 
--- src/lib.rt:28:14
 mul-at : tie.Need-mul-at
 mul-at c = search needs
 
--- src/lib.rt:29:10
 shared-slice-read-wide : tie.Need-shared-slice-read-wide
 shared-slice-read-wide c = search needs
 
--- src/lib.rt:29:5
 wide-requires : tie.Need-wide-requires
 wide-requires c κs = search needs
 
--- src/lib.rt:29:32
 add-wide : tie.Need-add-wide
 add-wide c = search needs
 
--- src/lib.rt:29:30
 shared-slice-read-wide-2 : tie.Need-shared-slice-read-wide-2
 shared-slice-read-wide-2 c = search needs
 
--- src/lib.rt:29:25
 wide-requires-2 : tie.Need-wide-requires-2
 wide-requires-2 c κs = search needs
 
--- src/lib.rt:29:19
 mul-result : tie.Need-mul-result
 mul-result c = search needs
 
--- src/lib.rt:29:5
 add-result : tie.Need-add-result
 add-result c = search needs
 
--- src/lib.rt:29:58
 add-wide-2 : tie.Need-add-wide-2
 add-wide-2 c = search needs
 
--- src/lib.rt:29:56
 shared-slice-read-wide-3 : tie.Need-shared-slice-read-wide-3
 shared-slice-read-wide-3 c = search needs
 
--- src/lib.rt:29:51
 wide-requires-3 : tie.Need-wide-requires-3
 wide-requires-3 c κs = search needs
 
--- src/lib.rt:29:43
 mul-result-2 : tie.Need-mul-result-2
 mul-result-2 c = search needs
 
--- src/lib.rt:29:5
 add-result-2 : tie.Need-add-result-2
 add-result-2 c = search needs
 
--- src/lib.rt:29:87
 add-wide-3 : tie.Need-add-wide-3
 add-wide-3 c = search needs
 
--- src/lib.rt:29:85
 shared-slice-read-wide-4 : tie.Need-shared-slice-read-wide-4
 shared-slice-read-wide-4 c = search needs
 
--- src/lib.rt:29:80
 wide-requires-4 : tie.Need-wide-requires-4
 wide-requires-4 c κs = search needs
 
--- src/lib.rt:29:69
 mul-result-3 : tie.Need-mul-result-3
 mul-result-3 c = search needs
 
--- src/lib.rt:29:5
 add-result-3 : tie.Need-add-result-3
 add-result-3 c = search needs
 
--- src/lib.rt:24:1
 returns : tie.Need-returns
 unfolding slot-at
 returns c = omega (arith, c .before .before .before .before .before .before .wide .ensures .0, c .before .before .before .before .wide2 .ensures .0, c .before .before .wide3 .ensures .0, c .wide4 .ensures .0)
