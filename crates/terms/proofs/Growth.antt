@@ -1,6 +1,6 @@
 -- One term more: the slices then hold it behind the others.
 use mathlib.Core.Path.{_≡_, refl, sym, ap, subst, _∙_}
-use mathlib.Core.List.{List, [], _∷_, _++_, append-assoc}
+use mathlib.Core.List.{List, [], _∷_, _++_, append-assoc, append-nil}
 use mathlib.Core.Bool.{Bool, true, false}
 use mathlib.Core.Option.{Option, none, some}
 use Prim.Native.Nat.{ℕ, zero, suc, _+_, _*_, _<_, _≤_}
@@ -12,27 +12,20 @@ use lib.Seq.{take-at, length-take-le, getD-append-seam}
 use Rattle.text.specs.Text.{Text, cond}
 use Rattle.text.specs.Slice.{over, over-at}
 use Rattle.text.proofs.Compare.{by}
-use Rattle.text.proofs.Over.{over-fits}
+use Rattle.text.proofs.Over.{over-at-none}
+use Rattle.terms.proofs.Slices.{take-over-at}
 use Rattle.dataset.specs.Terms.{Term, iri, blank, literal, tagged}
-use Rattle.table.specs.Layout.{Entry, entry-words}
-use Rattle.table.specs.Tables.{number, or-zero, is-blank, term-bytes, entry-of, store-size}
+use Rattle.table.specs.Layout.{Row, row-words, Entry, entry-words}
+use Rattle.table.specs.Tables.{number, or-zero, is-blank, term-bytes, entry-of, store-size, rows-words}
 use Rattle.table.proofs.Finding.{number-more, number-last}
 use Rattle.table.proofs.Store.{last-bytes, last-size}
 use Rattle.terms.specs.declared.Counts.{Counts}
 use Rattle.terms.specs.declared.Sort.{Sort}
-use Rattle.terms.specs.Keeps.{blank-count, findable, Typed, Keeps, Means, Room}
+use Rattle.terms.specs.Keeps.{blank-count, findable, Typed, Keeps, Means, Small, Room, Added, blank-sort, BlankAdded, KeepsRows, RowAdded}
 use Rattle.terms.specs.Code.{fourth, next-entry, next-counts}
 use Rattle.terms.proofs.Words.{words-last}
 
--- The front of a slice, up to the end of what was written into it.
-pub take-over-at : (at : ℕ) (s x : Text) → at + length s ≤ length x → take (at + length s) (over-at at s x) ≡ take at x ++ s
-unfolding over-at
-take-over-at at s x h =
-    let front : length (take at x) ≡ at = length-take-le at x (omega arith) in
-    rw (over-fits s (drop at x) (omega (arith, length-drop at x)), ← append-assoc (take at x) s (drop (length s) (drop at x)))
-    (take-at (take at x ++ s) (drop (length s) (drop at x)) (at + length s) (length-append (take at x) s ∙ omega (arith, front)))
-
-five-words : (e : Entry) → length (entry-words e) ≡ 5
+pub five-words : (e : Entry) → length (entry-words e) ≡ 5
 unfolding entry-words
 five-words e = refl
 
@@ -104,3 +97,57 @@ keeps-added ts terms store c sort x g t K R M y new =
           (λ i l f. number-more (getD ts i (iri [])) ts (t ∷ []) (suc i) (K .own i l f))
           (λ f. number-last t ts (new f));
     }
+
+-- ---- Rows
+
+rows-last : (rs : List Row) (r : Row) → rows-words (rs ++ r ∷ []) ≡ rows-words rs ++ row-words r
+unfolding rows-words
+rows-last [] r = append-nil (row-words r)
+rows-last (s ∷ rs) r = ap (λ (l : List ℕ). row-words s ++ l) (rows-last rs r) ∙ sym (append-assoc (row-words s) (rows-words rs) (row-words r))
+
+row-size-is : (r : Row) → length (row-words r) ≡ 5
+unfolding row-words
+row-size-is r = refl
+
+pub row-added : (rows rows' : List ℕ) (count : ℕ) (row : List ℕ) → 5 * count + length row ≤ length rows → rows' ≡ over-at (5 * count) row rows → RowAdded rows rows' count row
+row-added rows rows' count row room e = record {
+  words = e;
+  keeps = λ rs r K h.
+      let five : length row ≡ 5 = ap length h ∙ row-size-is r in
+      let size : 5 * (count + 1) ≡ 5 * count + length row = omega (arith, five) in
+      record {
+        words = rw (size, e) (take-over-at (5 * count) row rows room ∙ rw (K .words, h) (sym (rows-last rs r)));
+        size = omega (arith, K .size, length-append rs (r ∷ []));
+      };
+}
+
+-- ---- What the code of adding a term leaves
+
+-- Five words fit 32 bits if each does.
+pub five-small : (a b c d e : ℕ) → a < 4294967296 → b < 4294967296 → c < 4294967296 → d < 4294967296 → e < 4294967296
+    → (i : ℕ) → getD (a ∷ b ∷ c ∷ d ∷ e ∷ []) i 0 < 4294967296
+five-small a b c d e p q r s t zero = p
+five-small a b c d e p q r s t (suc zero) = q
+five-small a b c d e p q r s t (suc (suc zero)) = r
+five-small a b c d e p q r s t (suc (suc (suc zero))) = s
+five-small a b c d e p q r s t (suc (suc (suc (suc zero)))) = t
+five-small a b c d e p q r s t (suc (suc (suc (suc (suc i))))) = omega arith
+
+pub fourth-small : (c : Counts) (sort : Sort) (size tag-size : ℕ) → Small c sort (size + tag-size) → fourth c sort size < 4294967296
+unfolding fourth
+fourth-small c sort size tag-size S =
+    by (eqb (sort .kind) 2) (λ e. rw e (S .blanks))
+    (λ e. by (eqb (sort .kind) 3) (λ f. rw (e, f) (S .datatype)) (λ f. by (eqb (sort .kind) 4) (λ g. rw (e, f, g) (omega (arith, S .used))) (λ g. rw (e, f, g) (omega arith))))
+
+pub added : (terms terms' : List ℕ) (store store' : Text) (c c' : Counts) (sort : Sort) (x g : Text) (n : ℕ) → Room terms store c sort x g → n ≡ length x
+    → terms' ≡ over-at (5 * c .terms) (entry-words (next-entry c sort n (length g))) terms → store' ≡ over-at (c .used) (x ++ g) store
+    → c' ≡ next-counts c sort (n + length g) → Added terms terms' store store' c c' sort x g
+added terms terms' store store' c c' sort x g n R h w b e =
+    let w' : terms' ≡ over-at (5 * c .terms) (entry-words (next-entry c sort (length x) (length g))) terms = w ∙ rw h in
+    let e' : c' ≡ next-counts c sort (length x + length g) = e ∙ rw h in
+    record { words = w'; bytes = b; counts = e'; keeps = λ ts t K M y new. rw (w', b, e') (keeps-added ts terms store c sort x g t K R M y new) }
+
+pub blank-added : (terms terms' : List ℕ) (c c' : Counts) → 5 * c .terms + 5 ≤ length terms → Small c blank-sort 0
+    → terms' ≡ over-at (5 * c .terms) (entry-words (next-entry c blank-sort 0 0)) terms → c' ≡ next-counts c blank-sort 0 → BlankAdded terms terms' c c'
+blank-added terms terms' c c' room small w e store u =
+    added terms terms' store store c c' blank-sort [] [] 0 (record { words = room; bytes = omega arith; small = small }) refl w (sym (over-at-none (c .used) store)) e

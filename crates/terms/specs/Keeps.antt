@@ -2,15 +2,17 @@
 use mathlib.Core.Path.{_≡_}
 use mathlib.Core.List.{List, [], _∷_, _++_}
 use mathlib.Core.Bool.{Bool, true, false}
-use mathlib.Core.Option.{some}
+use mathlib.Core.Option.{none, some}
 use Prim.Native.Nat.{ℕ, suc, _+_, _*_, _<_, _≤_}
 use lib.ListN.{length, getD, take}
 use Rattle.text.specs.Text.{Text, cond}
+use Rattle.text.specs.Slice.{over-at}
 use Rattle.dataset.specs.Terms.{Blank, label, bracket, cell, numbered, Term, iri, blank, literal, tagged}
-use Rattle.table.specs.Layout.{term-size, iri-kind, blank-kind, literal-kind, tagged-kind}
-use Rattle.table.specs.Tables.{number, or-zero, is-blank, label-of, terms-words, store-bytes, store-size}
+use Rattle.table.specs.Layout.{Row, row-size, row-words, term-size, entry-words, iri-kind, blank-kind, literal-kind, tagged-kind}
+use Rattle.table.specs.Tables.{number, or-zero, is-blank, label-of, terms-words, store-bytes, store-size, rows-words}
 use Rattle.terms.specs.declared.Counts.{Counts}
 use Rattle.terms.specs.declared.Sort.{Sort}
+use Rattle.terms.specs.Code.{next-entry, next-counts}
 
 unfoldable pub blank-count : List Term → ℕ
 blank-count [] = 0
@@ -51,11 +53,44 @@ Means ts sort x g (blank b) = (sort .kind ≡ blank-kind) × ((label-of b ≡ x)
 Means ts sort x g (literal s d) = (sort .kind ≡ literal-kind) × ((s ≡ x) × ((g ≡ []) × (or-zero (number (iri d) ts) ≡ sort .datatype)))
 Means ts sort x g (tagged s h) = (sort .kind ≡ tagged-kind) × ((s ≡ x) × (h ≡ g))
 
--- There is room for one term more, in words, in bytes, and in 32 bits.
-pub record Room (terms : List ℕ) (store : Text) (c : Counts) (sort : Sort) (x g : Text) : Type 0 where
-  pub words : term-size * c .terms + term-size ≤ length terms
-  pub bytes : c .used + (length x + length g) ≤ length store
-  pub used : c .used + (length x + length g) < 4294967296
+-- The numbers of one term more, with so many bytes, fit 32 bits.
+pub record Small (c : Counts) (sort : Sort) (bytes : ℕ) : Type 0 where
+  pub terms : c .terms < 4294967295
+  pub used : c .used + bytes < 4294967296
   pub blanks : c .blanks < 4294967296
   pub kind : sort .kind < 4294967296
   pub datatype : sort .datatype < 4294967296
+
+-- There is room for one term more.
+pub record Room (terms : List ℕ) (store : Text) (c : Counts) (sort : Sort) (x g : Text) : Type 0 where
+  pub words : term-size * c .terms + term-size ≤ length terms
+  pub bytes : c .used + (length x + length g) ≤ length store
+  pub small : Small c sort (length x + length g)
+
+-- What looking for the term answers: its number, or 0.
+abbrev pub Finds : List ℕ → Text → Counts → Sort → Text → Text → ℕ → Type 0
+Finds terms store c sort x g r = (ts : List Term) (t : Term) → Keeps ts terms store c → Means ts sort x g t → findable t ≡ true → r ≡ or-zero (number t ts)
+
+-- What adding the term leaves: its words and bytes behind the others, and all else as it was.
+pub record Added (terms terms' : List ℕ) (store store' : Text) (c c' : Counts) (sort : Sort) (x g : Text) : Type 0 where
+  pub words : terms' ≡ over-at (term-size * c .terms) (entry-words (next-entry c sort (length x) (length g))) terms
+  pub bytes : store' ≡ over-at (c .used) (x ++ g) store
+  pub counts : c' ≡ next-counts c sort (length x + length g)
+  pub keeps : (ts : List Term) (t : Term) → Keeps ts terms store c → Means ts sort x g t → Typed ts t → (findable t ≡ true → number t ts ≡ none) → Keeps (ts ++ t ∷ []) terms' store' c'
+
+-- The sort of a [ or a list cell.
+abbrev pub blank-sort : Sort
+blank-sort = record { kind = blank-kind; datatype = 0 }
+
+-- What adding a blank node without a label leaves, whatever the store holds.
+abbrev pub BlankAdded : List ℕ → List ℕ → Counts → Counts → Type 0
+BlankAdded terms terms' c c' = (store : Text) → c .used ≤ length store → Added terms terms' store store c c' blank-sort [] []
+
+-- The slice holds the rows rs.
+pub record KeepsRows (rs : List Row) (rows : List ℕ) (count : ℕ) : Type 0 where
+  pub words : take (row-size * count) rows ≡ rows-words rs
+  pub size : count ≡ length rs
+
+pub record RowAdded (rows rows' : List ℕ) (count : ℕ) (row : List ℕ) : Type 0 where
+  pub words : rows' ≡ over-at (row-size * count) row rows
+  pub keeps : (rs : List Row) (r : Row) → KeepsRows rs rows count → row ≡ row-words r → KeepsRows (rs ++ r ∷ []) rows' (count + 1)

@@ -1,2 +1,2 @@
-pub mod Keeps
 pub mod Code
+pub mod Keeps

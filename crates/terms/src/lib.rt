@@ -1,11 +1,15 @@
-// Terms in lent slices: finding an equal one and adding a new one.
+// Terms and rows in lent slices: finding an equal term, adding a new one, adding a row.
 ghost use mathlib.Core.Path.{_≡_};
+ghost use mathlib.Core.Bool.{false};
+ghost use mathlib.Core.List.{_++_};
 ghost use Prim.Native.Nat.{ℕ, suc, _+_, _*_, _-_, _≤_, _<_};
-ghost use lib.ListN.{length};
-ghost use Rattle.form.specs.Form.{joined};
-ghost use Rattle.table.specs.Layout.{entry-at};
-ghost use Rattle.terms.specs.Code.{matches};
-ghost use Rattle.terms.specs.Keeps.{Keeps};
+ghost use lib.ListN.{length, getD, replicate};
+ghost use Rattle.text.specs.Slice.{over-at};
+ghost use Rattle.form.specs.Form.{joined, bad};
+ghost use Rattle.table.specs.Layout.{entry-at, entry-words};
+ghost use Rattle.terms.specs.Code.{same-rest, matches, first, Inside, Readable, fourth, next-entry, next-counts};
+ghost use Rattle.terms.specs.Keeps.{Keeps, Small, Room, Finds, Added, blank-sort, BlankAdded, RowAdded};
+use form::Form;
 
 // How many terms there are, how many bytes of the store they use, and how many of them are blank nodes.
 pub struct Counts {
@@ -24,4 +28,234 @@ fn wide(w: u32) -> usize
     ensures { λ r. ⌜ r ≡ w ⌝ }
 {
     w as usize
+}
+
+// Whether an entry of the same kind has the same datatype, or the same tag.
+fn same_rest(terms: &[u32], store: &[u8], i: usize, sort: Sort, tag: &[u8]) -> bool
+    requires { ⌜ Inside (now terms) (now store) i × (entry-at (now terms) (suc i) .kind ≡ sort .kind) ⌝ }
+    ensures { λ r. ⌜ r ≡ same-rest (now (store .entry)) (entry-at (now (terms .entry)) (suc i)) sort (now (tag .entry)) ⌝ }
+{
+    let at = 5 * i;
+    let kind = sort.kind;
+    if kind == 3 {
+        return wide(terms[at + 3]) == sort.datatype;
+    }
+    if kind == 4 {
+        let start = wide(terms[at + 3]);
+        let end = start + wide(terms[at + 4]);
+        return text::same(tag, &store[start..end]);
+    }
+    true
+}
+
+// Whether the entry at i is of the term of this sort with this text and tag.
+pub fn is_term(
+    terms: &[u32],
+    store: &[u8],
+    i: usize,
+    sort: Sort,
+    front: &[u8],
+    form: Form,
+    back: &[u8],
+    tag: &[u8],
+) -> bool
+    requires { ⌜ Inside (now terms) (now store) i ⌝ }
+    ensures { λ r. ⌜ r ≡ matches (now (store .entry)) (entry-at (now (terms .entry)) (suc i)) sort (joined (now (front .entry)) form (now (back .entry))) (now (tag .entry)) ⌝ }
+{
+    let at = 5 * i;
+    let kind = sort.kind;
+    if wide(terms[at]) != kind {
+        return false;
+    }
+    let start = wide(terms[at + 1]);
+    let end = start + wide(terms[at + 2]);
+    if form::same_joined(front, form, back, &store[start..end]) {
+        return same_rest(terms, store, i, sort, tag);
+    }
+    false
+}
+
+// The first number of such a term behind the first `from` terms, or 0.
+pub fn find_from(
+    terms: &[u32],
+    store: &[u8],
+    from: usize,
+    count: usize,
+    sort: Sort,
+    front: &[u8],
+    form: Form,
+    back: &[u8],
+    tag: &[u8],
+) -> usize
+    requires { ⌜ Readable (now terms) (now store) count × (from ≤ count) ⌝ }
+    ensures { λ r. ⌜ r ≡ first (λ i. matches (now (store .entry)) (entry-at (now (terms .entry)) (suc i)) sort (joined (now (front .entry)) form (now (back .entry))) (now (tag .entry))) from (count - from) ⌝ }
+{
+    let mut i = from;
+    while i < count {
+        if is_term(terms, store, i, sort, front, form, back, tag) {
+            return i + 1;
+        }
+        i += 1;
+    }
+    0
+}
+
+// The number of the equal term, or 0.
+pub fn find(
+    terms: &[u32],
+    store: &[u8],
+    counts: Counts,
+    sort: Sort,
+    front: &[u8],
+    form: Form,
+    back: &[u8],
+    tag: &[u8],
+) -> usize
+    requires { ⌜ Readable (now terms) (now store) (counts .terms) ⌝ }
+    ensures { λ r. ⌜ Finds (now (terms .entry)) (now (store .entry)) counts sort (joined (now (front .entry)) form (now (back .entry))) (now (tag .entry)) r ⌝ }
+{
+    let count = counts.terms;
+    find_from(terms, store, 0, count, sort, front, form, back, tag)
+}
+
+// Writes words at a place.
+fn put_words(words: &mut [u32], at: usize, s: &[usize])
+    requires { ⌜ (at + length (now s) ≤ length (now words)) × ((i : ℕ) → getD (now s) i 0 < 4294967296) ⌝ }
+    ensures { λ _. ⌜ now (words .exit) ≡ over-at at (now (s .entry)) (now (words .entry)) ⌝ }
+{
+    let mut i: usize = 0;
+    while i < s.len() {
+        words[at + i] = s[i] as u32;
+        i += 1;
+    }
+}
+
+// Adds a row behind the others.
+pub fn add_row(rows: &mut [u32], count: usize, row: &[usize])
+    requires { ⌜ (5 * count + length (now row) ≤ length (now rows)) × ((i : ℕ) → getD (now row) i 0 < 4294967296) ⌝ }
+    ensures { λ _. ⌜ RowAdded (now (rows .entry)) (now (rows .exit)) count (now (row .entry)) ⌝ }
+{
+    put_words(rows, 5 * count, row);
+}
+
+fn fourth_word(counts: Counts, sort: Sort, size: usize) -> usize
+    requires { ⌜ counts .used + size < 4294967296 ⌝ }
+    ensures { λ r. ⌜ r ≡ fourth counts sort size ⌝ }
+{
+    let kind = sort.kind;
+    if kind == 2 {
+        return counts.blanks;
+    }
+    if kind == 3 {
+        return sort.datatype;
+    }
+    if kind == 4 {
+        return counts.used + size;
+    }
+    0
+}
+
+// Writes the words of a term behind those of the others.
+fn put_entry(terms: &mut [u32], counts: Counts, sort: Sort, size: usize, tag: usize)
+    requires { ⌜ (5 * counts .terms + 5 ≤ length (now terms)) × Small counts sort (size + tag) ⌝ }
+    ensures { λ _. ⌜ now (terms .exit) ≡ over-at (5 * counts .terms) (entry-words (next-entry counts sort size tag)) (now (terms .entry)) ⌝ }
+{
+    let used = counts.used;
+    let at = 5 * counts.terms;
+    let kind = sort.kind;
+    let five = [kind, used, size, fourth_word(counts, sort, size), tag];
+    put_words(terms, at, &five);
+}
+
+// Writes a text, and the tag behind it, into the unused end of the store; the text's length.
+fn write_bytes(
+    store: &mut [u8],
+    used: usize,
+    front: &[u8],
+    form: Form,
+    back: &[u8],
+    tag: &[u8],
+) -> usize
+    requires { ⌜ (used + (length (joined (now front) form (now back)) + length (now tag)) ≤ length (now store)) × (bad form (now back) ≡ false) ⌝ }
+    ensures { λ r. ⌜ (r ≡ length (joined (now (front .entry)) form (now (back .entry)))) × (now (store .exit) ≡ over-at used (joined (now (front .entry)) form (now (back .entry)) ++ now (tag .entry)) (now (store .entry))) ⌝ }
+{
+    let size = form::write_joined(front, form, back, &mut store[used..]);
+    let end = used + size;
+    text::copy(tag, &mut store[end..]);
+    size
+}
+
+fn count_term(counts: Counts, sort: Sort, bytes: usize) -> Counts
+    requires { ⌜ Small counts sort bytes ⌝ }
+    ensures { λ r. ⌜ r ≡ next-counts counts sort bytes ⌝ }
+{
+    let kind = sort.kind;
+    if kind == 2 {
+        return Counts {
+            terms: counts.terms + 1,
+            used: counts.used + bytes,
+            blanks: counts.blanks + 1,
+        };
+    }
+    Counts {
+        terms: counts.terms + 1,
+        used: counts.used + bytes,
+        blanks: counts.blanks,
+    }
+}
+
+// Adds a term behind the others; the counts with it.
+pub fn add(
+    terms: &mut [u32],
+    store: &mut [u8],
+    counts: Counts,
+    sort: Sort,
+    front: &[u8],
+    form: Form,
+    back: &[u8],
+    tag: &[u8],
+) -> Counts
+    requires { ⌜ Room (now terms) (now store) counts sort (joined (now front) form (now back)) (now tag) × (bad form (now back) ≡ false) ⌝ }
+    ensures { λ r. ⌜ Added (now (terms .entry)) (now (terms .exit)) (now (store .entry)) (now (store .exit)) counts r sort (joined (now (front .entry)) form (now (back .entry))) (now (tag .entry)) ⌝ }
+{
+    let used = counts.used;
+    let tag_size = tag.len();
+    let size = write_bytes(store, used, front, form, back, tag);
+    put_entry(terms, counts, sort, size, tag_size);
+    count_term(counts, sort, size + tag_size)
+}
+
+// Adds a blank node without a label, as each [ and each list cell is; the counts with it.
+pub fn add_blank(terms: &mut [u32], counts: Counts) -> Counts
+    requires { ⌜ (5 * counts .terms + 5 ≤ length (now terms)) × Small counts blank-sort 0 ⌝ }
+    ensures { λ r. ⌜ BlankAdded (now (terms .entry)) (now (terms .exit)) counts r ⌝ }
+{
+    let sort = Sort {
+        kind: 2,
+        datatype: 0,
+    };
+    put_entry(terms, counts, sort, 0, 0);
+    count_term(counts, sort, 0)
+}
+
+// Makes every byte zero.
+pub fn clear_bytes(s: &mut [u8])
+    ensures { λ _. ⌜ now (s .exit) ≡ replicate (length (now (s .entry))) 0 ⌝ }
+{
+    let mut i: usize = 0;
+    while i < s.len() {
+        s[i] = 0;
+        i += 1;
+    }
+}
+
+// Makes every word zero.
+pub fn clear_words(s: &mut [u32])
+    ensures { λ _. ⌜ now (s .exit) ≡ replicate (length (now (s .entry))) 0 ⌝ }
+{
+    let mut i: usize = 0;
+    while i < s.len() {
+        s[i] = 0;
+        i += 1;
+    }
 }

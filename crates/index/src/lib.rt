@@ -1,0 +1,164 @@
+// An index of the terms in the part of the work slice that nothing else uses: chains by a hash of the text.
+// Without it, and for terms that it has no room for, the search is linear; the answer is the same.
+ghost use mathlib.Core.Path.{_≡_};
+ghost use Prim.Native.Nat.{ℕ, suc, _+_, _*_, _-_, _/_, _≤_, _<_};
+ghost use lib.ListN.{length};
+ghost use mathlib.Core.Bool.{false};
+ghost use Rattle.form.specs.Form.{joined, bad};
+ghost use Rattle.terms.specs.Keeps.{Room};
+ghost use Rattle.table.specs.Layout.{entry-at};
+ghost use Rattle.terms.specs.Code.{matches, Readable};
+ghost use Rattle.index.specs.Slots.{slot-at, put-slot};
+ghost use Rattle.index.specs.Chains.{buckets, least, Linked, Follows, Links};
+ghost use Rattle.index.specs.Holds.{Searchable, Finds, Enters};
+use form::Form;
+use terms::Counts;
+use terms::Sort;
+
+fn wide(b: u8) -> usize
+    ensures { λ r. ⌜ (r ≡ b) × (r < 256) ⌝ }
+{
+    b as usize
+}
+
+// The number in a slot.
+fn slot(s: &[u8], i: usize) -> usize
+    requires { ⌜ 4 * i + 4 ≤ length (now s) ⌝ }
+    ensures { λ r. ⌜ r ≡ slot-at (now (s .entry)) i ⌝ }
+{
+    let at = 4 * i;
+    wide(s[at]) + 256 * wide(s[at + 1]) + 65536 * wide(s[at + 2]) + 16777216 * wide(s[at + 3])
+}
+
+// Sets the number in a slot, as far as four bytes hold it.
+fn set_slot(s: &mut [u8], i: usize, v: usize)
+    requires { ⌜ 4 * i + 4 ≤ length (now s) ⌝ }
+    ensures { λ _. ⌜ now (s .exit) ≡ put-slot (now (s .entry)) i v ⌝ }
+{
+    let at = 4 * i;
+    s[at] = (v % 256) as u8;
+    s[at + 1] = (v / 256 % 256) as u8;
+    s[at + 2] = (v / 256 / 256 % 256) as u8;
+    s[at + 3] = (v / 256 / 256 / 256 % 256) as u8;
+}
+
+fn smaller(a: usize, b: usize) -> usize
+    ensures { λ r. ⌜ r ≡ least a b ⌝ }
+{
+    if a < b {
+        return a;
+    }
+    b
+}
+
+// The number of the equal term on the chain of a bucket, or 0.
+fn follow(
+    index: &[u8],
+    bucket: usize,
+    count: usize,
+    terms: &[u32],
+    store: &[u8],
+    sort: Sort,
+    front: &[u8],
+    form: Form,
+    back: &[u8],
+    tag: &[u8],
+) -> usize
+    requires { ⌜ (Linked (now index) count × (bucket < buckets (now index))) × Readable (now terms) (now store) count ⌝ }
+    ensures { λ r. ⌜ Follows (now (index .entry)) bucket (least count (buckets (now (index .entry)))) (λ i. matches (now (store .entry)) (entry-at (now (terms .entry)) (suc i)) sort (joined (now (front .entry)) form (now (back .entry))) (now (tag .entry))) r ⌝ }
+{
+    let m = index.len() / 8;
+    let mut k = slot(index, bucket);
+    while 0 < k {
+        let i = k - 1;
+        if terms::is_term(terms, store, i, sort, front, form, back, tag) {
+            return k;
+        }
+        k = slot(index, m + i);
+    }
+    0
+}
+
+// The number of the equal term, or 0.
+pub fn find(
+    index: &[u8],
+    terms: &[u32],
+    store: &[u8],
+    counts: Counts,
+    sort: Sort,
+    front: &[u8],
+    form: Form,
+    back: &[u8],
+    tag: &[u8],
+) -> usize
+    requires { ⌜ Searchable (now terms) (now store) (now index) counts ⌝ }
+    ensures { λ r. ⌜ Finds (now (terms .entry)) (now (store .entry)) (now (index .entry)) counts sort (joined (now (front .entry)) form (now (back .entry))) (now (tag .entry)) r ⌝ }
+{
+    let m = index.len() / 8;
+    let count = counts.terms;
+    if m == 0 {
+        return terms::find_from(terms, store, 0, count, sort, front, form, back, tag);
+    }
+    let bucket = form::hash_joined(front, form, back) % m;
+    let k = follow(
+        index,
+        bucket,
+        count,
+        terms,
+        store,
+        sort,
+        front,
+        form,
+        back,
+        tag,
+    );
+    if 0 < k {
+        return k;
+    }
+    terms::find_from(
+        terms,
+        store,
+        smaller(count, m),
+        count,
+        sort,
+        front,
+        form,
+        back,
+        tag,
+    )
+}
+
+// Puts the term that is the next, with this hash, on its chain.
+fn link(index: &mut [u8], count: usize, hash: usize)
+    requires { ⌜ count < 4294967295 ⌝ }
+    ensures { λ _. ⌜ Links (now (index .entry)) (now (index .exit)) count hash ⌝ }
+{
+    let m = index.len() / 8;
+    if m <= count {
+        return;
+    }
+    let bucket = hash % m;
+    let newest = slot(index, bucket);
+    set_slot(index, m + count, newest);
+    set_slot(index, bucket, count + 1);
+}
+
+// Adds a term behind the others, and to the index; the counts with it.
+pub fn add(
+    index: &mut [u8],
+    terms: &mut [u32],
+    store: &mut [u8],
+    counts: Counts,
+    sort: Sort,
+    front: &[u8],
+    form: Form,
+    back: &[u8],
+    tag: &[u8],
+) -> Counts
+    requires { ⌜ Room (now terms) (now store) counts sort (joined (now front) form (now back)) (now tag) × (bad form (now back) ≡ false) ⌝ }
+    ensures { λ r. ⌜ Enters (now (terms .entry)) (now (terms .exit)) (now (store .entry)) (now (store .exit)) (now (index .entry)) (now (index .exit)) counts r sort (joined (now (front .entry)) form (now (back .entry))) (now (tag .entry)) ⌝ }
+{
+    let count = counts.terms;
+    link(index, count, form::hash_joined(front, form, back));
+    terms::add(terms, store, counts, sort, front, form, back, tag)
+}

@@ -1,0 +1,57 @@
+-- Writing into a slice from a place on.
+use mathlib.Core.Path.{_≡_, refl, sym, ap, _∙_}
+use mathlib.Core.List.{List, [], _∷_, _++_, append-assoc, append-nil}
+use Prim.Native.Nat.{ℕ, zero, suc, _+_, _-_, _<_, _≤_}
+use native.Mathlib.Nat.{suc-add, zero-add}
+use native.Mathlib.Omega.{arith}
+use lib.ListN.{length, take, drop, set, replicate, length-append, length-drop, length-replicate, getD-replicate, drop-of-length-le}
+use lib.Seq.{take-at, length-take-le}
+use Rattle.text.specs.Text.{Text}
+use Rattle.text.specs.Slice.{over, over-at}
+use Rattle.text.proofs.Over.{over-fits, over-append, over-nothing, over-length, over-next, over-whole}
+use Rattle.form.proofs.Forms.{rest-all, given-back}
+
+-- The front of a slice, up to the end of what was written into it.
+pub take-over-at : (at : ℕ) (s x : Text) → at + length s ≤ length x → take (at + length s) (over-at at s x) ≡ take at x ++ s
+unfolding over-at
+take-over-at at s x h =
+    let front : length (take at x) ≡ at = length-take-le at x (omega arith) in
+    rw (over-fits s (drop at x) (omega (arith, length-drop at x)), ← append-assoc (take at x) s (drop (length s) (drop at x)))
+    (take-at (take at x ++ s) (drop (length s) (drop at x)) (at + length s) (length-append (take at x) s ∙ omega (arith, front)))
+
+-- The part of the slice from a place on was lent, and came back as w.
+pub part-over : (at : ℕ) (s x w : Text) → w ≡ over s (take (length x - at) (drop at x)) → take at x ++ (w ++ drop (length x - at) (drop at x)) ≡ over-at at s x
+unfolding over-at
+part-over at s x w e =
+    let k : w ≡ over s (drop at x) = e ∙ ap (over s) (rest-all x at) in
+    given-back x w at (ap length k ∙ over-length s (drop at x)) ∙ rw k
+
+-- One text behind another.
+pub over-at-append : (at : ℕ) (s t x : Text) → over-at at (s ++ t) x ≡ over-at (at + length s) t (over-at at s x)
+unfolding over-at
+over-at-append zero s t x = over-append s t x ∙ rw (zero-add (length s))
+over-at-append (suc at) s t [] = rw (suc-add at (length s), over-nothing (s ++ t), over-nothing s, over-nothing t)
+over-at-append (suc at) s t (b ∷ x) = rw (suc-add at (length s)) (ap (λ (l : Text). b ∷ l) (over-at-append at s t x))
+
+pub over-behind : (at end : ℕ) (s t x y : Text) → y ≡ over-at at s x → end ≡ at + length s → over-at end t y ≡ over-at at (s ++ t) x
+over-behind at end s t x y e h = rw (e, h) (sym (over-at-append at s t x))
+
+-- A slice whose first i elements are zero.
+abbrev pub zeros : ℕ → Text
+zeros n = replicate n 0
+
+zeros-length : (n : ℕ) → length (zeros n) ≡ n
+zeros-length n = length-replicate {A = ℕ} n 0
+
+pub cleared-next : (x y : Text) (i : ℕ) → i < length x → y ≡ over (take i (zeros (length x))) x → set y i 0 ≡ over (take (i + 1) (zeros (length x))) x
+cleared-next x y i h e = ap (set y i) (sym (getD-replicate (length x) i 0 0 h)) ∙ over-next (zeros (length x)) x y i (omega (arith, zeros-length (length x))) e
+
+pub cleared-size : (x y : Text) (i : ℕ) → y ≡ over (take i (zeros (length x))) x → length y ≡ length x
+cleared-size x y i e = ap length e ∙ over-length (take i (zeros (length x))) x
+
+pub cleared-whole : (x y : Text) (i : ℕ) → length x ≤ i → y ≡ over (take i (zeros (length x))) x → y ≡ zeros (length x)
+cleared-whole x y i h e =
+    let n : length (zeros (length x)) ≡ length x = zeros-length (length x) in
+    e
+    ∙ (over-whole (zeros (length x)) x i (omega (arith, n))
+    ∙ (over-fits (zeros (length x)) x (omega (arith, n)) ∙ rw (drop-of-length-le x {i = length (zeros (length x))} (omega (arith, n)), append-nil)))
