@@ -84,6 +84,15 @@ ascii-sets : Gives chosen-ascii (
     ∷ with DOUBLE "1." "1" ⇒ ascii "Ee"
     ∷ with DOUBLE ".1" "1" ⇒ ascii "Ee"
     ∷ with DOUBLE "1e" "1" ⇒ (ascii "+-" ++ digits)
+    -- Keywords: in exact case, and in any case
+    ∷ with kw-a "" "" ⇒ ascii "a"
+    ∷ with kw-true "tru" "" ⇒ ascii "e"
+    ∷ with kw-false "" "alse" ⇒ ascii "f"
+    ∷ with at-prefix "@" "refix" ⇒ ascii "p"
+    ∷ with at-base "@bas" "" ⇒ ascii "e"
+    ∷ with PREFIX "" "refix" ⇒ ascii "Pp"
+    ∷ with BASE "BA" "E" ⇒ ascii "Ss"
+    ∷ with GRAPH "grap" "" ⇒ ascii "Hh"
     -- Strings, and the characters behind a backslash
     ∷ with «STRING_LITERAL_QUOTE» "\"" "\"" ⇒ (chosen (λ c. true) 10 0 ++ 11 ∷ 12 ∷ chosen (λ c. true) 20 14 ++ chosen (λ c. true) 57 35 ++ chosen (λ c. true) 35 93)
     ∷ with «STRING_LITERAL_SINGLE_QUOTE» "'" "'" ⇒ (chosen (λ c. true) 10 0 ++ 11 ∷ 12 ∷ chosen (λ c. true) 25 14 ++ chosen (λ c. true) 52 40 ++ chosen (λ c. true) 35 93)

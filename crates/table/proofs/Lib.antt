@@ -1,0 +1,2 @@
+-- Tables, computed on examples.
+pub mod Examples
