@@ -3,7 +3,7 @@ use mathlib.Core.Path.{refl}
 use mathlib.Core.List.{List, [], _∷_, _++_}
 use Prim.Native.Nat.{ℕ}
 use Rattle.text.proofs.Table.{_⇒_, Gives}
-use Rattle.machine.specs.Read.{Lent, After, kept, zeroed, written, computing}
+use Rattle.machine.specs.Read.{Lent, After, kept, zeroed, written, contents, computing}
 use Rattle.examples.specs.Call.{utf8, times, S, ample-words, ample-bytes, ample, call, trig, turtle, against, within, with-rows, with-store, _at_, verdict, accepts, short, object-text, afterwards}
 
 -- ---- Lent memory
@@ -49,6 +49,10 @@ work : Gives afterwards (
 unfolding computing
 work = refl
 
+-- Zeroing is of the whole slice; what lies past the written part stays.
+slices-after : Gives (λ after. contents after (7 ∷ 8 ∷ 9 ∷ [])) (kept ⇒ (7 ∷ 8 ∷ 9 ∷ []) ∷ zeroed ⇒ (0 ∷ 0 ∷ 0 ∷ []) ∷ written (1 ∷ []) ⇒ (1 ∷ 8 ∷ 9 ∷ []) ∷ [])
+slices-after = refl
+
 -- ---- Numbers, their order and positions
 
 answers : Gives verdict (
@@ -56,6 +60,15 @@ answers : Gives verdict (
     call 2 (utf8 "x") (with-work 0) (0x80 ∷ []) ⇒ 2 at 0
     ∷ call 1 (utf8 "x") (with-work 0) (0x80 ∷ []) ⇒ 3 at 0
     ∷ call 1 [] (with-work 35839) (0x80 ∷ []) ⇒ 4 at 0
+    ∷ call 1 [] (with-work 35840) (0x80 ∷ []) ⇒ 5 at 0
+    -- at one token in number order: 7 before 10, 8 before 9, 10 and 13, 9 and 10 before 14, 15 before 16
+    ∷ trig (S "<\\uD800> .") ⇒ 7 at 12
+    ∷ trig (S "1 p:a .") ⇒ 8 at 14
+    ∷ trig (S "1 <g> .") ⇒ 8 at 14
+    ∷ trig (S "" ++ times 63 "[<x:p>" ++ utf8 "[[") ⇒ 8 at 391
+    ∷ with-rows 0 (S "p:a .") ⇒ 9 at 12
+    ∷ with-rows 0 (S "<g> .") ⇒ 10 at 12
+    ∷ within ample-words 15 45 (S "\"a\" .") ⇒ 15 at 12
     -- 14 to 16 count everything that the token writes
     ∷ with-rows 5 (S "( 1 ) .") ⇒ 14 at 14
     ∷ within 5 10 ample-bytes (S "( 1 ) .") ⇒ 14 at 14

@@ -148,7 +148,7 @@ put i w [] = []
 put zero w (v ∷ vs) = w ∷ vs
 put (suc i) w (v ∷ vs) = v ∷ put i w vs
 
--- The word i of row m, and of term n, both from 0 on; and the byte i of the store.
+-- With another word i in the rows, or in the terms; with another byte i in the store.
 abbrev with-row : ℕ → ℕ → Slices
 with-row i w = held-in (put i w rows-of) 2 terms-of 6 store-of 13
 
