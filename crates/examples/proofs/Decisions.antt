@@ -4,7 +4,7 @@ use mathlib.Core.List.{List, [], _∷_, _++_}
 use Prim.Native.Nat.{ℕ}
 use Rattle.text.proofs.Table.{_⇒_, Gives}
 use Rattle.machine.specs.Read.{Lent, After, kept, zeroed, written, contents, computing}
-use Rattle.examples.specs.Call.{utf8, times, S, ample-words, ample-bytes, ample, call, trig, turtle, against, within, with-rows, with-store, _at_, verdict, accepts, short, object-text, afterwards}
+use Rattle.examples.specs.Call.{utf8, lines, times, S, ample-words, ample-bytes, ample, call, trig, turtle, against, within, with-rows, with-store, _at_, verdict, accepts, short, object-text, afterwards, printed}
 
 -- ---- Lent memory
 
@@ -324,3 +324,24 @@ rows : Gives short (
     ∷ [])
 unfolding computing
 rows = refl
+
+-- ---- Errors that readers make
+
+not-yet-declared : Gives verdict (trig (utf8 "m:a a 1 . PREFIX m: <x:>") ⇒ 9 at 0 ∷ [])
+unfolding computing
+not-yet-declared = refl
+
+errors : Gives printed (
+    -- a name stands under the latest declaration before it
+    trig (utf8 "PREFIX m: <x:1#> m:a m:b m:c . PREFIX m: <x:2#> m:a m:b m:c .") ⇒ lines ("<x:1#a> <x:1#b> <x:1#c> ." ∷ "<x:2#a> <x:2#b> <x:2#c> ." ∷ [])
+    -- m:a.b is one name, m:a. is a name and a dot
+    ∷ trig (utf8 "PREFIX m: <x:> m:a.b m:p m:a.") ⇒ lines ("<x:a.b> <x:p> <x:a> ." ∷ [])
+    -- # opens a comment
+    ∷ trig (utf8 "PREFIX m: <x:> m:s m:p m:a#b\n.") ⇒ lines ("<x:s> <x:p> <x:a> ." ∷ [])
+    -- %66 is not decoded
+    ∷ trig (utf8 "PREFIX m: <x:> m:s m:p m:%66 .") ⇒ lines ("<x:s> <x:p> <x:%66> ." ∷ [])
+    -- blank labels do not start afresh in each graph
+    ∷ trig (utf8 "<x:g> { _:a <x:p> _:b } <x:h> { _:b <x:p> _:a }") ⇒ lines ("<x:g> { _:b0 <x:p> _:b1 . }" ∷ "<x:h> { _:b1 <x:p> _:b0 . }" ∷ [])
+    ∷ [])
+unfolding computing
+errors = refl
