@@ -3,8 +3,8 @@ use mathlib.Core.Path.{refl}
 use mathlib.Core.List.{List, [], _∷_, _++_}
 use Prim.Native.Nat.{ℕ}
 use Rattle.text.proofs.Table.{_⇒_, Gives}
-use Rattle.machine.specs.Read.{Lent, After, kept, zeroed, written, computing}
-use Rattle.examples.specs.Call.{utf8, times, S, ample-words, ample-bytes, ample, call, trig, turtle, against, within, with-rows, with-store, _at_, verdict, accepts, short, object-text, afterwards}
+use Rattle.machine.specs.Read.{Lent, After, kept, zeroed, written, contents, computing}
+use Rattle.examples.specs.Call.{utf8, lines, times, S, ample-words, ample-bytes, ample, call, trig, turtle, against, within, with-rows, with-store, _at_, verdict, accepts, short, object-text, afterwards, printed}
 
 -- ---- Lent memory
 
@@ -49,6 +49,10 @@ work : Gives afterwards (
 unfolding computing
 work = refl
 
+-- Zeroing is of the whole slice; what lies past the written part stays.
+slices-after : Gives (λ after. contents after (7 ∷ 8 ∷ 9 ∷ [])) (kept ⇒ (7 ∷ 8 ∷ 9 ∷ []) ∷ zeroed ⇒ (0 ∷ 0 ∷ 0 ∷ []) ∷ written (1 ∷ []) ⇒ (1 ∷ 8 ∷ 9 ∷ []) ∷ [])
+slices-after = refl
+
 -- ---- Numbers, their order and positions
 
 answers : Gives verdict (
@@ -56,6 +60,15 @@ answers : Gives verdict (
     call 2 (utf8 "x") (with-work 0) (0x80 ∷ []) ⇒ 2 at 0
     ∷ call 1 (utf8 "x") (with-work 0) (0x80 ∷ []) ⇒ 3 at 0
     ∷ call 1 [] (with-work 35839) (0x80 ∷ []) ⇒ 4 at 0
+    ∷ call 1 [] (with-work 35840) (0x80 ∷ []) ⇒ 5 at 0
+    -- at one token in number order: 7 before 10, 8 before 9, 10 and 13, 9 and 10 before 14, 15 before 16
+    ∷ trig (S "<\\uD800> .") ⇒ 7 at 12
+    ∷ trig (S "1 p:a .") ⇒ 8 at 14
+    ∷ trig (S "1 <g> .") ⇒ 8 at 14
+    ∷ trig (S "" ++ times 63 "[<x:p>" ++ utf8 "[[") ⇒ 8 at 391
+    ∷ with-rows 0 (S "p:a .") ⇒ 9 at 12
+    ∷ with-rows 0 (S "<g> .") ⇒ 10 at 12
+    ∷ within ample-words 15 45 (S "\"a\" .") ⇒ 15 at 12
     -- 14 to 16 count everything that the token writes
     ∷ with-rows 5 (S "( 1 ) .") ⇒ 14 at 14
     ∷ within 5 10 ample-bytes (S "( 1 ) .") ⇒ 14 at 14
@@ -311,3 +324,24 @@ rows : Gives short (
     ∷ [])
 unfolding computing
 rows = refl
+
+-- ---- Errors that readers make
+
+not-yet-declared : Gives verdict (trig (utf8 "m:a a 1 . PREFIX m: <x:>") ⇒ 9 at 0 ∷ [])
+unfolding computing
+not-yet-declared = refl
+
+errors : Gives printed (
+    -- a name stands under the latest declaration before it
+    trig (utf8 "PREFIX m: <x:1#> m:a m:b m:c . PREFIX m: <x:2#> m:a m:b m:c .") ⇒ lines ("<x:1#a> <x:1#b> <x:1#c> ." ∷ "<x:2#a> <x:2#b> <x:2#c> ." ∷ [])
+    -- m:a.b is one name, m:a. is a name and a dot
+    ∷ trig (utf8 "PREFIX m: <x:> m:a.b m:p m:a.") ⇒ lines ("<x:a.b> <x:p> <x:a> ." ∷ [])
+    -- # opens a comment
+    ∷ trig (utf8 "PREFIX m: <x:> m:s m:p m:a#b\n.") ⇒ lines ("<x:s> <x:p> <x:a> ." ∷ [])
+    -- %66 is not decoded
+    ∷ trig (utf8 "PREFIX m: <x:> m:s m:p m:%66 .") ⇒ lines ("<x:s> <x:p> <x:%66> ." ∷ [])
+    -- blank labels do not start afresh in each graph
+    ∷ trig (utf8 "<x:g> { _:a <x:p> _:b } <x:h> { _:b <x:p> _:a }") ⇒ lines ("<x:g> { _:b0 <x:p> _:b1 . }" ∷ "<x:h> { _:b1 <x:p> _:b0 . }" ∷ [])
+    ∷ [])
+unfolding computing
+errors = refl

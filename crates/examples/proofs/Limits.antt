@@ -31,6 +31,9 @@ limits : Gives verdict (
     ∷ trig (declarations 32) ⇒ 0 at 912
     ∷ trig (declarations 32 ++ utf8 "PREFIX p:<x:>") ⇒ 0 at 925
     ∷ trig (declarations 33) ⇒ 12 at 953
+    -- 10 and 11 before 12
+    ∷ trig (declarations 32 ++ utf8 "PREFIX q:<g>") ⇒ 10 at 921
+    ∷ trig (declarations 32 ++ utf8 "PREFIX q:<x:" ++ times 1023 "a" ++ utf8 ">") ⇒ 11 at 921
     ∷ [])
 unfolding computing
 limits = refl

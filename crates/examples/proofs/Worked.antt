@@ -7,7 +7,7 @@ use Rattle.text.specs.Text.{Text}
 use Rattle.table.specs.Layout.{Slices}
 use Rattle.table.specs.LongForm.{write}
 use Rattle.machine.specs.Read.{computing}
-use Rattle.examples.specs.Call.{utf8, lines, Call, trig, accepts, answered, short, slices, written-into}
+use Rattle.examples.specs.Call.{utf8, lines, Call, trig, accepts, answered, short, slices, printed, written-into}
 
 abbrev document : Call
 document =
@@ -66,6 +66,11 @@ form =
     ∷ "<x:n#41> { _:b2 <x:n#at> <x:n#41> . }"
     ∷ "<x:n#41> { _:b1 <http://www.w3.org/1999/02/22-rdf-syntax-ns#rest> <http://www.w3.org/1999/02/22-rdf-syntax-ns#nil> . }"
     ∷ [])
+
+-- "It is read again in mode 0."
+read-again : printed (trig form) ≡ form
+unfolding computing
+read-again = refl
 
 -- In a buffer of two bytes more than the long form has, these stay. One byte less is 17.
 writes : written-into 498 document ≡ record { number = 0; position = 496; output = form ++ 0 ∷ 0 ∷ [] }

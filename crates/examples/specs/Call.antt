@@ -45,6 +45,7 @@ lends rows terms store = record { work = work-size; rows = rows; terms = terms; 
 abbrev pub ample : Lent
 ample = lends ample-words ample-words ample-bytes
 
+-- A call of the reader: what is lent to it.
 pub record Call : Type 0 where
   pub document : Text
   pub mode : ℕ
@@ -106,7 +107,7 @@ short-of a =
 abbrev pub short : Call → Short
 short c = short-of (answered c)
 
--- The text of the first term after <x:s> and <x:p>, where there is one more.
+-- What the store holds behind x:s and x:p: the object's IRI, where it is new.
 abbrev pub object-text : Call → Text
 object-text c = drop 6 (new (answered c .store))
 

@@ -3,3 +3,5 @@ pub mod Numbers
 pub mod Held
 pub mod Finding
 pub mod Store
+-- Tables, computed on examples.
+pub mod Examples

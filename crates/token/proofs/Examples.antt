@@ -1,6 +1,6 @@
 -- The terminals at the bounds of their sets, the longest match, and documents cut into tokens, by computing.
 use mathlib.Core.Path.{refl}
-use mathlib.Core.Bool.{Bool, true, false, _&&_}
+use mathlib.Core.Bool.{Bool, true, false, not, _&&_}
 use mathlib.Core.List.{List, [], _∷_, _++_, map}
 use Prim.Native.Nat.{ℕ, zero, suc, pred}
 use Prim.Native.String.{String}
@@ -45,14 +45,17 @@ capitals = ascii "ABCDEFGHIJKLMNOPQRSTUVWXYZ"
 abbrev smalls : List ℕ
 smalls = ascii "abcdefghijklmnopqrstuvwxyz"
 
+abbrev hex : List ℕ
+hex = digits ++ ascii "ABCDEFabcdef"
+
 -- The characters below 128 that each place of a terminal takes.
 ascii-sets : Gives chosen-ascii (
     -- IRIREF, and the hex digits of UCHAR
     with IRIREF "<" ">" ⇒ (ascii "!#$%&'()*+,-./" ++ digits ++ ascii ":;=?@" ++ capitals ++ ascii "[]_" ++ smalls ++ ascii "~\u{7f}")
-    ∷ with IRIREF "<\\u" "000>" ⇒ (digits ++ ascii "ABCDEFabcdef")
-    ∷ with IRIREF "<\\u000" ">" ⇒ (digits ++ ascii "ABCDEFabcdef")
-    ∷ with IRIREF "<\\U" "0000000>" ⇒ (digits ++ ascii "ABCDEFabcdef")
-    ∷ with IRIREF "<\\U0000000" ">" ⇒ (digits ++ ascii "ABCDEFabcdef")
+    ∷ with IRIREF "<\\u" "000>" ⇒ hex
+    ∷ with IRIREF "<\\u000" ">" ⇒ hex
+    ∷ with IRIREF "<\\U" "0000000>" ⇒ hex
+    ∷ with IRIREF "<\\U0000000" ">" ⇒ hex
     ∷ with IRIREF "<\\" "00000000>" ⇒ ascii "Uu"
     -- PN_PREFIX: its first character, one in the middle, and its last
     ∷ with «PNAME_NS» "" ":" ⇒ (capitals ++ smalls)
@@ -63,8 +66,8 @@ ascii-sets : Gives chosen-ascii (
     ∷ with «PNAME_LN» "m:a" "a" ⇒ (ascii "-." ++ digits ++ ascii ":" ++ capitals ++ ascii "_" ++ smalls)
     ∷ with «PNAME_LN» "m:a" "" ⇒ (ascii "-" ++ digits ++ ascii ":" ++ capitals ++ ascii "_" ++ smalls)
     ∷ with «PNAME_LN» "m:\\" "" ⇒ ascii "!#$%&'()*+,-./;=?@_~"
-    ∷ with «PNAME_LN» "m:%" "0" ⇒ (digits ++ ascii "ABCDEFabcdef")
-    ∷ with «PNAME_LN» "m:%0" "" ⇒ (digits ++ ascii "ABCDEFabcdef")
+    ∷ with «PNAME_LN» "m:%" "0" ⇒ hex
+    ∷ with «PNAME_LN» "m:%0" "" ⇒ hex
     -- BLANK_NODE_LABEL
     ∷ with «BLANK_NODE_LABEL» "_:" "" ⇒ (digits ++ capitals ++ ascii "_" ++ smalls)
     ∷ with «BLANK_NODE_LABEL» "_:a" "a" ⇒ (ascii "-." ++ digits ++ capitals ++ ascii "_" ++ smalls)
@@ -84,11 +87,16 @@ ascii-sets : Gives chosen-ascii (
     ∷ with DOUBLE "1." "1" ⇒ ascii "Ee"
     ∷ with DOUBLE ".1" "1" ⇒ ascii "Ee"
     ∷ with DOUBLE "1e" "1" ⇒ (ascii "+-" ++ digits)
-    -- Strings, and the characters behind a backslash
-    ∷ with «STRING_LITERAL_QUOTE» "\"" "\"" ⇒ (chosen (λ c. true) 10 0 ++ 11 ∷ 12 ∷ chosen (λ c. true) 20 14 ++ chosen (λ c. true) 57 35 ++ chosen (λ c. true) 35 93)
-    ∷ with «STRING_LITERAL_SINGLE_QUOTE» "'" "'" ⇒ (chosen (λ c. true) 10 0 ++ 11 ∷ 12 ∷ chosen (λ c. true) 25 14 ++ chosen (λ c. true) 52 40 ++ chosen (λ c. true) 35 93)
-    ∷ with «STRING_LITERAL_LONG_QUOTE» "\"\"\"" "\"\"\"" ⇒ (chosen (λ c. true) 34 0 ++ chosen (λ c. true) 57 35 ++ chosen (λ c. true) 35 93)
-    ∷ with «STRING_LITERAL_LONG_SINGLE_QUOTE» "'''" "'''" ⇒ (chosen (λ c. true) 39 0 ++ chosen (λ c. true) 52 40 ++ chosen (λ c. true) 35 93)
+    -- Keywords: in exact case, and in any case
+    ∷ with kw-a "" "" ⇒ ascii "a"
+    ∷ with kw-true "tru" "" ⇒ ascii "e"
+    ∷ with kw-false "" "alse" ⇒ ascii "f"
+    ∷ with at-prefix "@" "refix" ⇒ ascii "p"
+    ∷ with at-base "@bas" "" ⇒ ascii "e"
+    ∷ with PREFIX "" "refix" ⇒ ascii "Pp"
+    ∷ with BASE "BA" "E" ⇒ ascii "Ss"
+    ∷ with GRAPH "grap" "" ⇒ ascii "Hh"
+    -- ECHAR
     ∷ with «STRING_LITERAL_QUOTE» "\"\\" "\"" ⇒ ascii "\"'\\bfnrt"
     ∷ with «STRING_LITERAL_SINGLE_QUOTE» "'\\" "'" ⇒ ascii "\"'\\bfnrt"
     ∷ with «STRING_LITERAL_LONG_QUOTE» "\"\"\"\\" "\"\"\"" ⇒ ascii "\"'\\bfnrt"
@@ -99,6 +107,16 @@ ascii-sets : Gives chosen-ascii (
     ∷ [])
 unfolding computing
 ascii-sets = refl
+
+-- Those that a string does not take.
+ascii-not-taken : Gives (λ takes. chosen-ascii (λ c. not (takes c))) (
+    with «STRING_LITERAL_QUOTE» "\"" "\"" ⇒ ascii "\n\r\"\\"
+    ∷ with «STRING_LITERAL_SINGLE_QUOTE» "'" "'" ⇒ ascii "\n\r'\\"
+    ∷ with «STRING_LITERAL_LONG_QUOTE» "\"\"\"" "\"\"\"" ⇒ ascii "\"\\"
+    ∷ with «STRING_LITERAL_LONG_SINGLE_QUOTE» "'''" "'''" ⇒ ascii "'\\"
+    ∷ [])
+unfolding computing
+ascii-not-taken = refl
 
 -- Before a range, its first, its last, and behind it.
 abbrev at-bounds : (ℕ → Bool) → Range → List Bool
