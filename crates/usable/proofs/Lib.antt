@@ -1,0 +1,4 @@
+pub mod TagForms
+pub mod Words
+pub mod Each
+pub mod Facts

@@ -1,0 +1,55 @@
+-- The invariant: all rows are good where those that are left are.
+use mathlib.Core.Bool.{Bool}
+use mathlib.Core.List.{List, []}
+use Rattle.table.specs.Layout.{row-at}
+use Rattle.table.specs.Usable.{each, good-row}
+use Rattle.usable.specs.Lent.{lent, row-test}
+use Rattle.usable.proofs.Each.{left, each-start, each-done, each-next, each-fails}
+use borrow.Author.Needs.{needs}
+use native.Mathlib.Omega.{arith}
+use borrow.Author.Tests.{not-false, not-true}
+use mathlib.Core.Path.{_≡_, sym, _∙_}
+use Prim.Native.Nat.{_≤_, _-_}
+use Rattle.usable.proofs.rows.all_good.Statement.{statement}
+use Rattle.usable.proofs.rows.all_good.Tie as tie
+
+abbrev Inv-loop : tie.InvT-loop
+Inv-loop rows row-count terms count i₀ i = (i ≤ row-count) × (each (row-test rows terms count) 0 row-count ≡ left (row-test rows terms count) 0 row-count i)
+
+abbrev μ-loop : tie.MeasureT-loop
+μ-loop rows row-count terms count i₀ i = row-count - i
+
+loop-holds : tie.Need-loop-holds Inv-loop μ-loop
+loop-holds c = (omega arith, each-start (row-test (c .before .before .args .rows .now) (c .before .before .args .terms .now) (c .before .before .args .count)) 0 (c .before .before .args .row-count))
+
+is-good-requires : tie.Need-is-good-requires Inv-loop μ-loop
+is-good-requires c κs = search needs
+
+returns : tie.Need-returns Inv-loop μ-loop
+returns c = each-fails (row-test (c .before .before .before .before .before .before .args .rows .now) (c .before .before .before .before .before .before .args .terms .now) (c .before .before .before .before .before .before .args .count)) 0 (c .before .before .before .before .before .before .args .row-count) (c .before .before .before .loop .i) (c .before .before .before .loop .i) (c .before .before .loop-test .taken) (omega arith) (sym (c .before .is-good .ensures) ∙ not-true _ (c .if1 .taken)) ∙ sym (c .before .before .before .loop .inv .1)
+
+add-i : tie.Need-add-i Inv-loop μ-loop
+add-i c = search needs
+
+loop-less : tie.Need-loop-less Inv-loop μ-loop
+loop-less c = search needs
+
+loop-again : tie.Need-loop-again Inv-loop μ-loop
+loop-again c = (omega arith, c .before .before .before .loop .inv .1 ∙ each-next (row-test (c .before .before .before .before .before .before .args .rows .now) (c .before .before .before .before .before .before .args .terms .now) (c .before .before .before .before .before .before .args .count)) 0 (c .before .before .before .before .before .before .args .row-count) (c .before .before .before .loop .i) (c .before .before .before .loop .i) (c .before .before .loop-test .taken) (omega arith) (sym (c .before .is-good .ensures) ∙ not-false _ (c .if1 .left)))
+
+returns-2 : tie.Need-returns-2 Inv-loop μ-loop
+returns-2 c = each-done (row-test (c .before .before .before .before .args .rows .now) (c .before .before .before .before .args .terms .now) (c .before .before .before .before .args .count)) 0 (c .before .before .before .before .args .row-count) (c .before .loop .i) (c .loop-test .left) ∙ sym (c .before .loop .inv .1)
+
+pub all-good-spec : {M : Type 1} → statement M
+all-good-spec =
+    tie.close
+    (tie.spec
+    Inv-loop
+    μ-loop
+    loop-holds
+    is-good-requires
+    returns
+    add-i
+    loop-less
+    loop-again
+    returns-2)

@@ -1,0 +1,27 @@
+use Rattle.utf8.proofs.Tests.{between-true}
+use Rattle.usable.proofs.Words.{kind-word}
+use borrow.Author.Needs.{needs}
+use native.Mathlib.Omega.{arith}
+use borrow.Author.Tests.{ne-eqb, not-false, not-true}
+use mathlib.Core.Path.{sym, _∙_}
+use Rattle.usable.proofs.rows.is_resource.Statement.{statement}
+use Rattle.usable.proofs.rows.is_resource.Tie as tie
+
+is-present-requires : tie.Need-is-present-requires
+is-present-requires c κs = search needs
+
+returns : tie.Need-returns
+returns c = simp (sym (c .before .is-present .ensures) ∙ not-true _ (c .if1 .taken))
+
+word-requires : tie.Need-word-requires
+word-requires c κs = let h = between-true 1 (c .before .before .before .args .count) (c .before .before .before .args .n) (sym (c .before .is-present .ensures) ∙ not-false _ (c .if1 .left)) in ((h .0, omega (arith, h .1)), omega arith)
+
+returns-2 : tie.Need-returns-2
+returns-2 c = simp (sym (c .before .before .before .is-present .ensures) ∙ not-false _ (c .before .before .if1 .left), ← kind-word (c .before .before .before .before .before .args .terms .now) (c .before .before .before .before .before .args .n) (c .before .word .result) (c .before .word .ensures .0), c .if2 .taken)
+
+returns-3 : tie.Need-returns-3
+returns-3 c = simp (sym (c .before .before .before .is-present .ensures) ∙ not-false _ (c .before .before .if1 .left), ← kind-word (c .before .before .before .before .before .args .terms .now) (c .before .before .before .before .before .args .n) (c .before .word .result) (c .before .word .ensures .0), ne-eqb _ _ (c .if2 .left))
+
+pub is-resource-spec : {M : Type 1} → statement M
+is-resource-spec =
+    tie.close (tie.spec is-present-requires returns word-requires returns-2 returns-3)

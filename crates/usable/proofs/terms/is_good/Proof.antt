@@ -1,0 +1,25 @@
+use mathlib.Core.List.{[]}
+use Rattle.table.specs.Usable.{good-term}
+use Rattle.usable.specs.Lent.{lent}
+use Rattle.usable.proofs.Words.{text-in}
+use borrow.Author.Needs.{needs}
+use mathlib.Core.Path.{sym, _∙_}
+use Rattle.usable.proofs.terms.is_good.Statement.{statement}
+use Rattle.usable.proofs.terms.is_good.Tie as tie
+
+has-text-requires : tie.Need-has-text-requires
+has-text-requires c κs = search needs
+
+fits-kind-requires : tie.Need-fits-kind-requires
+fits-kind-requires c κs = (c .before .before .before .before .pre .0, (c .before .before .before .before .pre .1, text-in (lent (c .before .before .before .before .args .terms .now) 0 (c .before .before .before .before .args .store .now) (c .before .before .before .before .args .used)) (c .before .before .before .before .args .n) (c .before .before .before .before .pre .1) (sym (c .before .has-text .ensures) ∙ c .if1 .taken)))
+
+returns : tie.Need-returns
+unfolding good-term
+returns c = simp (sym (c .before .before .has-text .ensures) ∙ c .before .if1 .taken) (c .fits-kind .ensures)
+
+returns-2 : tie.Need-returns-2
+unfolding good-term
+returns-2 c = simp (sym (c .before .has-text .ensures) ∙ c .if1 .left)
+
+pub is-good-spec : {M : Type 1} → statement M
+is-good-spec = tie.close (tie.spec has-text-requires fits-kind-requires returns returns-2)

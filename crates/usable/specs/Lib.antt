@@ -1,0 +1,3 @@
+-- What the check of the tables computes, as its routines do.
+pub mod Places
+pub mod Lent

@@ -1,0 +1,55 @@
+// Which tables the writer takes, whatever the lent slices hold.
+pub mod fields;
+pub mod rows;
+pub mod tags;
+pub mod terms;
+
+ghost use mathlib.Core.Path.{_≡_};
+ghost use Rattle.table.specs.Usable.{counts-fit, usable};
+ghost use Rattle.usable.specs.Lent.{slices};
+
+fn wide(n: u32) -> usize
+    ensures { λ r. ⌜ r ≡ n ⌝ }
+{
+    n as usize
+}
+
+// Not: "a count goes past its slice".
+fn fit_counts(
+    rows: &[u32],
+    row_count: u32,
+    terms: &[u32],
+    term_count: u32,
+    store: &[u8],
+    store_count: u32,
+) -> bool
+    ensures { λ r. ⌜ r ≡ counts-fit (slices (now (rows .entry)) «row_count» (now (terms .entry)) «term_count» (now (store .entry)) «store_count») ⌝ }
+{
+    if rows.len() < 5 * wide(row_count) {
+        return false;
+    }
+    if terms.len() < 5 * wide(term_count) {
+        return false;
+    }
+    wide(store_count) <= store.len()
+}
+
+// Whether the writer takes the tables: so many rows, terms and bytes of the store.
+pub fn is_usable(
+    rows: &[u32],
+    row_count: u32,
+    terms: &[u32],
+    term_count: u32,
+    store: &[u8],
+    store_count: u32,
+) -> bool
+    ensures { λ r. ⌜ r ≡ usable (slices (now (rows .entry)) «row_count» (now (terms .entry)) «term_count» (now (store .entry)) «store_count») ⌝ }
+{
+    if !fit_counts(rows, row_count, terms, term_count, store, store_count) {
+        return false;
+    }
+    if !terms::all_good(terms, wide(term_count), store, wide(store_count)) {
+        return false;
+    }
+    rows::all_good(rows, wide(row_count), terms, wide(term_count))
+}

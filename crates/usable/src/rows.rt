@@ -1,0 +1,87 @@
+// What rows must be.
+ghost use mathlib.Core.Path.{_≡_};
+ghost use mathlib.Core.Bool.{_&&_};
+ghost use mathlib.Core.List.{[]};
+ghost use Prim.Native.Nat.{suc, _+_, _*_, _≤_, _<_};
+ghost use lib.ListN.{length};
+ghost use Rattle.table.specs.Layout.{iri-kind};
+ghost use Rattle.table.specs.Usable.{each, has-kind, present, resource};
+ghost use Rattle.usable.specs.Lent.{lent, names-graph, row-test};
+use crate::fields::word;
+
+// Not: "a row names a missing term".
+fn is_present(count: usize, n: usize) -> bool
+    ensures { λ r. ⌜ r ≡ present (lent [] count [] 0) n ⌝ }
+{
+    if n < 1 {
+        return false;
+    }
+    n <= count
+}
+
+// Whether a graph or a subject may have the term.
+fn is_resource(terms: &[u32], count: usize, n: usize) -> bool
+    requires { ⌜ 5 * count ≤ length (now terms) ⌝ }
+    ensures { λ r. ⌜ r ≡ resource (lent (now (terms .entry)) count [] 0) n ⌝ }
+{
+    if !is_present(count, n) {
+        return false;
+    }
+    let kind = word(terms, n, 0);
+    if kind == 1 {
+        return true;
+    }
+    kind == 2
+}
+
+fn is_predicate(terms: &[u32], count: usize, n: usize) -> bool
+    requires { ⌜ 5 * count ≤ length (now terms) ⌝ }
+    ensures { λ r. ⌜ r ≡ present (lent (now (terms .entry)) count [] 0) n && has-kind (lent (now (terms .entry)) count [] 0) iri-kind n ⌝ }
+{
+    if !is_present(count, n) {
+        return false;
+    }
+    word(terms, n, 0) == 1
+}
+
+fn is_graph(terms: &[u32], count: usize, n: usize) -> bool
+    requires { ⌜ 5 * count ≤ length (now terms) ⌝ }
+    ensures { λ r. ⌜ r ≡ names-graph (lent (now (terms .entry)) count [] 0) n ⌝ }
+{
+    if n == 0 {
+        return true;
+    }
+    is_resource(terms, count, n)
+}
+
+fn is_good(rows: &[u32], i: usize, terms: &[u32], count: usize) -> bool
+    requires { ⌜ (5 * (i + 1) ≤ length (now rows)) × (5 * count ≤ length (now terms)) ⌝ }
+    ensures { λ r. ⌜ r ≡ row-test (now (rows .entry)) (now (terms .entry)) count i ⌝ }
+{
+    let n = i + 1;
+    if !is_graph(terms, count, word(rows, n, 0)) {
+        return false;
+    }
+    if !is_resource(terms, count, word(rows, n, 1)) {
+        return false;
+    }
+    if !is_predicate(terms, count, word(rows, n, 2)) {
+        return false;
+    }
+    is_present(count, word(rows, n, 3))
+}
+
+// Whether every row is good.
+pub fn all_good(rows: &[u32], row_count: usize, terms: &[u32], count: usize) -> bool
+    requires { ⌜ (5 * «row_count» ≤ length (now rows)) × (5 * count ≤ length (now terms)) ⌝ }
+    ensures { λ r. ⌜ r ≡ each (row-test (now (rows .entry)) (now (terms .entry)) count) 0 «row_count» ⌝ }
+{
+    let mut i: usize = 0;
+    while i < row_count {
+        if !is_good(rows, i, terms, count) {
+            return false;
+        }
+        i += 1;
+    }
+    true
+}

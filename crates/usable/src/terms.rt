@@ -1,0 +1,123 @@
+// What terms must be.
+ghost use mathlib.Core.Path.{_≡_};
+ghost use mathlib.Core.List.{[]};
+ghost use Prim.Native.Nat.{_+_, _*_, _≤_, _<_};
+ghost use lib.ListN.{length};
+ghost use Rattle.utf8.specs.Utf8.{first-bad};
+ghost use Rattle.table.specs.Usable.{each, is-none, the, text, inside, good-iri, good-datatype, good-tag, good-term};
+ghost use Rattle.usable.specs.Lent.{Stands, SpanIn, lent, readable, right-kind};
+use crate::fields::part;
+use crate::fields::word;
+use crate::tags::is_tag;
+use limits::Limits;
+use utf8::Validity;
+
+fn is_utf8(s: &[u8]) -> bool
+    ensures { λ r. ⌜ r ≡ is-none (first-bad (now (s .entry))) ⌝ }
+{
+    let v = utf8::first_bad(s);
+    match v {
+        Validity::Valid => true,
+        Validity::BadAt(_) => false,
+    }
+}
+
+// Neither "a span leaves the used store" nor "a text is not UTF-8".
+fn has_text(terms: &[u32], store: &[u8], used: usize, n: usize) -> bool
+    requires { ⌜ Stands (now terms) n × (used ≤ length (now store)) ⌝ }
+    ensures { λ r. ⌜ r ≡ readable (lent (now (terms .entry)) 0 (now (store .entry)) used) n ⌝ }
+{
+    let start = word(terms, n, 1);
+    let size = word(terms, n, 2);
+    if used < start + size {
+        return false;
+    }
+    is_utf8(part(store, start, size))
+}
+
+// Not: "an IRI has no scheme or is over 1,024 bytes".
+fn is_iri(terms: &[u32], store: &[u8], used: usize, n: usize) -> bool
+    requires { ⌜ Stands (now terms) n × SpanIn (lent (now terms) 0 (now store) used) n ⌝ }
+    ensures { λ r. ⌜ r ≡ good-iri (lent (now (terms .entry)) 0 (now (store .entry)) used) n ⌝ }
+{
+    let start = word(terms, n, 1);
+    let size = word(terms, n, 2);
+    if Limits::IRI < size {
+        return false;
+    }
+    iri::has_scheme(part(store, start, size))
+}
+
+// Not: "a datatype is not an earlier IRI term".
+fn has_datatype(terms: &[u32], n: usize) -> bool
+    requires { ⌜ Stands (now terms) n ⌝ }
+    ensures { λ r. ⌜ r ≡ good-datatype (lent (now (terms .entry)) 0 [] 0) n ⌝ }
+{
+    let d = word(terms, n, 3);
+    if d < 1 {
+        return false;
+    }
+    if n <= d {
+        return false;
+    }
+    word(terms, d, 0) == 1
+}
+
+// Whether a tagged literal has a tag.
+fn has_tag(terms: &[u32], store: &[u8], used: usize, n: usize) -> bool
+    requires { ⌜ Stands (now terms) n × (used ≤ length (now store)) ⌝ }
+    ensures { λ r. ⌜ r ≡ good-tag (lent (now (terms .entry)) 0 (now (store .entry)) used) n ⌝ }
+{
+    let start = word(terms, n, 3);
+    let size = word(terms, n, 4);
+    if used < start + size {
+        return false;
+    }
+    is_tag(part(store, start, size))
+}
+
+// Whether the term is what its kind asks for, of which there are four.
+fn fits_kind(terms: &[u32], store: &[u8], used: usize, n: usize) -> bool
+    requires { ⌜ Stands (now terms) n × ((used ≤ length (now store)) × SpanIn (lent (now terms) 0 (now store) used) n) ⌝ }
+    ensures { λ r. ⌜ r ≡ right-kind (lent (now (terms .entry)) 0 (now (store .entry)) used) n ⌝ }
+{
+    let kind = word(terms, n, 0);
+    if kind == 1 {
+        return is_iri(terms, store, used, n);
+    }
+    if kind == 2 {
+        return true;
+    }
+    if kind == 3 {
+        return has_datatype(terms, n);
+    }
+    if kind == 4 {
+        return has_tag(terms, store, used, n);
+    }
+    false
+}
+
+fn is_good(terms: &[u32], store: &[u8], used: usize, n: usize) -> bool
+    requires { ⌜ Stands (now terms) n × (used ≤ length (now store)) ⌝ }
+    ensures { λ r. ⌜ r ≡ good-term (lent (now (terms .entry)) 0 (now (store .entry)) used) n ⌝ }
+{
+    if has_text(terms, store, used, n) {
+        return fits_kind(terms, store, used, n);
+    }
+    false
+}
+
+// Whether every term is good.
+pub fn all_good(terms: &[u32], count: usize, store: &[u8], used: usize) -> bool
+    requires { ⌜ (5 * count ≤ length (now terms)) × (used ≤ length (now store)) ⌝ }
+    ensures { λ r. ⌜ r ≡ each (good-term (lent (now (terms .entry)) 0 (now (store .entry)) used)) 1 count ⌝ }
+{
+    let mut i: usize = 0;
+    while i < count {
+        if !is_good(terms, store, used, i + 1) {
+            return false;
+        }
+        i += 1;
+    }
+    true
+}
