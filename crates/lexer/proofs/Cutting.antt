@@ -65,7 +65,7 @@ parted false (c ∷ cs) =
     record {
       front = c ∷ r .front;
       whole = rw e (ap (λ (x : List ℕ). c ∷ x) (r .whole));
-      sized = rw e (let o : suc (blanks (is "#" c) cs) ≡ width c + size width (r .front) = omega arith in o)
+      sized = rw e (let o : suc (blanks (is "#" c) cs) ≡ width c + size width (r .front) = omega arith in o);
     })
     (λ e. record { front = []; whole = rw e; sized = rw e })
 
@@ -82,7 +82,7 @@ module _ (doc : Text) (at c : ℕ) (cs : List ℕ) where
 
     cut-hit : (k n : ℕ) → token-at (c ∷ cs) ≡ hit k n
         → lexemes-from doc between at (c ∷ cs)
-          ≡ token (record { kind = kind-of-code k; start = at; text = take n (drop at doc) }) ∷ lexemes-from doc (passed (n - width c)) (at + width c) cs
+        ≡ token (record { kind = kind-of-code k; start = at; text = take n (drop at doc) }) ∷ lexemes-from doc (passed (n - width c)) (at + width c) cs
     unfolding lexemes-from
     cut-hit k n f = rw (e, f, lexemes-from)
 
@@ -114,6 +114,7 @@ lexemes-blanks doc false (c ∷ cs) at = go (lexemes-blanks doc (is "#" c) cs (a
     same-place : (v : Bool) → cond v comment between ≡ place v
     same-place true = refl
     same-place false = refl
+
     go : lexemes-from doc (place (is "#" c)) (at + 1) cs ≡ lexemes-from doc between (at + 1 + blanks (is "#" c) cs) (after-blanks (is "#" c) cs)
         → lexemes-from doc between at (c ∷ cs) ≡ lexemes-from doc between (at + blanks false (c ∷ cs)) (after-blanks false (c ∷ cs))
     go ih =
@@ -208,8 +209,8 @@ module _ (doc : Text) (at b : ℕ) (v : first-bad (drop at doc) ≡ none) (e : b
       record {
         scalars = scalars-right (p .front) (after-blanks false text) (subst Scalars (p .whole) (g .scalars));
         bytes =
-          sym (drop-drop b at doc) ∙ ap (drop b) (g .bytes ∙ ap encodes (p .whole) ∙ encodes-append (p .front) (after-blanks false text))
-          ∙ drop-at (encodes (p .front)) (encodes (after-blanks false text)) b (length-encodes (p .front) ∙ sym (e ∙ p .sized))
+            sym (drop-drop b at doc) ∙ ap (drop b) (g .bytes ∙ ap encodes (p .whole) ∙ encodes-append (p .front) (after-blanks false text))
+            ∙ drop-at (encodes (p .front)) (encodes (after-blanks false text)) b (length-encodes (p .front) ∙ sym (e ∙ p .sized));
       }
 
   pub blanks-valid : first-bad (drop (at + b) doc) ≡ none
@@ -272,19 +273,18 @@ module _ (doc : Text) (at b : ℕ) (v : first-bad (drop at doc) ≡ none) (e : b
         let t = taken c cs k n u in
         let o = t .bytes in
         let d : drop (at + b + n) doc ≡ encodes (t .back) =
-                sym (drop-drop n (at + b) doc)
-                ∙ ap (drop n) (left .bytes ∙ ap encodes (g ∙ ap (λ (x : List ℕ). c ∷ x) (t .whole)) ∙ encodes-append (c ∷ t .front) (t .back))
-                ∙ drop-at (encodes (c ∷ t .front)) (encodes (t .back)) n (length-encodes (c ∷ t .front) ∙ sym o) in
+        sym (drop-drop n (at + b) doc)
+        ∙ ap (drop n) (left .bytes ∙ ap encodes (g ∙ ap (λ (x : List ℕ). c ∷ x) (t .whole)) ∙ encodes-append (c ∷ t .front) (t .back))
+        ∙ drop-at (encodes (c ∷ t .front)) (encodes (t .back)) n (length-encodes (c ∷ t .front) ∙ sym o) in
         let sc : Scalars (t .back) = scalars-right (c ∷ t .front) (t .back) (subst Scalars (g ∙ ap (λ (x : List ℕ). c ∷ x) (t .whole)) (left .scalars)) in
         let q = encoded-valid (drop (at + b + n) doc) (t .back) (record { scalars = sc; bytes = d }) in
         let z : at + b + width c + (n - width c) ≡ at + b + n = omega arith in
         let l : lexemes-from doc (passed (n - width c)) (at + b + width c) cs ≡ lexemes-from doc between (at + b + n) (decode (drop (at + b + n) doc)) =
-                ap (lexemes-from doc (passed (n - width c)) (at + b + width c)) (t .whole)
-                ∙ lexemes-inside doc (t .front) (t .back) (at + b + width c) (n - width c) (omega arith)
-                ∙ ap₂ (λ (i : ℕ) (x : List ℕ). lexemes-from doc between i x) z (sym (q .1)) in
-        (
+        ap (lexemes-from doc (passed (n - width c)) (at + b + width c)) (t .whole)
+        ∙ lexemes-inside doc (t .front) (t .back) (at + b + width c) (n - width c) (omega arith)
+        ∙ ap₂ (λ (i : ℕ) (x : List ℕ). lexemes-from doc between i x) z (sym (q .1)) in (
           rest-blanks ∙ ap (lexemes-from doc between (at + b)) g ∙ cut-hit doc (at + b) c cs (no-blank false text c cs g) k n u
-          ∙ ap (λ (x : List Lexeme). token (record { kind = kind-of-code k; start = at + b; text = take n (drop (at + b) doc) }) ∷ x) l,
+              ∙ ap (λ (x : List Lexeme). token (record { kind = kind-of-code k; start = at + b; text = take n (drop (at + b) doc) }) ∷ x) l,
           q .0,
         )
 
@@ -294,8 +294,10 @@ module _ (doc : Text) (at b : ℕ) (v : first-bad (drop at doc) ≡ none) (e : b
         go : (cs : List ℕ) (m : Match) → token-at cs ≡ m → tok k n ≡ answer m → token-at cs ≡ hit k n
         go cs nothing u w = absurd (z (ap (λ (t : Token). t .kind) w))
         go cs (hit j x) u w = u ∙ ap₂ hit (ap (λ (t : Token). t .kind) (sym w)) (ap (λ (t : Token). t .len) (sym w))
+
         none-empty : token-at [] ≡ hit k n → ⊥
         none-empty u = empty-none k n u
+
         fin : (cs : List ℕ) → after-blanks false text ≡ cs → tok k n ≡ answer (token-at cs) → CutToken
         fin [] g w = absurd (none-empty (go [] (token-at []) refl w))
         fin (c ∷ cs) g w = cut-some c cs g (go (c ∷ cs) (token-at (c ∷ cs)) refl w)
