@@ -1,31 +1,33 @@
 -- Cutting a document: after its blanks and a token, what is left is what is left further on.
+use Rattle.automaton.proofs.Runs.{start-nothing}
 use mathlib.Core.Path.{_≡_, refl, subst, sym, ap, ap₂, _∙_}
-use mathlib.Core.Logic.{_⊎_, inl, inr, ⊎-elim}
+use mathlib.Core.Logic.{⊎-elim}
 use mathlib.Core.Bool.{Bool, true, false, not, _||_}
 use mathlib.Core.List.{List, [], _∷_, _++_}
 use mathlib.Core.Option.{none}
 use Prim.Native.Nat.{ℕ, zero, suc, _+_, _-_, _≤_, _<_}
 use native.Mathlib.Omega.{arith}
 use native.Mathlib.Nat.{add-zero, add-assoc}
-use borrow.Author.Tests.{lt-ltb, eqb-true}
-use lib.Dec.{T, eqb, ltb, ltb→lt}
+use borrow.Author.Tests.{lt-ltb}
+use lib.Dec.{T, ltb}
 use lib.ListN.{length, take, drop, length-drop, drop-of-length-le}
 use lib.Seq.{drop-at, drop-drop}
 use Rattle.text.specs.Text.{Text, cond, is}
-use Rattle.utf8.specs.Utf8.{encode, encodes, width, decode, first-bad}
+use Rattle.utf8.specs.Utf8.{encodes, width, decode, first-bad}
 use Rattle.utf8.specs.Scalar.{Scalars, Encodes}
 use Rattle.utf8.proofs.Tests.{by, split}
 use Rattle.utf8.proofs.Encoding.{width-pos}
 use Rattle.utf8.proofs.Decoding.{valid-encoded, encoded-valid, encodes-append, scalars-right}
 use Rattle.token.specs.Kind.{kind-of-code}
-use Rattle.token.specs.Regular.{Item, Match, nothing, hit, Hit, Longest, step, now-at, later, best, size}
+use Rattle.token.specs.Regular.{Item, Match, nothing, hit, Longest, step, later, best, size}
 use Rattle.token.specs.Terminals.{terminals, long-terminals, tripled, terminals-at, token-at}
-use Rattle.token.specs.Tokens.{Lexeme, token, unreadable, Cutting, between, comment, inside, white-space, line-end, in-comment, passed, lexemes-from}
+use Rattle.token.specs.Tokens.{Lexeme, token, unreadable, Cutting, between, comment, white-space, line-end, passed, lexemes-from}
 use Rattle.token.proofs.Longest.{best-longest}
 use Rattle.automaton.specs.Run.{tok, answer}
 use Rattle.automaton.specs.declared.Token.{Token}
 use Rattle.lexer_words.specs.Ahead.{Clear}
-use Rattle.lexer_words.proofs.Clearing.{length-encodes, clear-drop}
+use Rattle.token.proofs.Sizes.{length-encodes}
+use Rattle.lexer_words.proofs.Clearing.{clear-drop}
 use Rattle.lexer_words.proofs.Muting.{Passes, best-passes}
 use Rattle.lexer.specs.Blanks.{blanks, after-blanks}
 use Rattle.lexer.specs.Rest.{rest}
@@ -159,10 +161,6 @@ record Taken (c : ℕ) (cs : List ℕ) (k n : ℕ) : Type 0 where
   back : List ℕ
   whole : cs ≡ front ++ back
   bytes : n ≡ width c + size width front
-
-start-nothing : (v : Bool) → now-at (cond v long-terminals terminals) ≡ nothing
-start-nothing true = refl
-start-nothing false = refl
 
 taken : (c : ℕ) (cs : List ℕ) (k n : ℕ) → token-at (c ∷ cs) ≡ hit k n → Taken c cs k n
 unfolding token-at

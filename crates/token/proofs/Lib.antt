@@ -1,1 +1,3 @@
+-- The longest match, and the sizes of code points.
 pub mod Longest
+pub mod Sizes
