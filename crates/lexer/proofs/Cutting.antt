@@ -25,11 +25,12 @@ use Rattle.token.specs.Tokens.{Lexeme, token, unreadable, Cutting, between, com
 use Rattle.token.proofs.Longest.{best-longest}
 use Rattle.automaton.specs.Run.{tok, answer}
 use Rattle.automaton.specs.declared.Token.{Token}
-use Rattle.lexer_words.specs.Ahead.{Clear}
+use Rattle.automaton.specs.declared.Next.{Next}
+use Rattle.lexer_words.specs.Ahead.{Clear, NextAt}
 use Rattle.token.proofs.Sizes.{length-encodes}
 use Rattle.lexer_words.proofs.Clearing.{clear-drop}
 use Rattle.lexer_words.proofs.Muting.{Passes, best-passes}
-use Rattle.lexer.specs.Blanks.{blanks, after-blanks}
+use Rattle.lexer.specs.Blanks.{blanks, after-blanks, BlanksAt}
 use Rattle.lexer.specs.Rest.{rest}
 use Rattle.lexer.proofs.Blanking.{high-blank}
 
@@ -211,24 +212,25 @@ module _ (doc : Text) (at b : ℕ) (v : first-bad (drop at doc) ≡ none) (e : b
             ∙ drop-at (encodes (p .front)) (encodes (after-blanks false text)) b (length-encodes (p .front) ∙ sym (e ∙ p .sized));
       }
 
-  pub blanks-valid : first-bad (drop (at + b) doc) ≡ none
+  blanks-valid : first-bad (drop (at + b) doc) ≡ none
   blanks-valid = encoded-valid (drop (at + b) doc) (after-blanks false text) left .0
 
   blanks-text : decode (drop (at + b) doc) ≡ after-blanks false text
   blanks-text = encoded-valid (drop (at + b) doc) (after-blanks false text) left .1
 
   -- Blanks change nothing of what is known ahead.
-  pub blanks-clear : (n : ℕ) → Clear (drop at doc) n → Clear (drop b (drop at doc)) (n - b)
+  blanks-clear : (n : ℕ) → Clear (drop at doc) n → Clear (drop (at + b) doc) (n - b)
   blanks-clear n c =
       let p = parted false text in
-      clear-drop (drop at doc) n b (p .front) (after-blanks false text) v c (p .whole) (e ∙ p .sized) (ap decode (drop-drop b at doc) ∙ blanks-text)
+      subst (λ (x : Text). Clear x (n - b)) (drop-drop b at doc)
+      (clear-drop (drop at doc) n b (p .front) (after-blanks false text) v c (p .whole) (e ∙ p .sized) (ap decode (drop-drop b at doc) ∙ blanks-text))
 
   rest-blanks : rest doc at ≡ lexemes-from doc between (at + b) (after-blanks false text)
   unfolding rest
   rest-blanks = lexemes-blanks doc false text at ∙ ap (λ (n : ℕ). lexemes-from doc between (at + n) (after-blanks false text)) (sym e)
 
   -- At the end of the document.
-  pub cut-end : length doc ≤ at + b → rest doc at ≡ []
+  cut-end : length doc ≤ at + b → rest doc at ≡ []
   unfolding lexemes-from encodes
   cut-end h = rest-blanks ∙ fin (after-blanks false text) (sym (left .bytes) ∙ drop-of-length-le doc {i = at + b} h)
     where
@@ -245,7 +247,7 @@ module _ (doc : Text) (at b : ℕ) (v : first-bad (drop at doc) ≡ none) (e : b
     what = f ∙ ap (λ (x : List ℕ). answer (token-at x)) blanks-text
 
     -- No token can be read.
-    pub cut-none : at + b < length doc → k ≡ 0 → rest doc at ≡ unreadable (at + b) ∷ []
+    cut-none : at + b < length doc → k ≡ 0 → rest doc at ≡ unreadable (at + b) ∷ []
     unfolding encodes
     cut-none h z = rest-blanks ∙ fin (after-blanks false text) refl what
       where
@@ -286,7 +288,7 @@ module _ (doc : Text) (at b : ℕ) (v : first-bad (drop at doc) ≡ none) (e : b
           q .0,
         )
 
-    pub cut-token : (k ≡ 0 → ⊥) → CutToken
+    cut-token : (k ≡ 0 → ⊥) → CutToken
     cut-token z = fin (after-blanks false text) refl what
       where
         go : (cs : List ℕ) (m : Match) → token-at cs ≡ m → tok k n ≡ answer m → token-at cs ≡ hit k n
@@ -299,3 +301,32 @@ module _ (doc : Text) (at b : ℕ) (v : first-bad (drop at doc) ≡ none) (e : b
         fin : (cs : List ℕ) → after-blanks false text ≡ cs → tok k n ≡ answer (token-at cs) → CutToken
         fin [] g w = absurd (none-empty (go [] (token-at []) refl w))
         fin (c ∷ cs) g w = cut-some c cs g (go (c ∷ cs) (token-at (c ∷ cs)) refl w)
+
+-- ---- What a reader does at a place: the blanks, and the token after them
+
+-- A token was read: it is the first of the tokens left, and what follows it may be read in the same way.
+pub record Cut (doc : Text) (at b : ℕ) (r : Next) : Type 0 where
+  pub tokens : rest doc at ≡ token (record { kind = kind-of-code (r .kind); start = at + b; text = take (r .len) (drop (at + b) doc) }) ∷ rest doc (at + b + r .len)
+  pub valid : first-bad (drop (at + b + r .len) doc) ≡ none
+  pub clear : Clear (drop (at + b + r .len) doc) (r .clear)
+
+module _ (doc : Text) (at b clear : ℕ) (r : Next) (v : first-bad (drop at doc) ≡ none) (c : Clear (drop at doc) clear) (g : BlanksAt (drop at doc) b) (m : NextAt (drop (at + b) doc) (clear - b) r) where
+  right : tok (r .kind) (r .len) ≡ answer (token-at (decode (drop (at + b) doc)))
+  right = m .right (blanks-valid doc at b v (g .right v)) (blanks-clear doc at b v (g .right v) clear c)
+
+  pub read-token : (r .kind ≡ 0 → ⊥) → Cut doc at b r
+  read-token z =
+      let t = cut-token doc at b v (g .right v) (r .kind) (r .len) right z in
+      record {
+        tokens = t .0;
+        valid = t .1;
+        clear =
+            subst (λ (x : Text). Clear x (r .clear)) (drop-drop (r .len) (at + b) doc)
+            (m .ahead (blanks-valid doc at b v (g .right v)) (blanks-clear doc at b v (g .right v) clear c));
+      }
+
+  pub read-nothing : at + b < length doc → r .kind ≡ 0 → rest doc at ≡ unreadable (at + b) ∷ []
+  read-nothing h z = cut-none doc at b v (g .right v) (r .kind) (r .len) right h z
+
+  pub read-end : length doc ≤ at + b → rest doc at ≡ []
+  read-end h = cut-end doc at b v (g .right v) h
