@@ -1,9 +1,9 @@
 -- The run of the automaton from the beginning gives the token at the front; nothing comes after a dead end.
 use mathlib.Core.Path.{_≡_, refl, subst, sym, ap, _∙_}
 use mathlib.Core.Logic.{_⊎_, inl, inr, ⊎-elim}
-use mathlib.Core.Bool.{Bool, true, false, _&&_}
+use mathlib.Core.Bool.{Bool, true, false}
 use mathlib.Core.List.{List, [], _∷_, _++_}
-use Prim.Native.Nat.{ℕ, zero, suc, _+_, _≤_, _<_}
+use Prim.Native.Nat.{ℕ, _+_, _≤_, _<_}
 use native.Mathlib.Omega.{arith}
 use native.Mathlib.Nat.{add-zero, zero-add, add-assoc}
 use borrow.Author.Tests.{lt-ltb, ne-eqb}
@@ -11,10 +11,10 @@ use lib.Dec.{eqb}
 use lib.ListN.{length, getD, drop, length-append, length-drop}
 use Rattle.text.specs.Text.{Text, cond}
 use Rattle.utf8.specs.Utf8.{encode, encodes, width}
-use Rattle.utf8.specs.Scalar.{Scalars, Encodes}
+use Rattle.utf8.specs.Scalar.{Encodes}
 use Rattle.utf8.proofs.Tests.{by, split, and-false}
 use Rattle.utf8.proofs.Encoding.{head, length-encode, width-pos}
-use Rattle.token.specs.Regular.{Item, item, Match, nothing, hit, nullable, step, least-of, now-at, later, best}
+use Rattle.token.specs.Regular.{item, Match, nothing, hit, nullable, step, least-of, now-at, later, best}
 use Rattle.token.specs.Terminals.{terminals, long-terminals, tripled, token-at}
 use Rattle.automaton.specs.States.{State}
 use Rattle.automaton.specs.Run.{tok, answer, seen-kind, seen-len, run, Rest}
@@ -63,7 +63,7 @@ over-answer (hit k n) = ap (tok k) (zero-add n)
 abbrev pub start-of : Text → State
 start-of s = cond (tripled s) long-terminals terminals
 
-start-nothing : (b : Bool) → now-at (cond b long-terminals terminals) ≡ nothing
+pub start-nothing : (b : Bool) → now-at (cond b long-terminals terminals) ≡ nothing
 start-nothing true = refl
 start-nothing false = refl
 

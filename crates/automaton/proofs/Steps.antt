@@ -2,21 +2,21 @@
 -- That all bytes that pass a test lead from one state to another is computed.
 use mathlib.Core.Path.{_≡_, refl, subst, sym, ap, _∙_}
 use mathlib.Core.Logic.{_⊎_, inl, inr, ⊎-elim}
-use mathlib.Core.Bool.{Bool, true, false, not, _&&_, _||_}
+use mathlib.Core.Bool.{Bool, true, false, not, _&&_}
 use mathlib.Core.List.{List, [], _∷_, _++_}
 use Prim.Native.Nat.{ℕ, zero, suc, _+_, _≤_, _<_}
 use native.Mathlib.Omega.{arith}
 use native.Mathlib.Nat.{add-zero}
-use borrow.Author.Tests.{lt-ltb, eqb-true, ne-eqb}
+use borrow.Author.Tests.{lt-ltb, ne-eqb}
 use lib.Dec.{T, eqb}
 use lib.ListN.{length, getD, drop, length-append, length-drop}
 use lib.Seq.{drop-at, drop-drop, getD-drop}
 use Rattle.text.specs.Text.{Text, cond}
 use Rattle.utf8.specs.Utf8.{encode, encodes, width}
-use Rattle.utf8.specs.Scalar.{Scalar, Scalars, Encodes, Highs}
+use Rattle.utf8.specs.Scalar.{Scalar, Scalars, Highs}
 use Rattle.utf8.proofs.Tests.{by, split, below, below-at, and-true, and-left, and-right}
 use Rattle.utf8.proofs.Encoding.{head, length-encode, width-pos, highs-encode}
-use Rattle.token.specs.Regular.{Item, Match, nothing, hit, step, now-at}
+use Rattle.token.specs.Regular.{Match, nothing, hit, step, now-at}
 use Rattle.token.specs.Terminals.{terminals, long-terminals, tripled, token-at}
 use Rattle.automaton.specs.States.{State, ending, start, long-start, dead}
 use Rattle.automaton.specs.Levels.{Interval, interval, intervals, find, level-in, level}

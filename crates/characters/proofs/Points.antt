@@ -2,19 +2,19 @@
 use mathlib.Core.Path.{_≡_, refl, subst, sym, ap, _∙_}
 use mathlib.Core.Logic.{_⊎_, inl, inr, ⊎-elim}
 use mathlib.Core.Bool.{Bool, true, false, not, _||_}
-use mathlib.Core.List.{List, [], _∷_, _++_}
+use mathlib.Core.List.{List, [], _++_}
 use Prim.Native.Nat.{ℕ, zero, suc, _+_, _-_, _≤_, _<_}
 use native.Mathlib.Omega.{arith}
 use native.Mathlib.Nat.{add-zero}
 use borrow.Author.Tests.{lt-ltb, le-ltb, le-leb, lt-leb}
-use lib.Dec.{T, ltb, leb}
-use lib.ListN.{length, getD, take, drop, length-append, length-drop}
-use lib.Seq.{getD-drop, take-all, take-at}
+use lib.Dec.{leb}
+use lib.ListN.{length, getD, take, drop, length-drop}
+use lib.Seq.{getD-drop, take-at}
 use Rattle.text.specs.Text.{Text, cond}
 use Rattle.utf8.specs.Utf8.{Range, sequence-size, code-point, encode, encodes, width}
 use Rattle.utf8.specs.Scalar.{Scalar}
-use Rattle.utf8.proofs.Tests.{by, split}
-use Rattle.utf8.proofs.Encoding.{head, length-encode, width-pos, size-encode, size-reads, Reads}
+use Rattle.utf8.proofs.Tests.{split}
+use Rattle.utf8.proofs.Encoding.{head, length-encode, width-pos, size-encode, size-reads}
 use Rattle.utf8.proofs.Decoding.{tail-eq, size-within, code-encode}
 use Rattle.token.specs.Regular.{in-ranges, step}
 use Rattle.automaton.specs.States.{State, ending, dead}

@@ -1,9 +1,9 @@
 -- Sets of bytes: a test that is made by comparisons has a value on a range, or on some bytes, that is computed; and what is of a set is below 128.
 use mathlib.Core.Path.{_≡_, refl, subst, sym, ap, _∙_}
-use mathlib.Core.Logic.{_⊎_, inl, inr, ⊎-elim}
-use mathlib.Core.Bool.{Bool, true, false, not, _&&_, _||_}
+use mathlib.Core.Logic.{inl, inr, ⊎-elim}
+use mathlib.Core.Bool.{Bool, true, false, _&&_, _||_}
 use mathlib.Core.List.{List, [], _∷_}
-use Prim.Native.Nat.{ℕ, zero, suc, _+_, _-_, _≤_, _<_}
+use Prim.Native.Nat.{ℕ, _+_, _-_, _≤_, _<_}
 use native.Mathlib.Omega.{arith}
 use lib.Dec.{T, ltb, ltb→lt}
 use lib.ListN.{length, getD}
@@ -11,23 +11,13 @@ use types.Run.{OneOf, hit}
 use mir.Val.{hasKey}
 use Rattle.text.specs.Text.{Text, between}
 use Rattle.utf8.specs.Utf8.{Range, _–_}
-use Rattle.utf8.proofs.Tests.{by, below, below-at, and-true, or-true, between-true}
+use Rattle.utf8.proofs.Tests.{by, below, below-at, and-true, or-true, between-true, same, same-eq}
 use Rattle.token.specs.Regular.{in-ranges}
 use Rattle.automaton.specs.States.{State}
 use Rattle.automaton.specs.Run.{At}
 use Rattle.automaton.proofs.Steps.{Sent, pass, gain}
 
 -- ---- The value of a test
-
-abbrev same : Bool → Bool → Bool
-same true b = b
-same false b = not b
-
-same-eq : (a b : Bool) → T (same a b) → a ≡ b
-same-eq true true t = refl
-same-eq true false t = absurd t
-same-eq false true t = absurd t
-same-eq false false t = refl
 
 -- The value is v on the n bytes from lo on, but for those of ks.
 pub ranged : (rs : List Range) (v : Bool) (ks : List ℕ) (lo n : ℕ) → T (below (λ k. hasKey ks (lo + k) || same v (in-ranges (lo + k) rs)) n)

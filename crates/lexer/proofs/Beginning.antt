@@ -1,29 +1,29 @@
 -- The first byte: which routine goes on, and in which state.
 use mathlib.Core.Path.{_≡_, refl, subst, sym, ap, ap₂, _∙_}
-use mathlib.Core.Logic.{_⊎_, inl, inr, ⊎-elim}
+use mathlib.Core.Logic.{_⊎_, inl, inr}
 use mathlib.Core.Bool.{Bool, true, false, not, _&&_, _||_}
 use mathlib.Core.List.{List, [], _∷_}
 use mathlib.Core.Option.{none}
-use Prim.Native.Nat.{ℕ, zero, suc, _+_, _-_, _≤_, _<_}
+use Prim.Native.Nat.{ℕ, _-_, _≤_, _<_}
 use native.Mathlib.Omega.{arith}
 use borrow.Author.Tests.{eq-eqb, ne-eqb, le-leb}
-use lib.Dec.{T, eqb, ltb, leb, ltb→lt}
+use lib.Dec.{T, eqb, ltb, ltb→lt}
 use lib.ListN.{length, getD, drop}
 use Rattle.text.specs.Text.{Text, cond}
-use Rattle.utf8.specs.Utf8.{Range, _–_, decode, first-bad}
+use Rattle.utf8.specs.Utf8.{Range, _–_}
 use Rattle.utf8.proofs.Tests.{by, below, below-at, and-true}
 use Rattle.token.specs.Regular.{in-ranges, step}
 use Rattle.automaton.specs.Levels.{intervals}
-use Rattle.automaton.specs.States.{State, start, dead, after-sign, in-integer, after-dot, after-at, after-underscore, after-colon, after-caret, after-carets, open-states}
+use Rattle.automaton.specs.States.{start, dead, after-sign, in-integer, after-dot, after-at, after-underscore, after-colon, after-caret, after-carets, open-states}
 use Rattle.automaton.specs.Run.{tok, answer, At, TokenAt}
 use Rattle.automaton.specs.declared.Next.{Next}
 use Rattle.automaton.specs.declared.Token.{Token}
 use Rattle.automaton.proofs.Steps.{only, always, never, sends, high-sends, Sent, Ends, begin, pass, gain, done, stop, at-end}
 use Rattle.characters.specs.Bytes.{digit, sign}
 use Rattle.characters.proofs.Sets.{take-pass, take-gain}
-use Rattle.lexer_words.specs.Ahead.{next, Clear, NextAt}
+use Rattle.lexer_words.specs.Ahead.{Clear, NextAt}
 use Rattle.lexer_words.specs.Front.{mark}
-use Rattle.lexer_words.proofs.Clearing.{next-known, next-nothing}
+use Rattle.lexer_words.proofs.Clearing.{next-known}
 use Rattle.lexer.specs.Marks.{mark-code}
 
 -- A mark is a token of its kind, and nothing leads on from it.

@@ -1,20 +1,19 @@
 -- Blanks and comments, byte by byte and code point by code point.
 use mathlib.Core.Path.{_≡_, refl, subst, sym, ap, ap₂, _∙_}
-use mathlib.Core.Logic.{_⊎_, inl, inr, ⊎-elim}
-use mathlib.Core.Bool.{Bool, true, false, not, _&&_, _||_}
+use mathlib.Core.Logic.{⊎-elim}
+use mathlib.Core.Bool.{Bool, true, false, not, _||_}
 use mathlib.Core.List.{List, [], _∷_, _++_}
-use mathlib.Core.Option.{none}
-use Prim.Native.Nat.{ℕ, zero, suc, _+_, _-_, _≤_, _<_}
+use Prim.Native.Nat.{ℕ, suc, _+_, _≤_, _<_}
 use native.Mathlib.Omega.{arith}
 use native.Mathlib.Numerals.{add-one}
 use borrow.Author.Tests.{lt-ltb, ne-eqb, eq-eqb, eqb-true}
-use lib.Dec.{T, eqb}
+use lib.Dec.{T}
 use lib.ListN.{length, getD, drop, drop-of-length-le}
 use lib.Seq.{drop-cons}
 use Rattle.text.specs.Text.{Text, cond, is}
-use Rattle.utf8.specs.Utf8.{encode, encodes, width, decode, first-bad}
-use Rattle.utf8.specs.Scalar.{Highs, Encodes}
-use Rattle.utf8.proofs.Tests.{by, split, below, below-at}
+use Rattle.utf8.specs.Utf8.{encode, encodes, width, decode}
+use Rattle.utf8.specs.Scalar.{Highs}
+use Rattle.utf8.proofs.Tests.{by, split, below, below-at, same, same-eq}
 use Rattle.utf8.proofs.Encoding.{length-encode, width-pos, highs-encode}
 use Rattle.utf8.proofs.Decoding.{valid-encoded}
 use Rattle.token.specs.Regular.{in-ranges}
@@ -58,16 +57,6 @@ skips-encodes false (c ∷ cs) =
     high (b ∷ m) v e = ap (λ (v : Bool). cond v (suc (skips (is "#" b) (m ++ encodes cs))) 0) (high-blank b (v .0))
 
 -- ---- The routines
-
-abbrev same : Bool → Bool → Bool
-same true b = b
-same false b = not b
-
-same-eq : (a b : Bool) → T (same a b) → a ≡ b
-same-eq true true t = refl
-same-eq true false t = absurd t
-same-eq false true t = absurd t
-same-eq false false t = refl
 
 same-sets : T (below (λ b. same (in-ranges b white-spaces) (white-space b)) 256)
 same-sets = tt

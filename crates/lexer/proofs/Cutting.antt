@@ -1,33 +1,36 @@
 -- Cutting a document: after its blanks and a token, what is left is what is left further on.
+use Rattle.automaton.proofs.Runs.{start-nothing}
 use mathlib.Core.Path.{_≡_, refl, subst, sym, ap, ap₂, _∙_}
-use mathlib.Core.Logic.{_⊎_, inl, inr, ⊎-elim}
+use mathlib.Core.Logic.{⊎-elim}
 use mathlib.Core.Bool.{Bool, true, false, not, _||_}
 use mathlib.Core.List.{List, [], _∷_, _++_}
 use mathlib.Core.Option.{none}
 use Prim.Native.Nat.{ℕ, zero, suc, _+_, _-_, _≤_, _<_}
 use native.Mathlib.Omega.{arith}
 use native.Mathlib.Nat.{add-zero, add-assoc}
-use borrow.Author.Tests.{lt-ltb, eqb-true}
-use lib.Dec.{T, eqb, ltb, ltb→lt}
+use borrow.Author.Tests.{lt-ltb}
+use lib.Dec.{T, ltb}
 use lib.ListN.{length, take, drop, length-drop, drop-of-length-le}
 use lib.Seq.{drop-at, drop-drop}
 use Rattle.text.specs.Text.{Text, cond, is}
-use Rattle.utf8.specs.Utf8.{encode, encodes, width, decode, first-bad}
+use Rattle.utf8.specs.Utf8.{encodes, width, decode, first-bad}
 use Rattle.utf8.specs.Scalar.{Scalars, Encodes}
 use Rattle.utf8.proofs.Tests.{by, split}
 use Rattle.utf8.proofs.Encoding.{width-pos}
 use Rattle.utf8.proofs.Decoding.{valid-encoded, encoded-valid, encodes-append, scalars-right}
 use Rattle.token.specs.Kind.{kind-of-code}
-use Rattle.token.specs.Regular.{Item, Match, nothing, hit, Hit, Longest, step, now-at, later, best, size}
+use Rattle.token.specs.Regular.{Item, Match, nothing, hit, Longest, step, later, best, size}
 use Rattle.token.specs.Terminals.{terminals, long-terminals, tripled, terminals-at, token-at}
-use Rattle.token.specs.Tokens.{Lexeme, token, unreadable, Cutting, between, comment, inside, white-space, line-end, in-comment, passed, lexemes-from}
+use Rattle.token.specs.Tokens.{Lexeme, token, unreadable, Cutting, between, comment, white-space, line-end, passed, lexemes-from}
 use Rattle.token.proofs.Longest.{best-longest}
 use Rattle.automaton.specs.Run.{tok, answer}
 use Rattle.automaton.specs.declared.Token.{Token}
-use Rattle.lexer_words.specs.Ahead.{Clear}
-use Rattle.lexer_words.proofs.Clearing.{length-encodes, clear-drop}
+use Rattle.automaton.specs.declared.Next.{Next}
+use Rattle.lexer_words.specs.Ahead.{Clear, NextAt}
+use Rattle.token.proofs.Sizes.{length-encodes}
+use Rattle.lexer_words.proofs.Clearing.{clear-drop}
 use Rattle.lexer_words.proofs.Muting.{Passes, best-passes}
-use Rattle.lexer.specs.Blanks.{blanks, after-blanks}
+use Rattle.lexer.specs.Blanks.{blanks, after-blanks, BlanksAt}
 use Rattle.lexer.specs.Rest.{rest}
 use Rattle.lexer.proofs.Blanking.{high-blank}
 
@@ -65,7 +68,7 @@ parted false (c ∷ cs) =
     record {
       front = c ∷ r .front;
       whole = rw e (ap (λ (x : List ℕ). c ∷ x) (r .whole));
-      sized = rw e (let o : suc (blanks (is "#" c) cs) ≡ width c + size width (r .front) = omega arith in o)
+      sized = rw e (let o : suc (blanks (is "#" c) cs) ≡ width c + size width (r .front) = omega arith in o);
     })
     (λ e. record { front = []; whole = rw e; sized = rw e })
 
@@ -82,7 +85,7 @@ module _ (doc : Text) (at c : ℕ) (cs : List ℕ) where
 
     cut-hit : (k n : ℕ) → token-at (c ∷ cs) ≡ hit k n
         → lexemes-from doc between at (c ∷ cs)
-          ≡ token (record { kind = kind-of-code k; start = at; text = take n (drop at doc) }) ∷ lexemes-from doc (passed (n - width c)) (at + width c) cs
+        ≡ token (record { kind = kind-of-code k; start = at; text = take n (drop at doc) }) ∷ lexemes-from doc (passed (n - width c)) (at + width c) cs
     unfolding lexemes-from
     cut-hit k n f = rw (e, f, lexemes-from)
 
@@ -114,6 +117,7 @@ lexemes-blanks doc false (c ∷ cs) at = go (lexemes-blanks doc (is "#" c) cs (a
     same-place : (v : Bool) → cond v comment between ≡ place v
     same-place true = refl
     same-place false = refl
+
     go : lexemes-from doc (place (is "#" c)) (at + 1) cs ≡ lexemes-from doc between (at + 1 + blanks (is "#" c) cs) (after-blanks (is "#" c) cs)
         → lexemes-from doc between at (c ∷ cs) ≡ lexemes-from doc between (at + blanks false (c ∷ cs)) (after-blanks false (c ∷ cs))
     go ih =
@@ -158,10 +162,6 @@ record Taken (c : ℕ) (cs : List ℕ) (k n : ℕ) : Type 0 where
   back : List ℕ
   whole : cs ≡ front ++ back
   bytes : n ≡ width c + size width front
-
-start-nothing : (v : Bool) → now-at (cond v long-terminals terminals) ≡ nothing
-start-nothing true = refl
-start-nothing false = refl
 
 taken : (c : ℕ) (cs : List ℕ) (k n : ℕ) → token-at (c ∷ cs) ≡ hit k n → Taken c cs k n
 unfolding token-at
@@ -208,28 +208,29 @@ module _ (doc : Text) (at b : ℕ) (v : first-bad (drop at doc) ≡ none) (e : b
       record {
         scalars = scalars-right (p .front) (after-blanks false text) (subst Scalars (p .whole) (g .scalars));
         bytes =
-          sym (drop-drop b at doc) ∙ ap (drop b) (g .bytes ∙ ap encodes (p .whole) ∙ encodes-append (p .front) (after-blanks false text))
-          ∙ drop-at (encodes (p .front)) (encodes (after-blanks false text)) b (length-encodes (p .front) ∙ sym (e ∙ p .sized))
+            sym (drop-drop b at doc) ∙ ap (drop b) (g .bytes ∙ ap encodes (p .whole) ∙ encodes-append (p .front) (after-blanks false text))
+            ∙ drop-at (encodes (p .front)) (encodes (after-blanks false text)) b (length-encodes (p .front) ∙ sym (e ∙ p .sized));
       }
 
-  pub blanks-valid : first-bad (drop (at + b) doc) ≡ none
+  blanks-valid : first-bad (drop (at + b) doc) ≡ none
   blanks-valid = encoded-valid (drop (at + b) doc) (after-blanks false text) left .0
 
   blanks-text : decode (drop (at + b) doc) ≡ after-blanks false text
   blanks-text = encoded-valid (drop (at + b) doc) (after-blanks false text) left .1
 
   -- Blanks change nothing of what is known ahead.
-  pub blanks-clear : (n : ℕ) → Clear (drop at doc) n → Clear (drop b (drop at doc)) (n - b)
+  blanks-clear : (n : ℕ) → Clear (drop at doc) n → Clear (drop (at + b) doc) (n - b)
   blanks-clear n c =
       let p = parted false text in
-      clear-drop (drop at doc) n b (p .front) (after-blanks false text) v c (p .whole) (e ∙ p .sized) (ap decode (drop-drop b at doc) ∙ blanks-text)
+      subst (λ (x : Text). Clear x (n - b)) (drop-drop b at doc)
+      (clear-drop (drop at doc) n b (p .front) (after-blanks false text) v c (p .whole) (e ∙ p .sized) (ap decode (drop-drop b at doc) ∙ blanks-text))
 
   rest-blanks : rest doc at ≡ lexemes-from doc between (at + b) (after-blanks false text)
   unfolding rest
   rest-blanks = lexemes-blanks doc false text at ∙ ap (λ (n : ℕ). lexemes-from doc between (at + n) (after-blanks false text)) (sym e)
 
   -- At the end of the document.
-  pub cut-end : length doc ≤ at + b → rest doc at ≡ []
+  cut-end : length doc ≤ at + b → rest doc at ≡ []
   unfolding lexemes-from encodes
   cut-end h = rest-blanks ∙ fin (after-blanks false text) (sym (left .bytes) ∙ drop-of-length-le doc {i = at + b} h)
     where
@@ -246,7 +247,7 @@ module _ (doc : Text) (at b : ℕ) (v : first-bad (drop at doc) ≡ none) (e : b
     what = f ∙ ap (λ (x : List ℕ). answer (token-at x)) blanks-text
 
     -- No token can be read.
-    pub cut-none : at + b < length doc → k ≡ 0 → rest doc at ≡ unreadable (at + b) ∷ []
+    cut-none : at + b < length doc → k ≡ 0 → rest doc at ≡ unreadable (at + b) ∷ []
     unfolding encodes
     cut-none h z = rest-blanks ∙ fin (after-blanks false text) refl what
       where
@@ -272,30 +273,60 @@ module _ (doc : Text) (at b : ℕ) (v : first-bad (drop at doc) ≡ none) (e : b
         let t = taken c cs k n u in
         let o = t .bytes in
         let d : drop (at + b + n) doc ≡ encodes (t .back) =
-                sym (drop-drop n (at + b) doc)
-                ∙ ap (drop n) (left .bytes ∙ ap encodes (g ∙ ap (λ (x : List ℕ). c ∷ x) (t .whole)) ∙ encodes-append (c ∷ t .front) (t .back))
-                ∙ drop-at (encodes (c ∷ t .front)) (encodes (t .back)) n (length-encodes (c ∷ t .front) ∙ sym o) in
+        sym (drop-drop n (at + b) doc)
+        ∙ ap (drop n) (left .bytes ∙ ap encodes (g ∙ ap (λ (x : List ℕ). c ∷ x) (t .whole)) ∙ encodes-append (c ∷ t .front) (t .back))
+        ∙ drop-at (encodes (c ∷ t .front)) (encodes (t .back)) n (length-encodes (c ∷ t .front) ∙ sym o) in
         let sc : Scalars (t .back) = scalars-right (c ∷ t .front) (t .back) (subst Scalars (g ∙ ap (λ (x : List ℕ). c ∷ x) (t .whole)) (left .scalars)) in
         let q = encoded-valid (drop (at + b + n) doc) (t .back) (record { scalars = sc; bytes = d }) in
         let z : at + b + width c + (n - width c) ≡ at + b + n = omega arith in
         let l : lexemes-from doc (passed (n - width c)) (at + b + width c) cs ≡ lexemes-from doc between (at + b + n) (decode (drop (at + b + n) doc)) =
-                ap (lexemes-from doc (passed (n - width c)) (at + b + width c)) (t .whole)
-                ∙ lexemes-inside doc (t .front) (t .back) (at + b + width c) (n - width c) (omega arith)
-                ∙ ap₂ (λ (i : ℕ) (x : List ℕ). lexemes-from doc between i x) z (sym (q .1)) in
-        (
+        ap (lexemes-from doc (passed (n - width c)) (at + b + width c)) (t .whole)
+        ∙ lexemes-inside doc (t .front) (t .back) (at + b + width c) (n - width c) (omega arith)
+        ∙ ap₂ (λ (i : ℕ) (x : List ℕ). lexemes-from doc between i x) z (sym (q .1)) in (
           rest-blanks ∙ ap (lexemes-from doc between (at + b)) g ∙ cut-hit doc (at + b) c cs (no-blank false text c cs g) k n u
-          ∙ ap (λ (x : List Lexeme). token (record { kind = kind-of-code k; start = at + b; text = take n (drop (at + b) doc) }) ∷ x) l,
+              ∙ ap (λ (x : List Lexeme). token (record { kind = kind-of-code k; start = at + b; text = take n (drop (at + b) doc) }) ∷ x) l,
           q .0,
         )
 
-    pub cut-token : (k ≡ 0 → ⊥) → CutToken
+    cut-token : (k ≡ 0 → ⊥) → CutToken
     cut-token z = fin (after-blanks false text) refl what
       where
         go : (cs : List ℕ) (m : Match) → token-at cs ≡ m → tok k n ≡ answer m → token-at cs ≡ hit k n
         go cs nothing u w = absurd (z (ap (λ (t : Token). t .kind) w))
         go cs (hit j x) u w = u ∙ ap₂ hit (ap (λ (t : Token). t .kind) (sym w)) (ap (λ (t : Token). t .len) (sym w))
+
         none-empty : token-at [] ≡ hit k n → ⊥
         none-empty u = empty-none k n u
+
         fin : (cs : List ℕ) → after-blanks false text ≡ cs → tok k n ≡ answer (token-at cs) → CutToken
         fin [] g w = absurd (none-empty (go [] (token-at []) refl w))
         fin (c ∷ cs) g w = cut-some c cs g (go (c ∷ cs) (token-at (c ∷ cs)) refl w)
+
+-- ---- What a reader does at a place: the blanks, and the token after them
+
+-- A token was read: it is the first of the tokens left, and what follows it may be read in the same way.
+pub record Cut (doc : Text) (at b : ℕ) (r : Next) : Type 0 where
+  pub tokens : rest doc at ≡ token (record { kind = kind-of-code (r .kind); start = at + b; text = take (r .len) (drop (at + b) doc) }) ∷ rest doc (at + b + r .len)
+  pub valid : first-bad (drop (at + b + r .len) doc) ≡ none
+  pub clear : Clear (drop (at + b + r .len) doc) (r .clear)
+
+module _ (doc : Text) (at b clear : ℕ) (r : Next) (v : first-bad (drop at doc) ≡ none) (c : Clear (drop at doc) clear) (g : BlanksAt (drop at doc) b) (m : NextAt (drop (at + b) doc) (clear - b) r) where
+  right : tok (r .kind) (r .len) ≡ answer (token-at (decode (drop (at + b) doc)))
+  right = m .right (blanks-valid doc at b v (g .right v)) (blanks-clear doc at b v (g .right v) clear c)
+
+  pub read-token : (r .kind ≡ 0 → ⊥) → Cut doc at b r
+  read-token z =
+      let t = cut-token doc at b v (g .right v) (r .kind) (r .len) right z in
+      record {
+        tokens = t .0;
+        valid = t .1;
+        clear =
+            subst (λ (x : Text). Clear x (r .clear)) (drop-drop (r .len) (at + b) doc)
+            (m .ahead (blanks-valid doc at b v (g .right v)) (blanks-clear doc at b v (g .right v) clear c));
+      }
+
+  pub read-nothing : at + b < length doc → r .kind ≡ 0 → rest doc at ≡ unreadable (at + b) ∷ []
+  read-nothing h z = cut-none doc at b v (g .right v) (r .kind) (r .len) right h z
+
+  pub read-end : length doc ≤ at + b → rest doc at ≡ []
+  read-end h = cut-end doc at b v (g .right v) h

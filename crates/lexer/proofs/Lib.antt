@@ -1,5 +1,4 @@
 -- Blanks, the first byte of a token, and cutting a document.
 pub mod Blanking
 pub mod Beginning
-
 pub mod Cutting

@@ -1,17 +1,17 @@
 -- IRIREF: within it, after a backslash, and after its end.
-use mathlib.Core.Path.{_≡_, refl, sym, ap, _∙_}
-use mathlib.Core.Bool.{Bool, true, false, not, _&&_, _||_}
+use mathlib.Core.Path.{_≡_, refl, ap, _∙_}
+use mathlib.Core.Bool.{Bool, true, false, not, _||_}
 use Prim.Native.Nat.{ℕ, _+_, _≤_, _<_}
 use native.Mathlib.Omega.{arith}
 use borrow.Author.Tests.{eq-eqb, ne-eqb}
-use lib.Dec.{T, eqb}
+use lib.Dec.{eqb}
 use lib.ListN.{length, getD, drop}
 use Rattle.text.specs.Text.{Text}
 use Rattle.token.specs.Regular.{in-ranges}
 use Rattle.automaton.specs.Levels.{intervals}
 use Rattle.automaton.specs.States.{start, in-iri, in-iri-escape, after-iri, dead, open-states}
 use Rattle.automaton.specs.Run.{tok, At, In, TokenAt}
-use Rattle.automaton.proofs.Steps.{only, never, sends, high-sends, Sent, HighSent, HighMoves, Ends, begin, pass, gain, fail, stop, at-in, in-at, in-end, over}
+use Rattle.automaton.proofs.Steps.{only, never, sends, high-sends, Sent, HighMoves, Ends, begin, pass, gain, fail, stop, at-in, in-at, in-end, over}
 use Rattle.characters.specs.Bytes.{iri}
 use Rattle.characters.proofs.Sets.{take-pass}
 use Rattle.lexer_quoted.specs.Escapes.{uchar-size}

@@ -1,8 +1,8 @@
 -- Strings, short and long, for either quote.
-use mathlib.Core.Path.{_≡_, refl, subst, sym, ap, _∙_}
+use mathlib.Core.Path.{_≡_, refl, subst, sym, _∙_}
 use mathlib.Core.Logic.{_⊎_, inl, inr, ⊎-elim}
-use mathlib.Core.Bool.{Bool, true, false, not, _&&_, _||_}
-use mathlib.Core.List.{List, [], _∷_}
+use mathlib.Core.Bool.{Bool, true, false, not, _&&_}
+use mathlib.Core.List.{[], _∷_}
 use Prim.Native.Nat.{ℕ, zero, suc, _+_, _≤_, _<_}
 use native.Mathlib.Omega.{arith}
 use borrow.Author.Tests.{eq-eqb, ne-eqb}
@@ -256,15 +256,6 @@ module _ (s : Text) (q kind : ℕ) (long : Long q kind) where
       at-in (pass a2 (omega arith) (omega arith) (eq-eqb _ _ e2) (L .open3))
 
   module _ (i run : ℕ) (g : LongAt s q i run) where
-    pub long-within : i ≤ length s
-    long-within = fin run g
-      where
-        fin : (run : ℕ) → LongAt s q i run → i ≤ length s
-        fin zero g = g .within
-        fin (suc zero) g = g .within
-        fin (suc (suc zero)) g = g .within
-        fin (suc (suc (suc n))) g = absurd g
-
     pub long-end : length s ≤ i → TokenAt s (tok 0 0)
     long-end h = fin run g
       where

@@ -1,5 +1,5 @@
 -- The lengths of escapes, after their backslash.
-use mathlib.Core.List.{List, [], _∷_}
+use mathlib.Core.List.{[], _∷_}
 use Prim.Native.Nat.{ℕ}
 use lib.Dec.{eqb}
 use Rattle.text.specs.Text.{Text, cond}

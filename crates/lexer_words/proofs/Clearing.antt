@@ -1,27 +1,28 @@
 -- Where no prefixed name begins: after a run that ends at no colon, and after a token.
+use Rattle.token.proofs.Sizes.{length-encodes, size-append}
 use mathlib.Core.Path.{_≡_, refl, subst, sym, ap, ap₂, _∙_}
-use mathlib.Core.Logic.{_⊎_, inl, inr, ⊎-elim}
-use mathlib.Core.Bool.{Bool, true, false, not, _||_}
+use mathlib.Core.Logic.{⊎-elim}
+use mathlib.Core.Bool.{Bool, true, false, _||_}
 use mathlib.Core.List.{List, [], _∷_, _++_, append-assoc}
 use mathlib.Core.Option.{none}
 use Prim.Native.Nat.{ℕ, zero, suc, _+_, _-_, _≤_, _<_}
 use native.Mathlib.Omega.{arith}
 use borrow.Author.Tests.{eq-eqb, ne-eqb, eqb-true, lt-ltb, le-ltb}
-use lib.Dec.{T, eqb, eqb→eq}
+use lib.Dec.{T, eqb}
 use lib.ListN.{length, getD, drop, length-append, length-drop}
 use lib.Seq.{drop-at}
-use Rattle.text.specs.Text.{Text, cond}
+use Rattle.text.specs.Text.{Text}
 use Rattle.utf8.specs.Utf8.{encode, encodes, width, decode, first-bad}
 use Rattle.utf8.specs.Scalar.{Scalar, Scalars, Encodes}
-use Rattle.utf8.proofs.Tests.{by, split}
+use Rattle.utf8.proofs.Tests.{by}
 use Rattle.utf8.proofs.Encoding.{length-encode, width-pos}
 use Rattle.utf8.proofs.Decoding.{valid-encoded, encoded-valid, encodes-append, scalars-right}
 use Rattle.token.specs.Regular.{Item, Match, nothing, hit, Hit, Longest, step, now-at, best, size}
 use Rattle.token.specs.Terminals.{terminals, long-terminals, tripled, terminals-at, token-at}
 use Rattle.token.proofs.Longest.{token-longest}
 use Rattle.automaton.specs.Levels.{intervals}
-use Rattle.automaton.specs.States.{State, dead, in-prefix, prefix-dot, after-colon, open-states}
-use Rattle.automaton.specs.Run.{tok, answer, run, Rest, At, TokenAt}
+use Rattle.automaton.specs.States.{State, in-prefix, prefix-dot, after-colon, open-states}
+use Rattle.automaton.specs.Run.{tok, answer, run, At, TokenAt}
 use Rattle.automaton.specs.declared.Next.{Next}
 use Rattle.automaton.specs.declared.Token.{Token}
 use Rattle.automaton.proofs.Steps.{only, never, sends, high-sends, mimics, Sent, Alias, alias-step, sent-kind, by-nothing, gain}
@@ -30,7 +31,7 @@ use Rattle.characters.specs.Names.{base, passes}
 use Rattle.characters.proofs.Points.{first, CharSent, CharEnds, point-to, point-dead}
 use Rattle.lexer_words.specs.Agree.{end-at}
 use Rattle.lexer_words.specs.Ahead.{prefixed, nameless, colon-first, Clear, next, NextAt, settled}
-use Rattle.lexer_words.specs.Runs.{in-run, All-run, Scan, RunAt}
+use Rattle.lexer_words.specs.Runs.{in-run, All-run, RunAt}
 use Rattle.lexer_words.proofs.Muting.{kinds-pass, run-passes, only-kinds, Fails, Mute, mute-fails, mute-dead}
 use Rattle.lexer_words.proofs.Running.{last-dot, dot-before, scan-last, Pair, state, stop-dead, run-over, mute-run}
 
@@ -227,15 +228,6 @@ module _ (s : Text) (at i : ℕ) (g : RunAt s at i) where
 pub clear-none : (s : Text) → Clear s 0
 clear-none s = record { free = λ v ds es e h. absurd (omega arith) }
 
-pub length-encodes : (cs : List ℕ) → length (encodes cs) ≡ size width cs
-unfolding encodes
-length-encodes [] = refl
-length-encodes (c ∷ cs) = length-append (encode c) (encodes cs) ∙ ap₂ _+_ (length-encode c) (length-encodes cs)
-
-pub size-append : (xs ys : List ℕ) → size width (xs ++ ys) ≡ size width xs + size width ys
-size-append [] ys = omega arith
-size-append (x ∷ xs) ys = let r = size-append xs ys in omega arith
-
 -- What follows a token is the UTF-8 of the code points that follow it.
 pub token-left : (s : Text) (cs : List ℕ) (S : List Item) (k n : ℕ) → Encodes s cs → (h : Hit width S cs k n) → Encodes (drop n s) (h .back)
 token-left s cs S k n e h = record {
@@ -361,9 +353,6 @@ module _ (s : Text) (at kind clear : ℕ) (a : At s in-prefix at kind (end-at ki
           (f
           (⊎-elim (λ x. x .1 ∙ z) (λ x. let y = x .0 in absurd (omega arith)) (first s 0 c (encodes cs) e))))
           (λ p. rw p at t)
-
-  within-known : end-at kind at ≤ length s
-  within-known = let x = a .last in let y = a .within in omega arith
 
   pub known-nothing : kind ≡ 0 → NextAt s clear (next 0 0 0)
   known-nothing z = record {

@@ -1,27 +1,26 @@
 -- The first letters of a word: a keyword, or a name that begins as it does.
 use mathlib.Core.Path.{_≡_, refl, subst, sym, ap, _∙_}
 use mathlib.Core.Logic.{_⊎_, inl, inr, ⊎-elim}
-use mathlib.Core.Bool.{Bool, true, false, not, _&&_, _||_}
-use mathlib.Core.List.{List, [], _∷_, _++_}
-use Prim.Native.Nat.{ℕ, zero, suc, _+_, _≤_, _<_}
+use mathlib.Core.Bool.{Bool, true, false, _&&_, _||_}
+use mathlib.Core.List.{List, [], _∷_}
+use Prim.Native.Nat.{ℕ, zero, suc, _<_}
 use native.Mathlib.Omega.{arith}
 use native.Mathlib.Nat.{zero-add}
-use borrow.Author.Tests.{eq-eqb, ne-eqb, lt-ltb, le-ltb}
-use lib.Dec.{T, eqb, ltb, leb}
+use borrow.Author.Tests.{eq-eqb, lt-ltb, le-ltb}
+use lib.Dec.{T, eqb}
 use lib.ListN.{length, getD, drop}
 use Rattle.text.specs.Text.{Text, ascii, cond}
-use Rattle.utf8.specs.Utf8.{Range, _–_, encode, width}
-use Rattle.utf8.specs.Scalar.{Scalar}
-use Rattle.utf8.proofs.Tests.{by, below, below-at}
+use Rattle.utf8.specs.Utf8.{Range, _–_, width}
+use Rattle.utf8.proofs.Tests.{by, below, below-at, same, same-eq}
 use Rattle.token.specs.Regular.{in-ranges, step}
-use Rattle.automaton.specs.Levels.{intervals, level}
-use Rattle.automaton.specs.States.{State, start, first-letter, in-prefix, open-states}
+use Rattle.automaton.specs.Levels.{intervals}
+use Rattle.automaton.specs.States.{start, first-letter, in-prefix, open-states}
 use Rattle.automaton.specs.Run.{tok, At, TokenAt}
 use Rattle.automaton.proofs.Steps.{only, never, sends, high-sends, mimics, Sent, Alias, begin, gain, as-other}
 use Rattle.characters.specs.Bytes.{letter}
 use Rattle.characters.specs.Names.{base, passes, CharAt}
 use Rattle.characters.proofs.Points.{first, CharSent, CharEnds, char-on, char-off}
-use Rattle.lexer_words.specs.Agree.{agreeing, end-at, Word, WordAt}
+use Rattle.lexer_words.specs.Agree.{agreeing, end-at, Word}
 use Rattle.lexer_words.specs.Front.{mark}
 use Rattle.lexer_words.proofs.Agreeing.{one-of, narrow, spells, word-first}
 
@@ -38,16 +37,6 @@ leads [] up k = false
 leads (x ∷ low) [] k = false
 leads (x ∷ low) (y ∷ up) k = narrow x y && sends start (one-of x y) (step x start) 0 && spells (step x start) low up in-prefix k 0
 
-abbrev same-bool : Bool → Bool → Bool
-same-bool true b = b
-same-bool false b = not b
-
-same-eq : (a b : Bool) → T (same-bool a b) → a ≡ b
-same-eq true true t = refl
-same-eq true false t = absurd t
-same-eq false true t = absurd t
-same-eq false false t = refl
-
 record Moves : Type 0 where
   a : Sent start (only 97) (step 97 start) 13
   a-like : Alias (step 97 start) in-prefix never
@@ -59,7 +48,7 @@ record Moves : Type 0 where
   other : CharSent start other-letter base first-letter 0
   other-like : Alias first-letter in-prefix never
   none : CharEnds start letter base (λ b. in-ranges b mark)
-  letters : T (below (λ b. in-ranges b key-letter || same-bool (in-ranges b letter) (in-ranges b other-letter)) 128)
+  letters : T (below (λ b. in-ranges b key-letter || same (in-ranges b letter) (in-ranges b other-letter)) 128)
 
 moves : Moves
 unfolding open-states sends high-sends mimics intervals
@@ -144,8 +133,8 @@ module _ (s : Text) (h : 0 < length s) where
             let a : passes letter base d ≡ passes other-letter base d =
             ⊎-elim
             (λ v.
-            let w : T (in-ranges d key-letter || same-bool (in-ranges d letter) (in-ranges d other-letter)) =
-            below-at (λ b. in-ranges b key-letter || same-bool (in-ranges b letter) (in-ranges b other-letter)) 128 (moves .letters) d (v .0) in
+            let w : T (in-ranges d key-letter || same (in-ranges d letter) (in-ranges d other-letter)) =
+            below-at (λ b. in-ranges b key-letter || same (in-ranges b letter) (in-ranges b other-letter)) 128 (moves .letters) d (v .0) in
             let k′ : in-ranges d key-letter ≡ false = ap (λ (b : ℕ). in-ranges b key-letter) (sym (v .1)) ∙ k in
             rw (lt-ltb d 128 (v .0)) (same-eq (in-ranges d letter) (in-ranges d other-letter) (rw k′ at w)))
             (λ v. rw (le-ltb d 128 (v .0)))

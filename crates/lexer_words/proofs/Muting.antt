@@ -1,15 +1,15 @@
 -- Kinds of token among the items of a state: what no item of a kind can end, no token of that kind ends.
-use mathlib.Core.Path.{_≡_, refl, subst, sym, ap, ap₂, _∙_}
+use mathlib.Core.Path.{_≡_, refl, subst, sym, ap, _∙_}
 use mathlib.Core.Logic.{_⊎_, inl, inr, ⊎-elim}
-use mathlib.Core.Bool.{Bool, true, false, not, _&&_}
+use mathlib.Core.Bool.{Bool, true, false, _&&_}
 use mathlib.Core.List.{List, [], _∷_, _++_}
-use Prim.Native.Nat.{ℕ, _+_, _≤_, min}
+use Prim.Native.Nat.{ℕ, _+_, min}
 use native.Mathlib.Omega.{arith}
 use lib.Dec.{T}
 use Rattle.text.specs.Text.{cond}
 use Rattle.utf8.specs.Utf8.{width}
-use Rattle.utf8.proofs.Tests.{by, split, and-true}
-use Rattle.token.specs.Regular.{Re, Item, item, Match, nothing, hit, nullable, after, of-kind, step, least-of, now-at, later, best}
+use Rattle.utf8.proofs.Tests.{by, split}
+use Rattle.token.specs.Regular.{Re, item, Match, nothing, hit, nullable, after, of-kind, step, least-of, now-at, later, best}
 use Rattle.automaton.specs.States.{State}
 use Rattle.automaton.specs.Run.{tok, seen-kind, seen-len, run}
 

@@ -1,5 +1,6 @@
 -- Numbers: after a sign, within an integer, after its dot, within a fraction, after e, after the sign of an exponent, within an exponent.
-use mathlib.Core.Path.{_≡_, refl, subst, sym, ap, _∙_}
+use Rattle.utf8.proofs.Tests.{nor}
+use mathlib.Core.Path.{_≡_, subst, sym, _∙_}
 use mathlib.Core.Bool.{Bool, true, false, _||_}
 use Prim.Native.Nat.{ℕ, _+_, _≤_, _<_}
 use native.Mathlib.Omega.{arith}
@@ -86,9 +87,6 @@ leads : {s : Text} {q q2 : State} {i kind len k : ℕ} → At s q i kind len →
     → (v : Bool) → v ≡ is-digit (getD s i 0) → v ≡ true → At s q2 (i + 1) k (i + 1)
 leads g h p t v e f = take-gain digit g h tt (sym e ∙ f) p t
 
-neither : (a b : Bool) → a ≡ false → b ≡ false → (a || b) ≡ false
-neither a b e f = simp (e, f)
-
 out : {X : Type 0} {i n : ℕ} → n ≤ i → i < n → X
 out h l = absurd (omega arith)
 
@@ -108,7 +106,7 @@ module _ (s : Text) where
 
       module _ (f : v ≡ false) (w : Bool) (e′ : w ≡ is-sign (getD s at 0)) where
         pub e-other : w ≡ false → TokenAt s (tok kind len)
-        e-other f′ = done g (m .e-end) (λ _. neither (is-digit (getD s at 0)) (is-sign (getD s at 0)) (sym e ∙ f) (sym e′ ∙ f′))
+        e-other f′ = done g (m .e-end) (λ _. nor (is-digit (getD s at 0)) (is-sign (getD s at 0)) (sym e ∙ f) (sym e′ ∙ f′))
 
         module _ (f′ : w ≡ true) where
           signed : At s exponent-sign (at + 1) kind len
@@ -140,7 +138,7 @@ module _ (s : Text) where
 
       pub fraction-other : v ≡ false → TokenAt s (tok 9 i)
       fraction-other f =
-          done at-fraction (m .fraction-end) (λ _. neither (is-digit (getD s i 0)) (is-exponent (getD s i 0)) (sp .stop h) (sym e ∙ f))
+          done at-fraction (m .fraction-end) (λ _. nor (is-digit (getD s i 0)) (is-exponent (getD s i 0)) (sp .stop h) (sym e ∙ f))
 
   -- integer
   module _ (at i : ℕ) (g : At s in-integer at 8 at) (sp : Span digit s at i) where
@@ -162,8 +160,8 @@ module _ (s : Text) where
         integer-other n f =
             done at-integer (m .integer-end)
             (λ _.
-            neither (is-digit (getD s i 0)) (eqb (getD s i 0) 46 || is-exponent (getD s i 0)) (sp .stop h)
-            (neither (eqb (getD s i 0) 46) (is-exponent (getD s i 0)) (ne-eqb _ _ n) (sym e ∙ f)))
+            nor (is-digit (getD s i 0)) (eqb (getD s i 0) 46 || is-exponent (getD s i 0)) (sp .stop h)
+            (nor (eqb (getD s i 0) 46) (is-exponent (getD s i 0)) (ne-eqb _ _ n) (sym e ∙ f)))
 
   -- point
   module _ (at : ℕ) (g : At s integer-dot (at + 1) 8 at) where
@@ -184,7 +182,7 @@ module _ (s : Text) where
 
         pub point-other : v ≡ false → w ≡ false → TokenAt s (tok 8 at)
         point-other f f′ =
-            done g (m .point-end) (λ _. neither (is-digit (getD s (at + 1) 0)) (is-exponent (getD s (at + 1) 0)) (sym e ∙ f) (sym e′ ∙ f′))
+            done g (m .point-end) (λ _. nor (is-digit (getD s (at + 1) 0)) (is-exponent (getD s (at + 1) 0)) (sym e ∙ f) (sym e′ ∙ f′))
 
   -- dot
   module _ (g : At s after-dot 1 19 1) where
@@ -209,7 +207,7 @@ module _ (s : Text) where
         sign-digit f = leads g h (omega arith) (m .sign) v e f
 
         pub sign-other : v ≡ false → (getD s 1 0 ≡ 46 → ⊥) → TokenAt s (tok 0 0)
-        sign-other f n = done g (m .sign-end) (λ _. neither (is-digit (getD s 1 0)) (eqb (getD s 1 0) 46) (sym e ∙ f) (ne-eqb _ _ n))
+        sign-other f n = done g (m .sign-end) (λ _. nor (is-digit (getD s 1 0)) (eqb (getD s 1 0) 46) (sym e ∙ f) (ne-eqb _ _ n))
 
       module _ (n : getD s 1 0 ≡ 46) where
         dotted : At s sign-dot 2 0 0

@@ -1,9 +1,9 @@
 -- Local parts and labels: PLX, and a run of characters whose dots at the end are given back.
 use mathlib.Core.Path.{_≡_, refl, subst, sym, ap, _∙_}
-use mathlib.Core.Logic.{_⊎_, inl, inr, ⊎-elim}
+use mathlib.Core.Logic.{inl, ⊎-elim}
 use mathlib.Core.Bool.{Bool, true, false, _&&_, _||_}
-use mathlib.Core.List.{List, [], _∷_, _++_}
-use Prim.Native.Nat.{ℕ, zero, suc, _+_, _-_, _≤_, _<_}
+use mathlib.Core.List.{List, [], _∷_}
+use Prim.Native.Nat.{ℕ, zero, suc, _+_, _≤_, _<_}
 use native.Mathlib.Omega.{arith}
 use native.Mathlib.Numerals.{add-one}
 use borrow.Author.Tests.{eq-eqb, ne-eqb, eqb-true, lt-ltb}
@@ -11,14 +11,13 @@ use lib.Dec.{T, eqb}
 use lib.ListN.{length, getD, drop, length-drop, drop-of-length-le}
 use lib.Seq.{drop-cons}
 use Rattle.text.specs.Text.{Text, cond}
-use Rattle.utf8.specs.Utf8.{Range, encode, width}
-use Rattle.utf8.specs.Scalar.{Scalar}
-use Rattle.utf8.proofs.Tests.{by, split, or-true}
+use Rattle.utf8.specs.Utf8.{Range}
+use Rattle.utf8.proofs.Tests.{by, split, or-true, nor}
 use Rattle.token.specs.Regular.{in-ranges, step}
 use Rattle.automaton.specs.Levels.{intervals}
-use Rattle.automaton.specs.States.{State, after-colon, first-local, in-local, local-dot, after-underscore, label-colon, first-label, in-label, label-dot, dead, open-states}
+use Rattle.automaton.specs.States.{State, after-colon, first-local, in-local, local-dot, after-underscore, label-colon, first-label, in-label, label-dot, open-states}
 use Rattle.automaton.specs.Run.{tok, At, TokenAt}
-use Rattle.automaton.proofs.Steps.{only, never, sends, high-sends, mimics, Sent, HighSent, Ends, Alias, pass, gain, done, at-end, as-other}
+use Rattle.automaton.proofs.Steps.{only, never, sends, high-sends, mimics, Sent, Ends, Alias, pass, done, at-end, as-other}
 use Rattle.characters.specs.Bytes.{hex, name, local, local-first, label-first, reserved}
 use Rattle.characters.specs.Names.{base, inner, passes, CharAt}
 use Rattle.characters.specs.Runs.{hex-run}
@@ -230,9 +229,6 @@ moves = record {
   label-dot-like = record { test = tt };
 }
 
-neither : (a b : Bool) → a ≡ false → b ≡ false → (a || b) ≡ false
-neither a b e f = simp (e, f)
-
 module _ (s : Text) where
   -- local_rest
   module _ (i end : ℕ) (g : At s in-local i 3 end) where
@@ -249,7 +245,7 @@ module _ (s : Text) where
             by (is-plx (getD s i 0)) (λ e. plx-on (moves .next-plx) g h e (l .plx e))
             (λ e.
             record {
-              broken = λ z. char-off g (l .char e) (moves .next-none) z (λ _. neither (eqb (getD s i 0) 46) (is-plx (getD s i 0)) (ne-eqb _ _ d) e);
+              broken = λ z. char-off g (l .char e) (moves .next-none) z (λ _. nor (eqb (getD s i 0) 46) (is-plx (getD s i 0)) (ne-eqb _ _ d) e);
               whole = λ z. char-on g (l .char e) (moves .next) z;
             })
 

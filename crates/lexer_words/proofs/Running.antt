@@ -1,25 +1,26 @@
 -- Runs of PN_CHARS and dots: what the routine `name_run` shows, and what an automaton does over them.
+use Rattle.token.proofs.Sizes.{size-append}
 use mathlib.Core.Path.{_≡_, refl, subst, sym, ap, ap₂, _∙_}
-use mathlib.Core.Logic.{_⊎_, inl, inr, ⊎-elim}
-use mathlib.Core.Bool.{Bool, true, false, not, _||_}
+use mathlib.Core.Logic.{⊎-elim}
+use mathlib.Core.Bool.{Bool, true, false, _||_}
 use mathlib.Core.List.{List, [], _∷_, _++_, append-assoc}
-use Prim.Native.Nat.{ℕ, zero, suc, _+_, _-_, _/_, _%_, _≤_, _<_}
+use Prim.Native.Nat.{ℕ, _+_, _-_, _%_, _≤_, _<_}
 use native.Mathlib.Omega.{arith}
 use native.Mathlib.Nat.{add-zero, add-assoc}
-use borrow.Author.Tests.{eq-eqb, ne-eqb, eqb-true, eqb-false, lt-ltb, le-ltb}
+use borrow.Author.Tests.{eq-eqb, ne-eqb, eqb-true, lt-ltb, le-ltb}
 use lib.Dec.{T, eqb, ltb}
 use lib.ListN.{length, getD, drop, length-append, length-drop}
 use lib.Seq.{getD-drop, getD-append-add}
 use Rattle.text.specs.Text.{Text, cond}
 use Rattle.utf8.specs.Utf8.{encode, encodes, width}
 use Rattle.utf8.specs.Scalar.{Scalar, Scalars, Encodes}
-use Rattle.utf8.proofs.Tests.{by, split, or-false, or-true}
+use Rattle.utf8.proofs.Tests.{by, or-false}
 use Rattle.utf8.proofs.Encoding.{by-width, length-encode, width-pos}
-use Rattle.utf8.proofs.Decoding.{encodes-append, scalars-right}
+use Rattle.utf8.proofs.Decoding.{encodes-append}
 use Rattle.token.specs.Regular.{Match, nothing, step, now-at, size}
 use Rattle.automaton.specs.States.{State, dead}
-use Rattle.automaton.specs.Run.{tok, seen-kind, seen-len, run}
-use Rattle.automaton.proofs.Steps.{only, Sent, sent-to, sent-kind, at-first, some-left, next-left, none-left}
+use Rattle.automaton.specs.Run.{seen-kind, seen-len, run}
+use Rattle.automaton.proofs.Steps.{only, Sent, sent-to, sent-kind, at-first, next-left, none-left}
 use Rattle.characters.specs.Bytes.{name}
 use Rattle.characters.specs.Names.{inner, passes, CharAt}
 use Rattle.characters.proofs.Points.{first, CharSent, CharEnds, point-to, point-dead}
@@ -27,10 +28,6 @@ use Rattle.lexer_words.specs.Runs.{in-run, All-run, Scan, Scanned, RunAt
 use Rattle.lexer_words.proofs.Muting.{Mute, mute-dead}
 
 -- ---- The routine
-
-size-append : (xs ys : List ℕ) → size width (xs ++ ys) ≡ size width xs + size width ys
-size-append [] ys = omega arith
-size-append (x ∷ xs) ys = ap (λ (n : ℕ). width x + n) (size-append xs ys) ∙ sym (add-assoc (width x) (size width xs) (size width ys))
 
 run-append : (xs : List ℕ) (c : ℕ) → All-run xs → in-run c ≡ true → All-run (xs ++ (c ∷ []))
 run-append [] c r e = (e, tt)

@@ -1,14 +1,13 @@
 -- Language tags, @prefix and @base: after the @, within the letters, after a dash, within a subtag.
 use mathlib.Core.Path.{_≡_, refl, subst, sym, ap, _∙_}
 use mathlib.Core.Bool.{Bool, true, false, not, _&&_, _||_}
-use mathlib.Core.List.{List, [], _∷_}
 use Prim.Native.Nat.{ℕ, _+_, _≤_, _<_}
 use native.Mathlib.Omega.{arith}
 use borrow.Author.Tests.{eq-eqb, ne-eqb}
 use lib.Dec.{T, eqb}
 use lib.ListN.{length, getD}
 use Rattle.text.specs.Text.{Text, ascii}
-use Rattle.utf8.proofs.Tests.{or-false}
+use Rattle.utf8.proofs.Tests.{or-false, nor}
 use Rattle.token.specs.Regular.{in-ranges, step}
 use Rattle.automaton.specs.Levels.{intervals}
 use Rattle.automaton.specs.States.{after-at, in-tag, tag-dash, in-subtag, open-states}
@@ -27,7 +26,7 @@ is-letter b = in-ranges b letter
 abbrev is-subtag : ℕ → Bool
 is-subtag b = in-ranges b letter-or-digit
 
--- A letter that begins neither `prefix` nor `base`.
+-- A letter that begins nor `prefix` nor `base`.
 abbrev other-letter : ℕ → Bool
 other-letter b = is-letter b && not (one-of 112 98 b)
 
@@ -60,9 +59,6 @@ moves = record {
   base = tt;
 }
 
-neither : (a b : Bool) → a ≡ false → b ≡ false → (a || b) ≡ false
-neither a b e f = simp (e, f)
-
 module _ (s : Text) where
   -- subtags
   module _ (i k : ℕ) (g : TagAt s i k) where
@@ -71,7 +67,7 @@ module _ (s : Text) where
 
     module _ (h : i < length s) where
       pub sub-stop : (getD s i 0 ≡ 45 → ⊥) → TokenAt s (tok k i)
-      sub-stop n = done (g .at) (moves .end) (λ _. neither (is-letter (getD s i 0)) (eqb (getD s i 0) 45) (g .end h) (ne-eqb _ _ n))
+      sub-stop n = done (g .at) (moves .end) (λ _. nor (is-letter (getD s i 0)) (eqb (getD s i 0) 45) (g .end h) (ne-eqb _ _ n))
 
       module _ (e : getD s i 0 ≡ 45) (j : ℕ) (sp : Span letter-or-digit s (i + 1) j) where
         dashed : At s tag-dash (i + 1) k i

@@ -2,3 +2,5 @@
 pub mod KindCodes
 pub mod Longest
 pub mod Examples
+-- The longest match, and the sizes of code points.
+pub mod Sizes

@@ -1,22 +1,20 @@
 -- Decoding: a text without a bad sequence is the encoding of its code points, and these are scalar values.
-use mathlib.Core.Path.{_≡_, refl, subst, sym, ap, ap₂, _∙_}
-use mathlib.Core.Logic.{_⊎_, inl, inr, ⊎-elim}
-use mathlib.Core.Bool.{Bool, true, false}
+use mathlib.Core.Path.{_≡_, refl, sym, ap, ap₂, _∙_}
+use mathlib.Core.Bool.{Bool}
 use mathlib.Core.List.{List, [], _∷_, _++_, append-assoc}
-use mathlib.Core.Option.{Option, none, some}
+use mathlib.Core.Option.{none, some}
 use Prim.Native.Nat.{ℕ, zero, suc, pred, _+_, _*_, _-_, _/_, _%_, _≤_, _<_}
 use native.Mathlib.Omega.{arith}
 use native.Mathlib.Nat.{add-zero, div-div-eq-div-mul}
-use native.Mathlib.Numerals.{add-one}
-use borrow.Author.Tests.{eq-eqb, ne-eqb, lt-ltb, le-ltb}
-use lib.Dec.{T, eqb, ltb, eqb·suc-zero}
+use borrow.Author.Tests.{lt-ltb, le-ltb}
+use lib.Dec.{eqb, eqb·suc-zero}
 use lib.ListN.{length, getD, take, drop, length-append, length-drop, drop-of-length-le}
-use lib.Seq.{take-at, take-all, drop-at, drop-drop, drop-cons, getD-drop}
+use lib.Seq.{take-at, take-all, drop-at, drop-drop, drop-cons}
 use Rattle.text.specs.Text.{Text, cond}
-use Rattle.utf8.specs.Utf8.{sequences, fits, first-fit, sequence-size, lead-bits, more-bits, code-point, decode-from, decode, bad-from, first-bad, encode, encodes, width}
+use Rattle.utf8.specs.Utf8.{sequence-size, lead-bits, more-bits, code-point, decode-from, decode, bad-from, first-bad, encode, encodes}
 use Rattle.utf8.specs.Scalar.{Scalar, Scalars, Encodes}
-use Rattle.utf8.proofs.Tests.{by, split}
-use Rattle.utf8.proofs.Encoding.{by-width, length-encode, width-pos, width-most, size-encode, size-one, size-reads, Reads}
+use Rattle.utf8.proofs.Tests.{by}
+use Rattle.utf8.proofs.Encoding.{by-width, length-encode, width-pos, width-most, size-encode, size-one, size-reads}
 
 -- ---- Decoding what was encoded
 

@@ -1,20 +1,20 @@
 -- The sequences of the table are the encodings of the scalar values.
-use mathlib.Core.Path.{_≡_, refl, subst, sym, ap, ap₂, _∙_}
+use mathlib.Core.Path.{_≡_, refl, subst, sym, ap₂, _∙_}
 use mathlib.Core.Logic.{_⊎_, inl, inr, ⊎-elim}
-use mathlib.Core.Bool.{Bool, true, false, _&&_}
+use mathlib.Core.Bool.{Bool, true, false}
 use mathlib.Core.List.{List, [], _∷_, _++_}
 use Prim.Native.Nat.{ℕ, zero, suc, _+_, _*_, _-_, _/_, _%_, _≤_, _<_}
 use native.Mathlib.Omega.{arith}
 use native.Mathlib.Nat.{div-div-eq-div-mul}
-use borrow.Author.Tests.{eqb-true, eqb-false, eq-eqb, ne-eqb, le-leb, lt-ltb, le-ltb}
-use lib.Dec.{T, eqb, ltb, leb, eqb→eq}
+use borrow.Author.Tests.{eqb-true, eq-eqb, ne-eqb, le-leb, lt-ltb, le-ltb}
+use lib.Dec.{T, eqb, eqb→eq}
 use lib.ListN.{length, getD, take}
 use lib.Count.{leadingZeros}
 use Rattle.text.specs.Text.{Text, cond, between}
 use Rattle.utf8.specs.Utf8.{Range, _–_, sequences, fits, first-fit, sequence-size, lead-bits, more-bits, code-point, encode, width}
 use Rattle.utf8.specs.Scalar.{Scalar, Highs}
-use Rattle.utf8.specs.Code.{lead-size, second-low, second-high, sized}
-use Rattle.utf8.proofs.Tests.{by, split, below, below-at, and-true, between-true}
+use Rattle.utf8.specs.Code.{lead-size, second-low, second-high}
+use Rattle.utf8.proofs.Tests.{by, split, below, below-at, between-true}
 use Rattle.utf8.proofs.Size.{first-tail, rows-of, more-tails, size-rows, lead-small, size-sized, no-byte}
 
 -- ---- Encodings by their length

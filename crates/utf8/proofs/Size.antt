@@ -1,16 +1,16 @@
 -- The size of a sequence is read off the leading ones of its first byte: by a test of the table for all bytes.
-use mathlib.Core.Path.{_≡_, refl, subst, sym, ap, ap₂, _∙_}
+use mathlib.Core.Path.{_≡_, refl, sym, ap, ap₂, _∙_}
 use mathlib.Core.Bool.{Bool, true, false, _&&_}
 use mathlib.Core.List.{List, [], _∷_}
-use Prim.Native.Nat.{ℕ, zero, suc, _+_, _-_, _≤_, _<_}
+use Prim.Native.Nat.{ℕ, zero, suc, _≤_, _<_}
 use native.Mathlib.Omega.{arith}
 use borrow.Author.Tests.{eq-eqb, ne-eqb, le-ltb, lt-ltb, lt-leb}
-use lib.Dec.{T, eqb, ltb, leb, eqb→eq, ltb→lt, leb→le}
+use lib.Dec.{T, eqb, ltb, eqb→eq, ltb→lt}
 use lib.ListN.{length, getD}
 use lib.Count.{leadingZeros}
 use Rattle.text.specs.Text.{Text, cond, between}
 use Rattle.utf8.specs.Utf8.{Range, _–_, tail, sequences, fits, first-fit, sequence-size}
-use Rattle.utf8.specs.Code.{leading-ones, lead-size, second-low, second-high, sized}
+use Rattle.utf8.specs.Code.{lead-size, second-low, second-high, sized}
 use Rattle.utf8.proofs.Tests.{by, below, below-at, and-true, and-false}
 
 -- ---- Equality of ranges, by computing

@@ -1,7 +1,7 @@
 -- Tests that compute: what one test says of each number below a bound, and how a test is taken apart.
 use mathlib.Core.Path.{_≡_, refl, subst, sym}
 use mathlib.Core.Logic.{_⊎_, inl, inr}
-use mathlib.Core.Bool.{Bool, true, false, _&&_, _||_}
+use mathlib.Core.Bool.{Bool, true, false, not, _&&_, _||_}
 use Prim.Native.Nat.{ℕ, zero, suc, _≤_, _<_}
 use native.Mathlib.Nat.{le-of-suc-le-suc, not-suc-le-zero, eq-or-lt-of-le}
 use borrow.Author.Tests.{ltb-true, ltb-false}
@@ -43,6 +43,20 @@ or-true false b e = inr e
 pub or-false : (a b : Bool) → (a || b) ≡ false → (a ≡ false) × (b ≡ false)
 or-false true b e = absurd (subst T e tt)
 or-false false b e = (refl, e)
+
+pub nor : (a b : Bool) → a ≡ false → b ≡ false → (a || b) ≡ false
+nor a b e f = simp (e, f)
+
+-- Have two tests the same value?
+abbrev pub same : Bool → Bool → Bool
+same true b = b
+same false b = not b
+
+pub same-eq : (a b : Bool) → T (same a b) → a ≡ b
+same-eq true true t = refl
+same-eq true false t = absurd t
+same-eq false true t = absurd t
+same-eq false false t = refl
 
 pub below-at : (f : ℕ → Bool) (n : ℕ) → T (below f n) → (k : ℕ) → k < n → T (f k)
 below-at f zero t k h = absurd (not-suc-le-zero h)
