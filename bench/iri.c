@@ -15,7 +15,7 @@ uint8_t bench_declare(uint8_t *, size_t, size_t *, const uint8_t *, size_t, cons
 size_t bench_look_up(const uint8_t *, size_t, const size_t *, const uint8_t *, size_t);
 
 enum { MEGABYTE = 1 << 20, IRI = 1024, WORK = 35840 };
-static uint8_t text[MEGABYTE], other[MEGABYTE], buffer[IRI], work[WORK], stack[65536];
+static uint8_t text[MEGABYTE], other[MEGABYTE], buffer[IRI], work[WORK], namespace[IRI], stack[65536];
 static size_t lens[66], result;
 static const uint8_t base[] = "http://a/b/c/d;p?q";
 
@@ -31,8 +31,7 @@ static void resolve(void) {
 }
 static void declare(void) {
     memset(lens, 0, sizeof lens);
-    uint8_t prefix[2] = "p", namespace[IRI];
-    memset(namespace, 'n', IRI);
+    uint8_t prefix[2] = {'p'};
     for (int i = 0; i < 32; i++) {
         prefix[1] = '0' + i;
         result = bench_declare(work, WORK, lens, prefix, 2, namespace, IRI);
@@ -70,12 +69,15 @@ static void measure(const char *name, void (*f)(void), int times) {
 int main(void) {
     memset(text, 'a', MEGABYTE);
     memset(other, 'a', MEGABYTE);
+    memset(namespace, 'n', IRI);
     measure("bad escape, 1 MiB", bad_escape, 20);
     measure("same text, 1 MiB", same, 20);
     measure("write text, 1 MiB", write_text, 20);
     measure("scheme, 1 MiB", scheme, 20);
+    memcpy(text + MEGABYTE - 2, "\\t", 2);
+    measure("one escape, 1 MiB", write_text, 20);
     for (size_t i = 0; i + 6 <= MEGABYTE; i += 6) memcpy(text + i, "\\u00E9", 6);
-    measure("write escapes, 1 MiB", write_text, 20);
+    measure("all escapes, 1 MiB", write_text, 20);
     measure("resolve ././. 1,011", resolve, 2000);
     measure("declare 32", declare, 2000);
     measure("look up the last", look_up, 20000);

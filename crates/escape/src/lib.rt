@@ -4,7 +4,7 @@ ghost use mathlib.Core.Bool.{true, false};
 ghost use mathlib.Core.List.{_++_};
 ghost use Prim.Native.Nat.{_+_, _≤_, _<_};
 ghost use lib.ListN.{length, drop};
-ghost use Rattle.text.specs.Text.{same-text, begins};
+ghost use Rattle.text.specs.Text.{is, same-text, begins, some-byte};
 ghost use Rattle.text.specs.Slice.{over, over-at};
 ghost use Rattle.utf8.specs.Utf8.{width};
 ghost use Rattle.escape.specs.Escape.{hex-value, letter-value, no-character, bad-escape, unescape, unreserve};
@@ -267,11 +267,28 @@ fn put(out: &mut [u8], j: usize, b: &[usize])
     }
 }
 
+// Whether a backslash stands in the text; without one it stands for itself.
+fn has_backslash(s: &[u8]) -> bool
+    ensures { λ r. ⌜ r ≡ some-byte (is "\\") (now (s .entry)) ⌝ }
+{
+    let mut i: usize = 0;
+    while i < s.len() {
+        if s[i] == 92 {
+            return true;
+        }
+        i += 1;
+    }
+    false
+}
+
 // How long the text is from the scan on.
 fn length_from(start: Scan, s: &[u8]) -> usize
     requires { ⌜ Starts start ⌝ }
     ensures { λ r. ⌜ r ≡ length (undone start (now (s .entry))) ⌝ }
 {
+    if !has_backslash(s) {
+        return s.len();
+    }
     let mut scan = start;
     let mut i: usize = 0;
     let mut total: usize = 0;
@@ -288,6 +305,9 @@ fn same_from(start: Scan, s: &[u8], t: &[u8]) -> bool
     requires { ⌜ Starts start ⌝ }
     ensures { λ r. ⌜ r ≡ same-text (undone start (now (s .entry))) (now (t .entry)) ⌝ }
 {
+    if !has_backslash(s) {
+        return text::same(s, t);
+    }
     let mut scan = start;
     let mut i: usize = 0;
     let mut j: usize = 0;
@@ -310,6 +330,10 @@ fn write_from(start: Scan, s: &[u8], out: &mut [u8]) -> usize
     requires { ⌜ Starts start ⌝ }
     ensures { λ r. ⌜ (r ≡ length (undone start (now (s .entry)))) × (now (out .exit) ≡ over (low (undone start (now (s .entry)))) (now (out .entry))) ⌝ }
 {
+    if !has_backslash(s) {
+        text::copy(s, out);
+        return s.len();
+    }
     let mut scan = start;
     let mut i: usize = 0;
     let mut j: usize = 0;
@@ -328,6 +352,9 @@ fn write_from(start: Scan, s: &[u8], out: &mut [u8]) -> usize
 pub fn has_bad_escape(s: &[u8]) -> bool
     ensures { λ r. ⌜ r ≡ bad-escape (now (s .entry)) ⌝ }
 {
+    if !has_backslash(s) {
+        return false;
+    }
     let mut scan = Scan::text();
     let mut i: usize = 0;
     while i < s.len() {
