@@ -77,11 +77,11 @@ encode-bytes v h =
     third : Bytes ((0x80 + v / 64 % 64) ∷ (0x80 + v % 64) ∷ [])
     third = more {b = 0x80 + v / 64 % 64} (omega arith) last
 
-or-left : (a b : Bool) → (a || b) ≡ false → a ≡ false
+pub or-left : (a b : Bool) → (a || b) ≡ false → a ≡ false
 or-left true b e = e
 or-left false b e = refl
 
-or-right : (a b : Bool) → (a || b) ≡ false → b ≡ false
+pub or-right : (a b : Bool) → (a || b) ≡ false → b ≡ false
 or-right true b e = contrary e
 or-right false b e = e
 

@@ -9,7 +9,7 @@ use lib.ListN.{length, getD, take, drop, length-append, length-drop, drop-of-len
 use lib.Seq.{drop-cons, drop-drop, length-take-le}
 use lib.Dec.{eqb, ltb}
 use borrow.Author.Tests.{eqb-false}
-use Rattle.text.specs.Text.{Text, same-text, begins}
+use Rattle.text.specs.Text.{Text, is, same-text, begins, some-byte}
 use Rattle.text.specs.Slice.{over, over-at}
 use Rattle.text.proofs.Compare.{by, begins-length, begins-more, same-append, same-end}
 use Rattle.text.proofs.Over.{over-append, over-length}
@@ -18,7 +18,7 @@ use Rattle.escape.specs.Escape.{outside, behind, digits, hex-value, piec
 use Rattle.escape.specs.Escape as escape
 use Rattle.escape.specs.Code.{step, four, piece, bad, place, undone, low, Fair, Starts, Written}
 use Rattle.escape.specs.declared.Scan.{Scan}
-use Rattle.escape.proofs.Bytes.{bytes-of, low-bytes, unescape-bytes, unreserve-bytes}
+use Rattle.escape.proofs.Bytes.{or-left, or-right, bytes-of, low-bytes, unescape-bytes, unreserve-bytes}
 use Rattle.escape.proofs.Steps.{at-backslash, at-plain, at-short, at-long, at-letter, fair-step, fair-start, fair-name-start, undone-step, undone-name, step-agrees, stays-text}
 
 -- Before the first byte.
@@ -59,11 +59,34 @@ unfolding unreserve
 unreserve-short [] = omega arith
 unreserve-short (c ∷ s) = by (eqb c 92) (λ e. rw e (omega (arith, unreserve-short s))) (λ e. rw e (omega (arith, unreserve-short s)))
 
+-- A text without a backslash stands for itself.
+plain-pieces : (cs : Text) → some-byte (is "\\") cs ≡ false → (unescape-pieces (pieces-from outside cs) ≡ cs) × (bad-pieces (pieces-from outside cs) ≡ false)
+unfolding pieces-from unescape-pieces unescape-piece bad-pieces some-byte
+plain-pieces [] e = (refl, refl)
+plain-pieces (c ∷ cs) e =
+    let here : eqb c 92 ≡ false = or-left (eqb c 92) (some-byte (is "\\") cs) e in
+    let rest = plain-pieces cs (or-right (eqb c 92) (some-byte (is "\\") cs) e) in
+    (rw (at-plain c cs here) (ap (λ (l : Text). c ∷ l) (rest .0)), rw (at-plain c cs here) (rest .1))
+
+plain-text : (cs : Text) → some-byte (is "\\") cs ≡ false → unescape cs ≡ cs
+unfolding unescape pieces
+plain-text cs e = plain-pieces cs e .0
+
+pub plain-good : (cs : Text) → some-byte (is "\\") cs ≡ false → false ≡ bad-escape cs
+unfolding bad-escape pieces
+plain-good cs e = sym (plain-pieces cs e .1)
+
+plain-name : (cs : Text) → some-byte (is "\\") cs ≡ false → unreserve cs ≡ cs
+unfolding unreserve some-byte
+plain-name [] e = refl
+plain-name (c ∷ cs) e =
+    rw (or-left (eqb c 92) (some-byte (is "\\") cs) e) (ap (λ (l : Text). c ∷ l) (plain-name cs (or-right (eqb c 92) (some-byte (is "\\") cs) e)))
+
 pub text-starts : (s : Scan) → (s .left ≡ 0) × ((s .value ≡ 0) × (s .n ≡ 0)) → Starts s
-text-starts s e = record { fair = fair-start s e; short = λ cs. rw (text-start s e cs) (unescape-short cs) }
+text-starts s e = record { fair = fair-start s e; short = λ cs. rw (text-start s e cs) (unescape-short cs); plain = λ cs h. text-start s e cs ∙ plain-text cs h }
 
 pub name-starts : (s : Scan) → (s .left ≡ 10) × ((s .value ≡ 0) × (s .n ≡ 0)) → Starts s
-name-starts s e = record { fair = fair-name-start s e; short = λ cs. rw (name-start s e cs) (unreserve-short cs) }
+name-starts s e = record { fair = fair-name-start s e; short = λ cs. rw (name-start s e cs) (unreserve-short cs); plain = λ cs h. name-start s e cs ∙ plain-name cs h }
 
 four-length : (s : Scan) → length (four s) ≡ 4
 unfolding four
@@ -226,3 +249,14 @@ text-same s e cs x r h = h ∙ rw (text-start s e cs)
 
 pub name-same : (s : Scan) → (s .left ≡ 10) × ((s .value ≡ 0) × (s .n ≡ 0)) → (cs x : Text) (r : Bool) → r ≡ same-text (undone s cs) x → r ≡ same-text (unreserve cs) x
 name-same s e cs x r h = h ∙ rw (name-start s e cs)
+
+-- The answers for a text without a backslash.
+module _ (s : Scan) (st : Starts s) (cs : Text) (h : some-byte (is "\\") cs ≡ false) where
+  pub plain-length : length cs ≡ length (undone s cs)
+  plain-length = ap length (sym (st .plain cs h))
+
+  pub plain-same : (t : Text) (r : Bool) → r ≡ same-text cs t → r ≡ same-text (undone s cs) t
+  plain-same t r e = e ∙ rw (st .plain cs h)
+
+  pub plain-written : (x y : Text) → ((i : ℕ) → getD cs i 0 < 256) → y ≡ over cs x → (length cs ≡ length (undone s cs)) × (y ≡ over (low (undone s cs)) x)
+  plain-written x y small e = (plain-length, e ∙ rw (st .plain cs h, low-bytes (bytes-of cs small)))

@@ -5,7 +5,7 @@ use mathlib.Core.Bool.{Bool, false}
 use Prim.Native.Nat.{ℕ, zero, suc, _+_, _*_, _-_, _/_, _%_, _≤_}
 use lib.Dec.{eqb, ltb}
 use lib.ListN.{length, take}
-use Rattle.text.specs.Text.{Text, cond}
+use Rattle.text.specs.Text.{Text, cond, is, some-byte}
 use Rattle.text.specs.Slice.{over}
 use Rattle.utf8.specs.Utf8.{width}
 use Rattle.escape.specs.Escape.{outside, behind, digits, hex-value, letter-value, pieces-from, unescape-pieces, no-character, unreserve}
@@ -78,10 +78,11 @@ unfoldable pub low : Text → Text
 low [] = []
 low (b ∷ s) = b % 256 ∷ low s
 
--- A scan before the first byte of a text: what it stands for is no longer than the text.
+-- A scan before the first byte of a text: what it stands for is no longer than the text, and the text itself where no backslash is.
 pub record Starts (s : Scan) : Type 0 where
   pub fair : Fair s
   pub short : (cs : Text) → length (undone s cs) ≤ length cs
+  pub plain : (cs : Text) → some-byte (is "\\") cs ≡ false → undone s cs ≡ cs
 
 -- What writing the text t over the front of x answers and leaves, if `bytes` (then each number of t is a byte).
 pub record Written (bytes : Type 0) (t x y : Text) (r : ℕ) : Type 0 where

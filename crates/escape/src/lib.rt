@@ -1,9 +1,10 @@
 // Escapes: numeric and string escapes in references and strings, reserved character escapes in local names.
 ghost use mathlib.Core.Path.{_≡_};
 ghost use mathlib.Core.Bool.{true, false};
+ghost use mathlib.Core.List.{_++_};
 ghost use Prim.Native.Nat.{_+_, _≤_, _<_};
 ghost use lib.ListN.{length, drop};
-ghost use Rattle.text.specs.Text.{same-text, begins};
+ghost use Rattle.text.specs.Text.{is, same-text, begins, some-byte};
 ghost use Rattle.text.specs.Slice.{over, over-at};
 ghost use Rattle.utf8.specs.Utf8.{width};
 ghost use Rattle.escape.specs.Escape.{hex-value, letter-value, no-character, bad-escape, unescape, unreserve};
@@ -266,11 +267,28 @@ fn put(out: &mut [u8], j: usize, b: &[usize])
     }
 }
 
+// Whether a backslash stands in the text; without one it stands for itself.
+fn has_backslash(s: &[u8]) -> bool
+    ensures { λ r. ⌜ r ≡ some-byte (is "\\") (now (s .entry)) ⌝ }
+{
+    let mut i: usize = 0;
+    while i < s.len() {
+        if s[i] == 92 {
+            return true;
+        }
+        i += 1;
+    }
+    false
+}
+
 // How long the text is from the scan on.
 fn length_from(start: Scan, s: &[u8]) -> usize
     requires { ⌜ Starts start ⌝ }
     ensures { λ r. ⌜ r ≡ length (undone start (now (s .entry))) ⌝ }
 {
+    if !has_backslash(s) {
+        return s.len();
+    }
     let mut scan = start;
     let mut i: usize = 0;
     let mut total: usize = 0;
@@ -287,6 +305,9 @@ fn same_from(start: Scan, s: &[u8], t: &[u8]) -> bool
     requires { ⌜ Starts start ⌝ }
     ensures { λ r. ⌜ r ≡ same-text (undone start (now (s .entry))) (now (t .entry)) ⌝ }
 {
+    if !has_backslash(s) {
+        return text::same(s, t);
+    }
     let mut scan = start;
     let mut i: usize = 0;
     let mut j: usize = 0;
@@ -309,6 +330,10 @@ fn write_from(start: Scan, s: &[u8], out: &mut [u8]) -> usize
     requires { ⌜ Starts start ⌝ }
     ensures { λ r. ⌜ (r ≡ length (undone start (now (s .entry)))) × (now (out .exit) ≡ over (low (undone start (now (s .entry)))) (now (out .entry))) ⌝ }
 {
+    if !has_backslash(s) {
+        text::copy(s, out);
+        return s.len();
+    }
     let mut scan = start;
     let mut i: usize = 0;
     let mut j: usize = 0;
@@ -327,6 +352,9 @@ fn write_from(start: Scan, s: &[u8], out: &mut [u8]) -> usize
 pub fn has_bad_escape(s: &[u8]) -> bool
     ensures { λ r. ⌜ r ≡ bad-escape (now (s .entry)) ⌝ }
 {
+    if !has_backslash(s) {
+        return false;
+    }
     let mut scan = Scan::text();
     let mut i: usize = 0;
     while i < s.len() {
@@ -379,4 +407,26 @@ pub fn write_unreserved(s: &[u8], out: &mut [u8]) -> usize
     ensures { λ r. ⌜ (r ≡ length (unreserve (now (s .entry)))) × (now (out .exit) ≡ over (unreserve (now (s .entry))) (now (out .entry))) ⌝ }
 {
     write_from(Scan::name(), s, out)
+}
+
+// Whether t is the namespace joined to the local name with its escapes undone.
+pub fn same_joined(namespace: &[u8], local: &[u8], t: &[u8]) -> bool
+    ensures { λ r. ⌜ r ≡ same-text (now (namespace .entry) ++ unreserve (now (local .entry))) (now (t .entry)) ⌝ }
+{
+    let n = namespace.len();
+    if text::begins(namespace, t) {
+        return same_unreserved(local, &t[n..]);
+    }
+    false
+}
+
+// Writes the namespace joined to the local name with its escapes undone over the front of out, as far as out goes.
+pub fn write_joined(namespace: &[u8], local: &[u8], out: &mut [u8])
+    ensures { λ r. ⌜ now (out .exit) ≡ over (now (namespace .entry) ++ unreserve (now (local .entry))) (now (out .entry)) ⌝ }
+{
+    let n = namespace.len();
+    text::copy(namespace, out);
+    if n <= out.len() {
+        write_unreserved(local, &mut out[n..]);
+    }
 }

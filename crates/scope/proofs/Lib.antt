@@ -1,3 +1,4 @@
 pub mod Bindings
 pub mod Cells
 pub mod Directives
+pub mod Examples

@@ -148,3 +148,11 @@ over-part at s x y k e f =
     let whole : take k (drop at x) ≡ drop at x = take-all k (drop at x) (omega (arith, length-drop at x)) in
     let gone : drop k (drop at x) ≡ [] = drop-of-length-le (drop at x) {i = k} (omega (arith, length-drop at x)) in
     rw (f, whole, gone, append-nil)
+
+-- Behind the end of a slice nothing is written.
+pub over-at-past : (at : ℕ) (s x : Text) → length x ≤ at → over-at at s x ≡ x
+unfolding over-at
+over-at-past zero s [] h = over-nothing s
+over-at-past zero s (b ∷ x) h = absurd (omega arith)
+over-at-past (suc at) s [] h = over-nothing s
+over-at-past (suc at) s (b ∷ x) h = ap (λ (l : Text). b ∷ l) (over-at-past at s x (omega arith))

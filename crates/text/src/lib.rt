@@ -1,6 +1,6 @@
 // Texts: comparing and copying.
 ghost use mathlib.Core.Path.{_≡_};
-ghost use Rattle.text.specs.Text.{same-text};
+ghost use Rattle.text.specs.Text.{same-text, begins};
 ghost use Rattle.text.specs.Slice.{over};
 
 // Whether two texts are the same.
@@ -8,6 +8,23 @@ pub fn same(s: &[u8], t: &[u8]) -> bool
     ensures { λ r. ⌜ r ≡ same-text (now (s .entry)) (now (t .entry)) ⌝ }
 {
     if s.len() != t.len() {
+        return false;
+    }
+    let mut i: usize = 0;
+    while i < s.len() {
+        if t[i] != s[i] {
+            return false;
+        }
+        i += 1;
+    }
+    true
+}
+
+// Whether the second text begins with the first.
+pub fn begins(s: &[u8], t: &[u8]) -> bool
+    ensures { λ r. ⌜ r ≡ begins (now (s .entry)) (now (t .entry)) ⌝ }
+{
+    if t.len() < s.len() {
         return false;
     }
     let mut i: usize = 0;

@@ -1,14 +1,15 @@
 -- The invariant: the text has a bad escape just if the rest has one.
 use Prim.Native.Nat.{_≤_, _-_}
 use mathlib.Core.Path.{_≡_, sym, _∙_}
-use mathlib.Core.Bool.{false}
 use native.Mathlib.Omega.{arith}
+use borrow.Author.Tests.{not-true}
 use lib.ListN.{length, drop}
+use mathlib.Core.Bool.{false}
 use lib.Dec.{eqb}
 use Rattle.escape.specs.Escape.{bad-escape, bad-pieces, pieces-from}
 use Rattle.escape.specs.Code.{place, Fair}
 use Rattle.escape.proofs.Steps.{fair-start}
-use Rattle.escape.proofs.Walk.{fair-more, text-more, bad-start, bad-here, bad-further, bad-done, text-place}
+use Rattle.escape.proofs.Walk.{fair-more, text-more, bad-start, bad-here, bad-further, bad-done, text-place, plain-good}
 use borrow.Author.Needs.{needs}
 use Rattle.escape.proofs.has_bad_escape.Statement.{statement}
 use Rattle.escape.proofs.has_bad_escape.Tie as tie
@@ -19,11 +20,17 @@ Inv-loop s scan₀ i₀ scan i = ((i ≤ length s) × Fair scan) × ((eqb (scan 
 abbrev μ-loop : tie.MeasureT-loop
 μ-loop s scan₀ i₀ scan i = length s - i
 
+has-backslash-requires : tie.Need-has-backslash-requires Inv-loop μ-loop
+has-backslash-requires c κs = search needs
+
+returns : tie.Need-returns Inv-loop μ-loop
+returns c = plain-good (c .before .before .before .args .s .now) (sym (c .before .has-backslash .ensures) ∙ not-true _ (c .if1 .taken))
+
 text-requires : tie.Need-text-requires Inv-loop μ-loop
 text-requires c κs = search needs
 
 loop-holds : tie.Need-loop-holds Inv-loop μ-loop
-loop-holds c = ((omega arith, fair-start (c .text .result) (c .text .ensures)), (text-place (c .text .result) (c .text .ensures), bad-start (c .text .result) (c .text .ensures) (c .before .before .args .s .now)))
+loop-holds c = ((omega arith, fair-start (c .text .result) (c .text .ensures)), (text-place (c .text .result) (c .text .ensures), bad-start (c .text .result) (c .text .ensures) (c .before .before .before .before .args .s .now)))
 
 shared-slice-read-step : tie.Need-shared-slice-read-step Inv-loop μ-loop
 shared-slice-read-step c = search needs
@@ -34,8 +41,8 @@ step-requires c κs = search needs
 is-bad-requires : tie.Need-is-bad-requires Inv-loop μ-loop
 is-bad-requires c κs = search needs
 
-returns : tie.Need-returns Inv-loop μ-loop
-returns c = sym (c .before .before .before .before .before .loop .inv .1 .1 ∙ bad-here (c .before .before .before .before .before .loop .scan) (c .before .before .step .result) (c .before .before .before .before .before .before .before .before .args .s .now) (c .before .before .before .before .before .loop .i) (omega arith) (c .before .before .before .before .before .loop .inv .0 .1) (c .before .before .step .ensures) (c .before .before .before .shared-slice-known2 .given (c .before .before .before .before .before .loop .i) .fits) (c .before .before .before .before .before .loop .inv .1 .0) (c .before .is-bad .result) (c .before .is-bad .ensures) (c .if1 .taken))
+returns-2 : tie.Need-returns-2 Inv-loop μ-loop
+returns-2 c = sym (c .before .before .before .before .before .loop .inv .1 .1 ∙ bad-here (c .before .before .before .before .before .loop .scan) (c .before .before .step .result) (c .before .before .before .before .before .before .before .before .before .before .args .s .now) (c .before .before .before .before .before .loop .i) (omega arith) (c .before .before .before .before .before .loop .inv .0 .1) (c .before .before .step .ensures) (c .before .before .before .shared-slice-known2 .given (c .before .before .before .before .before .loop .i) .fits) (c .before .before .before .before .before .loop .inv .1 .0) (c .before .is-bad .result) (c .before .is-bad .ensures) (c .if2 .taken))
 
 add-i : tie.Need-add-i Inv-loop μ-loop
 add-i c = search needs
@@ -44,10 +51,10 @@ loop-less : tie.Need-loop-less Inv-loop μ-loop
 loop-less c = search needs
 
 loop-again : tie.Need-loop-again Inv-loop μ-loop
-loop-again c = ((omega arith, fair-more (c .before .before .before .before .before .loop .scan) (c .before .before .step .result) (c .before .before .before .before .before .before .before .before .args .s .now) (c .before .before .before .before .before .loop .i) (omega arith) (c .before .before .before .before .before .loop .inv .0 .1) (c .before .before .step .ensures) (c .before .before .before .shared-slice-known2 .given (c .before .before .before .before .before .loop .i) .fits)), (text-more (c .before .before .before .before .before .loop .scan) (c .before .before .step .result) (c .before .before .before .before .before .before .before .before .args .s .now) (c .before .before .before .before .before .loop .i) (omega arith) (c .before .before .before .before .before .loop .inv .0 .1) (c .before .before .step .ensures) (c .before .before .before .shared-slice-known2 .given (c .before .before .before .before .before .loop .i) .fits) (c .before .before .before .before .before .loop .inv .1 .0), c .before .before .before .before .before .loop .inv .1 .1 ∙ bad-further (c .before .before .before .before .before .loop .scan) (c .before .before .step .result) (c .before .before .before .before .before .before .before .before .args .s .now) (c .before .before .before .before .before .loop .i) (omega arith) (c .before .before .before .before .before .loop .inv .0 .1) (c .before .before .step .ensures) (c .before .before .before .shared-slice-known2 .given (c .before .before .before .before .before .loop .i) .fits) (c .before .before .before .before .before .loop .inv .1 .0) (c .before .is-bad .result) (c .before .is-bad .ensures) (c .if1 .left)))
+loop-again c = ((omega arith, fair-more (c .before .before .before .before .before .loop .scan) (c .before .before .step .result) (c .before .before .before .before .before .before .before .before .before .before .args .s .now) (c .before .before .before .before .before .loop .i) (omega arith) (c .before .before .before .before .before .loop .inv .0 .1) (c .before .before .step .ensures) (c .before .before .before .shared-slice-known2 .given (c .before .before .before .before .before .loop .i) .fits)), (text-more (c .before .before .before .before .before .loop .scan) (c .before .before .step .result) (c .before .before .before .before .before .before .before .before .before .before .args .s .now) (c .before .before .before .before .before .loop .i) (omega arith) (c .before .before .before .before .before .loop .inv .0 .1) (c .before .before .step .ensures) (c .before .before .before .shared-slice-known2 .given (c .before .before .before .before .before .loop .i) .fits) (c .before .before .before .before .before .loop .inv .1 .0), c .before .before .before .before .before .loop .inv .1 .1 ∙ bad-further (c .before .before .before .before .before .loop .scan) (c .before .before .step .result) (c .before .before .before .before .before .before .before .before .before .before .args .s .now) (c .before .before .before .before .before .loop .i) (omega arith) (c .before .before .before .before .before .loop .inv .0 .1) (c .before .before .step .ensures) (c .before .before .before .shared-slice-known2 .given (c .before .before .before .before .before .loop .i) .fits) (c .before .before .before .before .before .loop .inv .1 .0) (c .before .is-bad .result) (c .before .is-bad .ensures) (c .if2 .left)))
 
-returns-2 : tie.Need-returns-2 Inv-loop μ-loop
-returns-2 c = sym (c .before .loop .inv .1 .1 ∙ bad-done (c .before .loop .scan) (c .before .before .before .before .args .s .now) (c .before .loop .i) (omega arith))
+returns-3 : tie.Need-returns-3 Inv-loop μ-loop
+returns-3 c = sym (c .before .loop .inv .1 .1 ∙ bad-done (c .before .loop .scan) (c .before .before .before .before .before .before .args .s .now) (c .before .loop .i) (omega arith))
 
 pub has-bad-escape-spec : {M : Type 1} → statement M
 has-bad-escape-spec =
@@ -55,13 +62,15 @@ has-bad-escape-spec =
     (tie.spec
     Inv-loop
     μ-loop
+    has-backslash-requires
+    returns
     text-requires
     loop-holds
     shared-slice-read-step
     step-requires
     is-bad-requires
-    returns
+    returns-2
     add-i
     loop-less
     loop-again
-    returns-2)
+    returns-3)

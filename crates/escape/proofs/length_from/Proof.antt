@@ -1,10 +1,11 @@
 -- The invariant: what was counted and what the rest stands for make the whole length.
 use Prim.Native.Nat.{_≤_, _-_, _+_}
-use mathlib.Core.Path.{_≡_, ap}
+use mathlib.Core.Path.{_≡_, ap, sym, _∙_}
 use native.Mathlib.Omega.{arith}
+use borrow.Author.Tests.{not-true}
 use lib.ListN.{length, drop}
 use Rattle.escape.specs.Code.{undone, Fair}
-use Rattle.escape.proofs.Walk.{fair-more, length-more, undone-end}
+use Rattle.escape.proofs.Walk.{fair-more, length-more, undone-end, plain-length}
 use borrow.Author.Needs.{needs}
 use Rattle.escape.proofs.length_from.Statement.{statement}
 use Rattle.escape.proofs.length_from.Tie as tie
@@ -15,8 +16,14 @@ Inv-loop s scan₀ i₀ total₀ scan i total = ((i ≤ length s) × Fair scan) 
 abbrev μ-loop : tie.MeasureT-loop
 μ-loop s scan₀ i₀ total₀ scan i total = length s - i
 
+has-backslash-requires : tie.Need-has-backslash-requires Inv-loop μ-loop
+has-backslash-requires c κs = search needs
+
+returns : tie.Need-returns Inv-loop μ-loop
+returns c = plain-length (c .before .before .before .args .start) (c .before .before .before .pre) (c .before .before .before .args .s .now) (sym (c .before .has-backslash .ensures) ∙ not-true _ (c .if1 .taken))
+
 loop-holds : tie.Need-loop-holds Inv-loop μ-loop
-loop-holds c = ((omega arith, c .before .pre .fair), omega arith)
+loop-holds c = ((omega arith, c .before .before .before .pre .fair), omega arith)
 
 shared-slice-read-step : tie.Need-shared-slice-read-step Inv-loop μ-loop
 shared-slice-read-step c = search needs
@@ -25,7 +32,7 @@ step-requires : tie.Need-step-requires Inv-loop μ-loop
 step-requires c κs = search needs
 
 add-total : tie.Need-add-total Inv-loop μ-loop
-add-total c = omega (arith, length-more (c .before .before .before .before .loop .scan) (c .before .step .result) (c .before .before .before .before .before .before .args .s .now) (c .before .before .before .before .loop .i) (omega arith) (c .before .before .before .before .loop .inv .0 .1) (c .before .step .ensures) (c .before .before .shared-slice-known2 .given (c .before .before .before .before .loop .i) .fits), c .before .before .before .before .before .before .pre .short (c .before .before .before .before .before .before .args .s .now), c .before .before .before .before .loop .inv .1)
+add-total c = omega (arith, length-more (c .before .before .before .before .loop .scan) (c .before .step .result) (c .before .before .before .before .before .before .before .before .args .s .now) (c .before .before .before .before .loop .i) (omega arith) (c .before .before .before .before .loop .inv .0 .1) (c .before .step .ensures) (c .before .before .shared-slice-known2 .given (c .before .before .before .before .loop .i) .fits), c .before .before .before .before .before .before .before .before .pre .short (c .before .before .before .before .before .before .before .before .args .s .now), c .before .before .before .before .loop .inv .1)
 
 add-i : tie.Need-add-i Inv-loop μ-loop
 add-i c = search needs
@@ -34,10 +41,10 @@ loop-less : tie.Need-loop-less Inv-loop μ-loop
 loop-less c = search needs
 
 loop-again : tie.Need-loop-again Inv-loop μ-loop
-loop-again c = ((omega arith, fair-more (c .before .before .before .before .loop .scan) (c .before .step .result) (c .before .before .before .before .before .before .args .s .now) (c .before .before .before .before .loop .i) (omega arith) (c .before .before .before .before .loop .inv .0 .1) (c .before .step .ensures) (c .before .before .shared-slice-known2 .given (c .before .before .before .before .loop .i) .fits)), omega (arith, length-more (c .before .before .before .before .loop .scan) (c .before .step .result) (c .before .before .before .before .before .before .args .s .now) (c .before .before .before .before .loop .i) (omega arith) (c .before .before .before .before .loop .inv .0 .1) (c .before .step .ensures) (c .before .before .shared-slice-known2 .given (c .before .before .before .before .loop .i) .fits), c .before .before .before .before .loop .inv .1))
+loop-again c = ((omega arith, fair-more (c .before .before .before .before .loop .scan) (c .before .step .result) (c .before .before .before .before .before .before .before .before .args .s .now) (c .before .before .before .before .loop .i) (omega arith) (c .before .before .before .before .loop .inv .0 .1) (c .before .step .ensures) (c .before .before .shared-slice-known2 .given (c .before .before .before .before .loop .i) .fits)), omega (arith, length-more (c .before .before .before .before .loop .scan) (c .before .step .result) (c .before .before .before .before .before .before .before .before .args .s .now) (c .before .before .before .before .loop .i) (omega arith) (c .before .before .before .before .loop .inv .0 .1) (c .before .step .ensures) (c .before .before .shared-slice-known2 .given (c .before .before .before .before .loop .i) .fits), c .before .before .before .before .loop .inv .1))
 
-returns : tie.Need-returns Inv-loop μ-loop
-returns c = omega (arith, c .before .loop .inv .1, ap length (undone-end (c .before .loop .scan) (c .before .before .before .args .s .now) (c .before .loop .i) (omega arith)))
+returns-2 : tie.Need-returns-2 Inv-loop μ-loop
+returns-2 c = omega (arith, c .before .loop .inv .1, ap length (undone-end (c .before .loop .scan) (c .before .before .before .before .before .args .s .now) (c .before .loop .i) (omega arith)))
 
 pub length-from-spec : {M : Type 1} → statement M
 length-from-spec =
@@ -45,6 +52,8 @@ length-from-spec =
     (tie.spec
     Inv-loop
     μ-loop
+    has-backslash-requires
+    returns
     loop-holds
     shared-slice-read-step
     step-requires
@@ -52,4 +61,4 @@ length-from-spec =
     add-i
     loop-less
     loop-again
-    returns)
+    returns-2)

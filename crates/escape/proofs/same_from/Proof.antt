@@ -2,11 +2,12 @@
 use Prim.Native.Nat.{_≤_, _-_}
 use mathlib.Core.Path.{_≡_, refl, sym, _∙_}
 use native.Mathlib.Omega.{arith}
+use borrow.Author.Tests.{not-true}
 use lib.ListN.{length, drop}
 use lib.Seq.{length-take-le}
 use Rattle.text.specs.Text.{same-text}
 use Rattle.escape.specs.Code.{undone, Fair}
-use Rattle.escape.proofs.Walk.{fair-more, same-more, same-not, same-fits, same-done, four-fits}
+use Rattle.escape.proofs.Walk.{fair-more, same-more, same-not, same-fits, same-done, four-fits, plain-same}
 use borrow.Author.Needs.{needs}
 use Rattle.escape.proofs.same_from.Statement.{statement}
 use Rattle.escape.proofs.same_from.Tie as tie
@@ -17,8 +18,17 @@ Inv-loop s t scan₀ i₀ j₀ scan i j = ((i ≤ length s) × Fair scan) × ((j
 abbrev μ-loop : tie.MeasureT-loop
 μ-loop s t scan₀ i₀ j₀ scan i j = length s - i
 
+has-backslash-requires : tie.Need-has-backslash-requires Inv-loop μ-loop
+has-backslash-requires c κs = search needs
+
+same-requires : tie.Need-same-requires Inv-loop μ-loop
+same-requires c κs = search needs
+
+returns : tie.Need-returns Inv-loop μ-loop
+returns c = plain-same (c .before .before .before .before .before .args .start) (c .before .before .before .before .before .pre) (c .before .before .before .before .before .args .s .now) (sym (c .before .before .has-backslash .ensures) ∙ not-true _ (c .before .if1 .taken)) (c .before .before .before .before .before .args .t .now) (c .same .result) (c .same .ensures)
+
 loop-holds : tie.Need-loop-holds Inv-loop μ-loop
-loop-holds c = ((omega arith, c .before .before .pre .fair), (omega arith, refl))
+loop-holds c = ((omega arith, c .before .before .before .before .pre .fair), (omega arith, refl))
 
 shared-slice-read-step : tie.Need-shared-slice-read-step Inv-loop μ-loop
 shared-slice-read-step c = search needs
@@ -30,16 +40,16 @@ bytes-requires : tie.Need-bytes-requires Inv-loop μ-loop
 bytes-requires c κs = search needs
 
 array-share-prefix-b : tie.Need-array-share-prefix-b Inv-loop μ-loop
-array-share-prefix-b c = four-fits (c .before .step .result) (c .bytes .result) (c .bytes .ensures) (fair-more (c .before .before .before .before .loop .scan) (c .before .step .result) (c .before .before .before .before .before .before .before .args .s .now) (c .before .before .before .before .loop .i) (omega arith) (c .before .before .before .before .loop .inv .0 .1) (c .before .step .ensures) (c .before .before .shared-slice-known3 .given (c .before .before .before .before .loop .i) .fits) .small)
+array-share-prefix-b c = four-fits (c .before .step .result) (c .bytes .result) (c .bytes .ensures) (fair-more (c .before .before .before .before .loop .scan) (c .before .step .result) (c .before .before .before .before .before .before .before .before .before .args .s .now) (c .before .before .before .before .loop .i) (omega arith) (c .before .before .before .before .loop .inv .0 .1) (c .before .step .ensures) (c .before .before .shared-slice-known3 .given (c .before .before .before .before .loop .i) .fits) .small)
 
 slice-aggregate-goes-on : tie.Need-slice-aggregate-goes-on Inv-loop μ-loop
-slice-aggregate-goes-on c = sym (length-take-le (c .before .before .step .result .n) (c .before .bytes .result) (four-fits (c .before .before .step .result) (c .before .bytes .result) (c .before .bytes .ensures) (fair-more (c .before .before .before .before .before .loop .scan) (c .before .before .step .result) (c .before .before .before .before .before .before .before .before .args .s .now) (c .before .before .before .before .before .loop .i) (omega arith) (c .before .before .before .before .before .loop .inv .0 .1) (c .before .before .step .ensures) (c .before .before .before .shared-slice-known3 .given (c .before .before .before .before .before .loop .i) .fits) .small)))
+slice-aggregate-goes-on c = sym (length-take-le (c .before .before .step .result .n) (c .before .bytes .result) (four-fits (c .before .before .step .result) (c .before .bytes .result) (c .before .bytes .ensures) (fair-more (c .before .before .before .before .before .loop .scan) (c .before .before .step .result) (c .before .before .before .before .before .before .before .before .before .before .args .s .now) (c .before .before .before .before .before .loop .i) (omega arith) (c .before .before .before .before .before .loop .inv .0 .1) (c .before .before .step .ensures) (c .before .before .before .shared-slice-known3 .given (c .before .before .before .before .before .loop .i) .fits) .small)))
 
 goes-on-requires : tie.Need-goes-on-requires Inv-loop μ-loop
 goes-on-requires c κs = search needs
 
 add-j : tie.Need-add-j Inv-loop μ-loop
-add-j c = omega (arith, same-fits (c .before .before .before .before .before .before .before .loop .scan) (c .before .before .before .before .step .result) (c .before .before .before .before .before .before .before .before .before .before .args .s .now) (c .before .before .before .before .before .before .before .loop .i) (omega arith) (c .before .before .before .before .before .before .before .loop .inv .0 .1) (c .before .before .before .before .step .ensures) (c .before .before .before .before .before .shared-slice-known3 .given (c .before .before .before .before .before .before .before .loop .i) .fits) (c .before .before .before .bytes .result) (c .before .before .before .bytes .ensures) (c .before .before .before .before .before .before .before .before .before .before .args .t .now) (c .before .before .before .before .before .before .before .loop .j) (c .before .goes-on .result) (c .before .goes-on .ensures) (omega arith) (c .if1 .taken))
+add-j c = omega (arith, same-fits (c .before .before .before .before .before .before .before .loop .scan) (c .before .before .before .before .step .result) (c .before .before .before .before .before .before .before .before .before .before .before .before .args .s .now) (c .before .before .before .before .before .before .before .loop .i) (omega arith) (c .before .before .before .before .before .before .before .loop .inv .0 .1) (c .before .before .before .before .step .ensures) (c .before .before .before .before .before .shared-slice-known3 .given (c .before .before .before .before .before .before .before .loop .i) .fits) (c .before .before .before .bytes .result) (c .before .before .before .bytes .ensures) (c .before .before .before .before .before .before .before .before .before .before .before .before .args .t .now) (c .before .before .before .before .before .before .before .loop .j) (c .before .goes-on .result) (c .before .goes-on .ensures) (omega arith) (c .if2 .taken))
 
 add-i : tie.Need-add-i Inv-loop μ-loop
 add-i c = search needs
@@ -48,13 +58,13 @@ loop-less : tie.Need-loop-less Inv-loop μ-loop
 loop-less c = search needs
 
 loop-again : tie.Need-loop-again Inv-loop μ-loop
-loop-again c = ((omega arith, fair-more (c .before .before .before .before .before .before .before .loop .scan) (c .before .before .before .before .step .result) (c .before .before .before .before .before .before .before .before .before .before .args .s .now) (c .before .before .before .before .before .before .before .loop .i) (omega arith) (c .before .before .before .before .before .before .before .loop .inv .0 .1) (c .before .before .before .before .step .ensures) (c .before .before .before .before .before .shared-slice-known3 .given (c .before .before .before .before .before .before .before .loop .i) .fits)), (same-fits (c .before .before .before .before .before .before .before .loop .scan) (c .before .before .before .before .step .result) (c .before .before .before .before .before .before .before .before .before .before .args .s .now) (c .before .before .before .before .before .before .before .loop .i) (omega arith) (c .before .before .before .before .before .before .before .loop .inv .0 .1) (c .before .before .before .before .step .ensures) (c .before .before .before .before .before .shared-slice-known3 .given (c .before .before .before .before .before .before .before .loop .i) .fits) (c .before .before .before .bytes .result) (c .before .before .before .bytes .ensures) (c .before .before .before .before .before .before .before .before .before .before .args .t .now) (c .before .before .before .before .before .before .before .loop .j) (c .before .goes-on .result) (c .before .goes-on .ensures) (omega arith) (c .if1 .taken), c .before .before .before .before .before .before .before .loop .inv .1 .1 ∙ same-more (c .before .before .before .before .before .before .before .loop .scan) (c .before .before .before .before .step .result) (c .before .before .before .before .before .before .before .before .before .before .args .s .now) (c .before .before .before .before .before .before .before .loop .i) (omega arith) (c .before .before .before .before .before .before .before .loop .inv .0 .1) (c .before .before .before .before .step .ensures) (c .before .before .before .before .before .shared-slice-known3 .given (c .before .before .before .before .before .before .before .loop .i) .fits) (c .before .before .before .bytes .result) (c .before .before .before .bytes .ensures) (c .before .before .before .before .before .before .before .before .before .before .args .t .now) (c .before .before .before .before .before .before .before .loop .j) (c .before .goes-on .result) (c .before .goes-on .ensures) (c .if1 .taken)))
-
-returns : tie.Need-returns Inv-loop μ-loop
-returns c = sym (c .before .before .before .before .before .before .before .loop .inv .1 .1 ∙ same-not (c .before .before .before .before .before .before .before .loop .scan) (c .before .before .before .before .step .result) (c .before .before .before .before .before .before .before .before .before .before .args .s .now) (c .before .before .before .before .before .before .before .loop .i) (omega arith) (c .before .before .before .before .before .before .before .loop .inv .0 .1) (c .before .before .before .before .step .ensures) (c .before .before .before .before .before .shared-slice-known3 .given (c .before .before .before .before .before .before .before .loop .i) .fits) (c .before .before .before .bytes .result) (c .before .before .before .bytes .ensures) (c .before .before .before .before .before .before .before .before .before .before .args .t .now) (c .before .before .before .before .before .before .before .loop .j) (c .before .goes-on .result) (c .before .goes-on .ensures) (c .if1 .left))
+loop-again c = ((omega arith, fair-more (c .before .before .before .before .before .before .before .loop .scan) (c .before .before .before .before .step .result) (c .before .before .before .before .before .before .before .before .before .before .before .before .args .s .now) (c .before .before .before .before .before .before .before .loop .i) (omega arith) (c .before .before .before .before .before .before .before .loop .inv .0 .1) (c .before .before .before .before .step .ensures) (c .before .before .before .before .before .shared-slice-known3 .given (c .before .before .before .before .before .before .before .loop .i) .fits)), (same-fits (c .before .before .before .before .before .before .before .loop .scan) (c .before .before .before .before .step .result) (c .before .before .before .before .before .before .before .before .before .before .before .before .args .s .now) (c .before .before .before .before .before .before .before .loop .i) (omega arith) (c .before .before .before .before .before .before .before .loop .inv .0 .1) (c .before .before .before .before .step .ensures) (c .before .before .before .before .before .shared-slice-known3 .given (c .before .before .before .before .before .before .before .loop .i) .fits) (c .before .before .before .bytes .result) (c .before .before .before .bytes .ensures) (c .before .before .before .before .before .before .before .before .before .before .before .before .args .t .now) (c .before .before .before .before .before .before .before .loop .j) (c .before .goes-on .result) (c .before .goes-on .ensures) (omega arith) (c .if2 .taken), c .before .before .before .before .before .before .before .loop .inv .1 .1 ∙ same-more (c .before .before .before .before .before .before .before .loop .scan) (c .before .before .before .before .step .result) (c .before .before .before .before .before .before .before .before .before .before .before .before .args .s .now) (c .before .before .before .before .before .before .before .loop .i) (omega arith) (c .before .before .before .before .before .before .before .loop .inv .0 .1) (c .before .before .before .before .step .ensures) (c .before .before .before .before .before .shared-slice-known3 .given (c .before .before .before .before .before .before .before .loop .i) .fits) (c .before .before .before .bytes .result) (c .before .before .before .bytes .ensures) (c .before .before .before .before .before .before .before .before .before .before .before .before .args .t .now) (c .before .before .before .before .before .before .before .loop .j) (c .before .goes-on .result) (c .before .goes-on .ensures) (c .if2 .taken)))
 
 returns-2 : tie.Need-returns-2 Inv-loop μ-loop
-returns-2 c = sym (c .before .loop .inv .1 .1 ∙ same-done (c .before .loop .scan) (c .before .before .before .before .args .s .now) (c .before .before .before .before .args .t .now) (c .before .loop .i) (c .before .loop .j) (omega arith) (omega arith))
+returns-2 c = sym (c .before .before .before .before .before .before .before .loop .inv .1 .1 ∙ same-not (c .before .before .before .before .before .before .before .loop .scan) (c .before .before .before .before .step .result) (c .before .before .before .before .before .before .before .before .before .before .before .before .args .s .now) (c .before .before .before .before .before .before .before .loop .i) (omega arith) (c .before .before .before .before .before .before .before .loop .inv .0 .1) (c .before .before .before .before .step .ensures) (c .before .before .before .before .before .shared-slice-known3 .given (c .before .before .before .before .before .before .before .loop .i) .fits) (c .before .before .before .bytes .result) (c .before .before .before .bytes .ensures) (c .before .before .before .before .before .before .before .before .before .before .before .before .args .t .now) (c .before .before .before .before .before .before .before .loop .j) (c .before .goes-on .result) (c .before .goes-on .ensures) (c .if2 .left))
+
+returns-3 : tie.Need-returns-3 Inv-loop μ-loop
+returns-3 c = sym (c .before .loop .inv .1 .1 ∙ same-done (c .before .loop .scan) (c .before .before .before .before .before .before .args .s .now) (c .before .before .before .before .before .before .args .t .now) (c .before .loop .i) (c .before .loop .j) (omega arith) (omega arith))
 
 pub same-from-spec : {M : Type 1} → statement M
 same-from-spec =
@@ -62,6 +72,9 @@ same-from-spec =
     (tie.spec
     Inv-loop
     μ-loop
+    has-backslash-requires
+    same-requires
+    returns
     loop-holds
     shared-slice-read-step
     step-requires
@@ -73,5 +86,5 @@ same-from-spec =
     add-i
     loop-less
     loop-again
-    returns
-    returns-2)
+    returns-2
+    returns-3)

@@ -1,11 +1,12 @@
 -- The invariant: a front of the text is written, and the rest of it is what the rest stands for.
 use Prim.Native.Nat.{_≤_, _-_}
-use mathlib.Core.Path.{sym}
+use mathlib.Core.Path.{sym, _∙_}
 use native.Mathlib.Omega.{arith}
+use borrow.Author.Tests.{not-true}
 use lib.ListN.{length, drop}
 use lib.Seq.{length-take-le}
 use Rattle.escape.specs.Code.{undone, Fair}
-use Rattle.escape.proofs.Walk.{fair-more, length-more, four-fits, Halfway, halfway-start, halfway-turn, halfway-fits, halfway-size, halfway-done, undone-end}
+use Rattle.escape.proofs.Walk.{fair-more, length-more, four-fits, Halfway, halfway-start, halfway-turn, halfway-fits, halfway-size, halfway-done, undone-end, plain-written}
 use borrow.Author.Needs.{needs}
 use Rattle.escape.proofs.write_from.Statement.{statement}
 use Rattle.escape.proofs.write_from.Tie as tie
@@ -16,8 +17,20 @@ Inv-loop s out₀ scan₀ i₀ j₀ out scan i j = ((i ≤ length s) × Fair sca
 abbrev μ-loop : tie.MeasureT-loop
 μ-loop s out₀ scan₀ i₀ j₀ out scan i j = length s - i
 
+has-backslash-requires : tie.Need-has-backslash-requires Inv-loop μ-loop
+has-backslash-requires c κs = search needs
+
+copy-requires : tie.Need-copy-requires Inv-loop μ-loop
+copy-requires c κs = search needs
+
+same-length : tie.Need-same-length Inv-loop μ-loop
+same-length c = search needs
+
+returns : tie.Need-returns Inv-loop μ-loop
+returns c = plain-written (c .before .before .before .before .before .before .before .before .args .start) (c .before .before .before .before .before .before .before .before .pre) (c .before .before .before .before .before .before .before .before .args .s .now) (sym (c .before .before .before .before .before .has-backslash .ensures) ∙ not-true _ (c .before .before .before .before .if1 .taken)) (c .before .before .before .before .before .before .before .before .args .out .now) (c .before .before .copy .last .1 .0) (λ i. c .before .before .before .before .before .before .before .shared-slice-known .given i .fits) (c .before .before .copy .ensures)
+
 loop-holds : tie.Need-loop-holds Inv-loop μ-loop
-loop-holds c = ((omega arith, c .before .before .pre .fair), halfway-start _ (c .before .before .args .out .now))
+loop-holds c = ((omega arith, c .before .before .before .before .pre .fair), halfway-start _ (c .before .before .before .before .args .out .now))
 
 shared-slice-read-step : tie.Need-shared-slice-read-step Inv-loop μ-loop
 shared-slice-read-step c = search needs
@@ -29,16 +42,16 @@ bytes-requires : tie.Need-bytes-requires Inv-loop μ-loop
 bytes-requires c κs = search needs
 
 array-share-prefix-b : tie.Need-array-share-prefix-b Inv-loop μ-loop
-array-share-prefix-b c = four-fits (c .before .before .step .result) (c .before .bytes .result) (c .before .bytes .ensures) (fair-more (c .before .before .before .before .before .loop .scan) (c .before .before .step .result) (c .before .before .before .before .before .before .before .before .args .s .now) (c .before .before .before .before .before .loop .i) (omega arith) (c .before .before .before .before .before .loop .inv .0 .1) (c .before .before .step .ensures) (c .before .before .before .shared-slice-known2 .given (c .before .before .before .before .before .loop .i) .fits) .small)
+array-share-prefix-b c = four-fits (c .before .before .step .result) (c .before .bytes .result) (c .before .bytes .ensures) (fair-more (c .before .before .before .before .before .loop .scan) (c .before .before .step .result) (c .before .before .before .before .before .before .before .before .before .before .args .s .now) (c .before .before .before .before .before .loop .i) (omega arith) (c .before .before .before .before .before .loop .inv .0 .1) (c .before .before .step .ensures) (c .before .before .before .shared-slice-known2 .given (c .before .before .before .before .before .loop .i) .fits) .small)
 
 slice-aggregate-put : tie.Need-slice-aggregate-put Inv-loop μ-loop
-slice-aggregate-put c = sym (length-take-le (c .before .before .before .step .result .n) (c .before .before .bytes .result) (four-fits (c .before .before .before .step .result) (c .before .before .bytes .result) (c .before .before .bytes .ensures) (fair-more (c .before .before .before .before .before .before .loop .scan) (c .before .before .before .step .result) (c .before .before .before .before .before .before .before .before .before .args .s .now) (c .before .before .before .before .before .before .loop .i) (omega arith) (c .before .before .before .before .before .before .loop .inv .0 .1) (c .before .before .before .step .ensures) (c .before .before .before .before .shared-slice-known2 .given (c .before .before .before .before .before .before .loop .i) .fits) .small)))
+slice-aggregate-put c = sym (length-take-le (c .before .before .before .step .result .n) (c .before .before .bytes .result) (four-fits (c .before .before .before .step .result) (c .before .before .bytes .result) (c .before .before .bytes .ensures) (fair-more (c .before .before .before .before .before .before .loop .scan) (c .before .before .before .step .result) (c .before .before .before .before .before .before .before .before .before .before .before .args .s .now) (c .before .before .before .before .before .before .loop .i) (omega arith) (c .before .before .before .before .before .before .loop .inv .0 .1) (c .before .before .before .step .ensures) (c .before .before .before .before .shared-slice-known2 .given (c .before .before .before .before .before .before .loop .i) .fits) .small)))
 
 put-requires : tie.Need-put-requires Inv-loop μ-loop
-put-requires c κs = omega (arith, length-take-le (c .before .before .before .step .result .n) (c .before .before .bytes .result) (four-fits (c .before .before .before .step .result) (c .before .before .bytes .result) (c .before .before .bytes .ensures) (fair-more (c .before .before .before .before .before .before .loop .scan) (c .before .before .before .step .result) (c .before .before .before .before .before .before .before .before .before .args .s .now) (c .before .before .before .before .before .before .loop .i) (omega arith) (c .before .before .before .before .before .before .loop .inv .0 .1) (c .before .before .before .step .ensures) (c .before .before .before .before .shared-slice-known2 .given (c .before .before .before .before .before .before .loop .i) .fits) .small)), length-more (c .before .before .before .before .before .before .loop .scan) (c .before .before .before .step .result) (c .before .before .before .before .before .before .before .before .before .args .s .now) (c .before .before .before .before .before .before .loop .i) (omega arith) (c .before .before .before .before .before .before .loop .inv .0 .1) (c .before .before .before .step .ensures) (c .before .before .before .before .shared-slice-known2 .given (c .before .before .before .before .before .before .loop .i) .fits), halfway-fits _ _ _ _ _ (c .before .before .before .before .before .before .loop .inv .1), c .before .before .before .before .before .before .before .before .before .pre .short (c .before .before .before .before .before .before .before .before .before .args .s .now))
+put-requires c κs = omega (arith, length-take-le (c .before .before .before .step .result .n) (c .before .before .bytes .result) (four-fits (c .before .before .before .step .result) (c .before .before .bytes .result) (c .before .before .bytes .ensures) (fair-more (c .before .before .before .before .before .before .loop .scan) (c .before .before .before .step .result) (c .before .before .before .before .before .before .before .before .before .before .before .args .s .now) (c .before .before .before .before .before .before .loop .i) (omega arith) (c .before .before .before .before .before .before .loop .inv .0 .1) (c .before .before .before .step .ensures) (c .before .before .before .before .shared-slice-known2 .given (c .before .before .before .before .before .before .loop .i) .fits) .small)), length-more (c .before .before .before .before .before .before .loop .scan) (c .before .before .before .step .result) (c .before .before .before .before .before .before .before .before .before .before .before .args .s .now) (c .before .before .before .before .before .before .loop .i) (omega arith) (c .before .before .before .before .before .before .loop .inv .0 .1) (c .before .before .before .step .ensures) (c .before .before .before .before .shared-slice-known2 .given (c .before .before .before .before .before .before .loop .i) .fits), halfway-fits _ _ _ _ _ (c .before .before .before .before .before .before .loop .inv .1), c .before .before .before .before .before .before .before .before .before .before .before .pre .short (c .before .before .before .before .before .before .before .before .before .before .before .args .s .now))
 
 add-j : tie.Need-add-j Inv-loop μ-loop
-add-j c = omega (arith, length-more (c .before .before .before .before .before .before .before .before .before .loop .scan) (c .before .before .before .before .before .before .step .result) (c .before .before .before .before .before .before .before .before .before .before .before .before .args .s .now) (c .before .before .before .before .before .before .before .before .before .loop .i) (omega arith) (c .before .before .before .before .before .before .before .before .before .loop .inv .0 .1) (c .before .before .before .before .before .before .step .ensures) (c .before .before .before .before .before .before .before .shared-slice-known2 .given (c .before .before .before .before .before .before .before .before .before .loop .i) .fits), halfway-fits _ _ _ _ _ (c .before .before .before .before .before .before .before .before .before .loop .inv .1), c .before .before .before .before .before .before .before .before .before .before .before .before .pre .short (c .before .before .before .before .before .before .before .before .before .before .before .before .args .s .now))
+add-j c = omega (arith, length-more (c .before .before .before .before .before .before .before .before .before .loop .scan) (c .before .before .before .before .before .before .step .result) (c .before .before .before .before .before .before .before .before .before .before .before .before .before .before .args .s .now) (c .before .before .before .before .before .before .before .before .before .loop .i) (omega arith) (c .before .before .before .before .before .before .before .before .before .loop .inv .0 .1) (c .before .before .before .before .before .before .step .ensures) (c .before .before .before .before .before .before .before .shared-slice-known2 .given (c .before .before .before .before .before .before .before .before .before .loop .i) .fits), halfway-fits _ _ _ _ _ (c .before .before .before .before .before .before .before .before .before .loop .inv .1), c .before .before .before .before .before .before .before .before .before .before .before .before .before .before .pre .short (c .before .before .before .before .before .before .before .before .before .before .before .before .before .before .args .s .now))
 
 add-i : tie.Need-add-i Inv-loop μ-loop
 add-i c = search needs
@@ -47,13 +60,13 @@ loop-less : tie.Need-loop-less Inv-loop μ-loop
 loop-less c = search needs
 
 loop-again : tie.Need-loop-again Inv-loop μ-loop
-loop-again c = ((omega arith, fair-more (c .before .before .before .before .before .before .before .before .before .loop .scan) (c .before .before .before .before .before .before .step .result) (c .before .before .before .before .before .before .before .before .before .before .before .before .args .s .now) (c .before .before .before .before .before .before .before .before .before .loop .i) (omega arith) (c .before .before .before .before .before .before .before .before .before .loop .inv .0 .1) (c .before .before .before .before .before .before .step .ensures) (c .before .before .before .before .before .before .before .shared-slice-known2 .given (c .before .before .before .before .before .before .before .before .before .loop .i) .fits)), halfway-turn (c .before .before .before .before .before .before .before .before .before .loop .scan) (c .before .before .before .before .before .before .step .result) (c .before .before .before .before .before .before .before .before .before .before .before .before .args .s .now) (c .before .before .before .before .before .before .before .before .before .loop .i) (omega arith) (c .before .before .before .before .before .before .before .before .before .loop .inv .0 .1) (c .before .before .before .before .before .before .step .ensures) (c .before .before .before .before .before .before .before .shared-slice-known2 .given (c .before .before .before .before .before .before .before .before .before .loop .i) .fits) (c .before .before .before .before .before .bytes .result) (c .before .before .before .before .before .bytes .ensures) (undone (c .before .before .before .before .before .before .before .before .before .before .before .before .args .start) (c .before .before .before .before .before .before .before .before .before .before .before .before .args .s .now)) (c .before .before .before .before .before .before .before .before .before .before .before .before .args .out .now) (c .before .before .before .before .before .before .before .before .before .loop .out) _ (c .before .before .before .before .before .before .before .before .before .loop .j) (c .before .before .before .before .before .before .before .before .before .loop .inv .1) (c .before .before .put .ensures))
+loop-again c = ((omega arith, fair-more (c .before .before .before .before .before .before .before .before .before .loop .scan) (c .before .before .before .before .before .before .step .result) (c .before .before .before .before .before .before .before .before .before .before .before .before .before .before .args .s .now) (c .before .before .before .before .before .before .before .before .before .loop .i) (omega arith) (c .before .before .before .before .before .before .before .before .before .loop .inv .0 .1) (c .before .before .before .before .before .before .step .ensures) (c .before .before .before .before .before .before .before .shared-slice-known2 .given (c .before .before .before .before .before .before .before .before .before .loop .i) .fits)), halfway-turn (c .before .before .before .before .before .before .before .before .before .loop .scan) (c .before .before .before .before .before .before .step .result) (c .before .before .before .before .before .before .before .before .before .before .before .before .before .before .args .s .now) (c .before .before .before .before .before .before .before .before .before .loop .i) (omega arith) (c .before .before .before .before .before .before .before .before .before .loop .inv .0 .1) (c .before .before .before .before .before .before .step .ensures) (c .before .before .before .before .before .before .before .shared-slice-known2 .given (c .before .before .before .before .before .before .before .before .before .loop .i) .fits) (c .before .before .before .before .before .bytes .result) (c .before .before .before .before .before .bytes .ensures) (undone (c .before .before .before .before .before .before .before .before .before .before .before .before .before .before .args .start) (c .before .before .before .before .before .before .before .before .before .before .before .before .before .before .args .s .now)) (c .before .before .before .before .before .before .before .before .before .before .before .before .before .before .args .out .now) (c .before .before .before .before .before .before .before .before .before .loop .out) _ (c .before .before .before .before .before .before .before .before .before .loop .j) (c .before .before .before .before .before .before .before .before .before .loop .inv .1) (c .before .before .put .ensures))
 
-same-length : tie.Need-same-length Inv-loop μ-loop
-same-length c = halfway-size _ _ _ _ _ (c .before .loop .inv .1)
+same-length-2 : tie.Need-same-length-2 Inv-loop μ-loop
+same-length-2 c = halfway-size _ _ _ _ _ (c .before .loop .inv .1)
 
-returns : tie.Need-returns Inv-loop μ-loop
-returns c = halfway-done _ _ _ _ _ (c .before .loop .inv .1) (undone-end (c .before .loop .scan) (c .before .before .before .before .args .s .now) (c .before .loop .i) (omega arith))
+returns-2 : tie.Need-returns-2 Inv-loop μ-loop
+returns-2 c = halfway-done _ _ _ _ _ (c .before .loop .inv .1) (undone-end (c .before .loop .scan) (c .before .before .before .before .before .before .args .s .now) (c .before .loop .i) (omega arith))
 
 pub write-from-spec : {M : Type 1} → statement M
 write-from-spec =
@@ -61,6 +74,10 @@ write-from-spec =
     (tie.spec
     Inv-loop
     μ-loop
+    has-backslash-requires
+    copy-requires
+    same-length
+    returns
     loop-holds
     shared-slice-read-step
     step-requires
@@ -72,5 +89,5 @@ write-from-spec =
     add-i
     loop-less
     loop-again
-    same-length
-    returns)
+    same-length-2
+    returns-2)
