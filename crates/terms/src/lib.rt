@@ -242,10 +242,10 @@ pub fn add_blank(terms: &mut [u32], counts: Counts) -> Counts
 pub fn clear_bytes(s: &mut [u8])
     ensures { λ _. ⌜ now (s .exit) ≡ replicate (length (now (s .entry))) 0 ⌝ }
 {
-    let mut i: usize = 0;
-    while i < s.len() {
-        s[i] = 0;
-        i += 1;
+    let mut cleared: usize = 0;
+    while cleared < s.len() {
+        s[cleared] = 0;
+        cleared += 1;
     }
 }
 

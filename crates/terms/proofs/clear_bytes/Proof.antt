@@ -11,31 +11,31 @@ use Rattle.terms.proofs.clear_bytes.Statement.{statement}
 use Rattle.terms.proofs.clear_bytes.Tie as tie
 
 abbrev Inv-loop : tie.InvT-loop
-Inv-loop s₀ i₀ s i = (i ≤ length s₀) × (s ≡ over (take i (replicate (length s₀) 0)) s₀)
+Inv-loop s₀ cleared₀ s cleared = (cleared ≤ length s₀) × (s ≡ over (take cleared (replicate (length s₀) 0)) s₀)
 
 abbrev μ-loop : tie.MeasureT-loop
-μ-loop s₀ i₀ s i = length s₀ - i
+μ-loop s₀ cleared₀ s cleared = length s₀ - cleared
 
 loop-holds : tie.Need-loop-holds Inv-loop μ-loop
 loop-holds c = (omega arith, over-start (c .args .s .now))
 
 slice-write-s : tie.Need-slice-write-s Inv-loop μ-loop
-slice-write-s c = omega (arith, cleared-size (c .before .before .args .s .now) (c .before .loop .s) (c .before .loop .i) (c .before .loop .inv .1))
+slice-write-s c = omega (arith, cleared-size (c .before .before .args .s .now) (c .before .loop .s) (c .before .loop .cleared) (c .before .loop .inv .1))
 
-add-i : tie.Need-add-i Inv-loop μ-loop
-add-i c = search needs
+add-cleared : tie.Need-add-cleared Inv-loop μ-loop
+add-cleared c = search needs
 
 loop-less : tie.Need-loop-less Inv-loop μ-loop
-loop-less c = omega (arith, cleared-size (c .before .before .args .s .now) (c .before .loop .s) (c .before .loop .i) (c .before .loop .inv .1))
+loop-less c = omega (arith, cleared-size (c .before .before .args .s .now) (c .before .loop .s) (c .before .loop .cleared) (c .before .loop .inv .1))
 
 loop-again : tie.Need-loop-again Inv-loop μ-loop
-loop-again c = (omega (arith, cleared-size (c .before .before .args .s .now) (c .before .loop .s) (c .before .loop .i) (c .before .loop .inv .1)), cleared-next (c .before .before .args .s .now) (c .before .loop .s) (c .before .loop .i) (omega (arith, cleared-size (c .before .before .args .s .now) (c .before .loop .s) (c .before .loop .i) (c .before .loop .inv .1))) (c .before .loop .inv .1))
+loop-again c = (omega (arith, cleared-size (c .before .before .args .s .now) (c .before .loop .s) (c .before .loop .cleared) (c .before .loop .inv .1)), cleared-next (c .before .before .args .s .now) (c .before .loop .s) (c .before .loop .cleared) (omega (arith, cleared-size (c .before .before .args .s .now) (c .before .loop .s) (c .before .loop .cleared) (c .before .loop .inv .1))) (c .before .loop .inv .1))
 
 same-length : tie.Need-same-length Inv-loop μ-loop
-same-length c = cleared-size (c .before .before .args .s .now) (c .before .loop .s) (c .before .loop .i) (c .before .loop .inv .1)
+same-length c = cleared-size (c .before .before .args .s .now) (c .before .loop .s) (c .before .loop .cleared) (c .before .loop .inv .1)
 
 returns : tie.Need-returns Inv-loop μ-loop
-returns c = cleared-whole (c .before .before .args .s .now) (c .before .loop .s) (c .before .loop .i) (omega (arith, cleared-size (c .before .before .args .s .now) (c .before .loop .s) (c .before .loop .i) (c .before .loop .inv .1))) (c .before .loop .inv .1)
+returns c = cleared-whole (c .before .before .args .s .now) (c .before .loop .s) (c .before .loop .cleared) (omega (arith, cleared-size (c .before .before .args .s .now) (c .before .loop .s) (c .before .loop .cleared) (c .before .loop .inv .1))) (c .before .loop .inv .1)
 
 pub clear-bytes-spec : {M : Type 1} → statement M
 clear-bytes-spec =
@@ -45,7 +45,7 @@ clear-bytes-spec =
     μ-loop
     loop-holds
     slice-write-s
-    add-i
+    add-cleared
     loop-less
     loop-again
     same-length
