@@ -5,9 +5,10 @@
 #include <string.h>
 #include <time.h>
 
-size_t find_iri(const uint8_t *index, size_t index_size, const uint32_t *terms, size_t words, const uint8_t *store, size_t bytes,
+size_t hash_iri(const uint8_t *text, size_t size);
+size_t find_iri(const uint8_t *index, size_t index_size, size_t key, const uint32_t *terms, size_t words, const uint8_t *store, size_t bytes,
                 size_t count, size_t used, const uint8_t *text, size_t size);
-size_t add_iri(uint8_t *index, size_t index_size, uint32_t *terms, size_t words, uint8_t *store, size_t bytes, size_t count,
+size_t add_iri(uint8_t *index, size_t index_size, size_t key, uint32_t *terms, size_t words, uint8_t *store, size_t bytes, size_t count,
                size_t used, const uint8_t *text, size_t size);
 
 enum { SIZE = 20, TOKENS = 1048576 / SIZE, INDEX = 8 * 65536, WORDS = 5 * 65536, BYTES = 1 << 21 };
@@ -27,11 +28,13 @@ static double run(size_t distinct, size_t index_size) {
     memset(index_slice, 0, INDEX);
     size_t count = 0, used = 0;
     double start = seconds();
-    for (size_t i = 0; i < TOKENS; i++)
-        if (!find_iri(index_slice, index_size, terms, WORDS, store, BYTES, count, used, tokens[i], SIZE)) {
-            used = add_iri(index_slice, index_size, terms, WORDS, store, BYTES, count, used, tokens[i], SIZE);
+    for (size_t i = 0; i < TOKENS; i++) {
+        size_t key = hash_iri(tokens[i], SIZE);
+        if (!find_iri(index_slice, index_size, key, terms, WORDS, store, BYTES, count, used, tokens[i], SIZE)) {
+            used = add_iri(index_slice, index_size, key, terms, WORDS, store, BYTES, count, used, tokens[i], SIZE);
             count++;
         }
+    }
     double took = seconds() - start;
     if (count != distinct || used != distinct * SIZE) {
         printf("wrong: %zu terms, %zu bytes\n", count, used);

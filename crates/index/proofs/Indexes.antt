@@ -8,7 +8,7 @@ use native.Mathlib.Nat.{mod-lt}
 use native.Mathlib.Omega.{arith}
 use lib.Dec.{T, ltb}
 use borrow.Author.Tests.{ltb-true, ltb-false}
-use lib.ListN.{length, getD, drop, replicate, length-append, getD-replicate, length-replicate, List·getD-append, List·getD-eq-default}
+use lib.ListN.{length, getD, drop, length-append, List·getD-append}
 use lib.Seq.{getD-append-seam}
 use Rattle.text.specs.Text.{Text, cond}
 use Rattle.text.proofs.Compare.{by, contrary}
@@ -18,6 +18,7 @@ use Rattle.table.specs.Tables.{same-term, number-from, number, or-zero, label-o
 use Rattle.table.proofs.Numbers.{same-term-eq}
 use Rattle.table.proofs.Finding.{number-step, number-start}
 use Rattle.form.specs.Hash.{hash}
+use Rattle.clear.proofs.Zeros.{zeros, zero-at}
 use Rattle.terms.specs.declared.Counts.{Counts}
 use Rattle.terms.specs.declared.Sort.{Sort}
 use Rattle.terms.specs.Keeps.{blank-count, findable, Typed, Keeps, Means, Added, BlankAdded}
@@ -81,14 +82,6 @@ unfolding Indexed
 indexed-linked ts x I = record { heads = I .head-in; nexts = I .next-in }
 
 -- An index of no terms is a slice of zeros.
-abbrev pub zeros : ℕ → Text
-zeros n = replicate n 0
-
-zero-at : (n i : ℕ) → getD (zeros n) i 0 ≡ 0
-zero-at n i =
-    by (ltb i n) (λ e. getD-replicate n i 0 0 (ltb-true i n e))
-    (λ e. List·getD-eq-default (zeros n) 0 {n = i} (omega (arith, ltb-false i n e, length-replicate {A = ℕ} n 0)))
-
 zero-slot : (n i : ℕ) → slot-at (zeros n) i ≡ 0
 unfolding slot-at
 zero-slot n i = rw (zero-at n (4 * i), zero-at n (4 * i + 1), zero-at n (4 * i + 2), zero-at n (4 * i + 3))

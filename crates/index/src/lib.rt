@@ -5,6 +5,7 @@ ghost use Prim.Native.Nat.{ℕ, suc, _+_, _*_, _-_, _/_, _≤_, _<_};
 ghost use lib.ListN.{length};
 ghost use mathlib.Core.Bool.{false};
 ghost use Rattle.form.specs.Form.{joined, bad};
+ghost use Rattle.form.specs.Hash.{hash};
 ghost use Rattle.terms.specs.Keeps.{Room};
 ghost use Rattle.table.specs.Layout.{entry-at};
 ghost use Rattle.terms.specs.Code.{matches, Readable};
@@ -79,9 +80,10 @@ fn follow(
     0
 }
 
-// The number of the equal term, or 0.
+// The number of the equal term, or 0. The key is the hash of its text.
 pub fn find(
     index: &[u8],
+    key: usize,
     terms: &[u32],
     store: &[u8],
     counts: Counts,
@@ -91,7 +93,7 @@ pub fn find(
     back: &[u8],
     tag: &[u8],
 ) -> usize
-    requires { ⌜ Searchable (now terms) (now store) (now index) counts ⌝ }
+    requires { ⌜ Searchable (now terms) (now store) (now index) counts × (key ≡ hash (joined (now front) form (now back))) ⌝ }
     ensures { λ r. ⌜ Finds (now (terms .entry)) (now (store .entry)) (now (index .entry)) counts sort (joined (now (front .entry)) form (now (back .entry))) (now (tag .entry)) r ⌝ }
 {
     let m = index.len() / 8;
@@ -99,10 +101,9 @@ pub fn find(
     if m == 0 {
         return terms::find_from(terms, store, 0, count, sort, front, form, back, tag);
     }
-    let bucket = form::hash_joined(front, form, back) % m;
     let k = follow(
         index,
-        bucket,
+        key % m,
         count,
         terms,
         store,
@@ -128,24 +129,25 @@ pub fn find(
     )
 }
 
-// Puts the term that is the next, with this hash, on its chain.
-fn link(index: &mut [u8], count: usize, hash: usize)
+// Puts the next term, whose text has this hash, on its chain.
+fn link(index: &mut [u8], count: usize, key: usize)
     requires { ⌜ count < 4294967295 ⌝ }
-    ensures { λ _. ⌜ Links (now (index .entry)) (now (index .exit)) count hash ⌝ }
+    ensures { λ _. ⌜ Links (now (index .entry)) (now (index .exit)) count key ⌝ }
 {
     let m = index.len() / 8;
     if m <= count {
         return;
     }
-    let bucket = hash % m;
+    let bucket = key % m;
     let newest = slot(index, bucket);
     set_slot(index, m + count, newest);
     set_slot(index, bucket, count + 1);
 }
 
-// Adds a term behind the others, and to the index; the counts with it.
+// Adds a term behind the others, and to the index; the counts with it. The key is the hash of its text.
 pub fn add(
     index: &mut [u8],
+    key: usize,
     terms: &mut [u32],
     store: &mut [u8],
     counts: Counts,
@@ -155,10 +157,10 @@ pub fn add(
     back: &[u8],
     tag: &[u8],
 ) -> Counts
-    requires { ⌜ Room (now terms) (now store) counts sort (joined (now front) form (now back)) (now tag) × (bad form (now back) ≡ false) ⌝ }
+    requires { ⌜ (Room (now terms) (now store) counts sort (joined (now front) form (now back)) (now tag) × (bad form (now back) ≡ false)) × (key ≡ hash (joined (now front) form (now back))) ⌝ }
     ensures { λ r. ⌜ Enters (now (terms .entry)) (now (terms .exit)) (now (store .entry)) (now (store .exit)) (now (index .entry)) (now (index .exit)) counts r sort (joined (now (front .entry)) form (now (back .entry))) (now (tag .entry)) ⌝ }
 {
     let count = counts.terms;
-    link(index, count, form::hash_joined(front, form, back));
+    link(index, count, key);
     terms::add(terms, store, counts, sort, front, form, back, tag)
 }

@@ -1,14 +1,14 @@
 -- Writing into a slice from a place on.
 use mathlib.Core.Path.{_≡_, refl, sym, ap, _∙_}
-use mathlib.Core.List.{List, [], _∷_, _++_, append-assoc, append-nil}
+use mathlib.Core.List.{List, [], _∷_, _++_, append-assoc}
 use Prim.Native.Nat.{ℕ, zero, suc, _+_, _-_, _<_, _≤_}
 use native.Mathlib.Nat.{suc-add, zero-add}
 use native.Mathlib.Omega.{arith}
-use lib.ListN.{length, take, drop, set, replicate, length-append, length-drop, length-replicate, getD-replicate, drop-of-length-le}
-use lib.Seq.{take-at, length-take-le}
+use lib.ListN.{length, take, drop, length-append, length-drop}
+use lib.Seq.{take-at, drop-at, drop-drop, length-take-le}
 use Rattle.text.specs.Text.{Text}
 use Rattle.text.specs.Slice.{over, over-at}
-use Rattle.text.proofs.Over.{over-fits, over-append, over-nothing, over-length, over-next, over-whole}
+use Rattle.text.proofs.Over.{over-fits, over-append, over-nothing, over-length}
 use Rattle.form.proofs.Forms.{rest-all, given-back}
 
 -- The front of a slice, up to the end of what was written into it.
@@ -36,22 +36,10 @@ over-at-append (suc at) s t (b ∷ x) = rw (suc-add at (length s)) (ap (λ (l : 
 pub over-behind : (at end : ℕ) (s t x y : Text) → y ≡ over-at at s x → end ≡ at + length s → over-at end t y ≡ over-at at (s ++ t) x
 over-behind at end s t x y e h = rw (e, h) (sym (over-at-append at s t x))
 
--- A slice whose first i elements are zero.
-abbrev pub zeros : ℕ → Text
-zeros n = replicate n 0
-
-zeros-length : (n : ℕ) → length (zeros n) ≡ n
-zeros-length n = length-replicate {A = ℕ} n 0
-
-pub cleared-next : (x y : Text) (i : ℕ) → i < length x → y ≡ over (take i (zeros (length x))) x → set y i 0 ≡ over (take (i + 1) (zeros (length x))) x
-cleared-next x y i h e = ap (set y i) (sym (getD-replicate (length x) i 0 0 h)) ∙ over-next (zeros (length x)) x y i (omega (arith, zeros-length (length x))) e
-
-pub cleared-size : (x y : Text) (i : ℕ) → y ≡ over (take i (zeros (length x))) x → length y ≡ length x
-cleared-size x y i e = ap length e ∙ over-length (take i (zeros (length x))) x
-
-pub cleared-whole : (x y : Text) (i : ℕ) → length x ≤ i → y ≡ over (take i (zeros (length x))) x → y ≡ zeros (length x)
-cleared-whole x y i h e =
-    let n : length (zeros (length x)) ≡ length x = zeros-length (length x) in
-    e
-    ∙ (over-whole (zeros (length x)) x i (omega (arith, n))
-    ∙ (over-fits (zeros (length x)) x (omega (arith, n)) ∙ rw (drop-of-length-le x {i = length (zeros (length x))} (omega (arith, n)), append-nil)))
+-- What lies past what was written is as it was.
+pub drop-over-at : (at : ℕ) (s x : Text) → at + length s ≤ length x → drop (at + length s) (over-at at s x) ≡ drop (at + length s) x
+unfolding over-at
+drop-over-at at s x h =
+    let front : length (take at x) ≡ at = length-take-le at x (omega arith) in
+    rw (over-fits s (drop at x) (omega (arith, length-drop at x)), ← append-assoc (take at x) s (drop (length s) (drop at x)))
+    (drop-at (take at x ++ s) (drop (length s) (drop at x)) (at + length s) (length-append (take at x) s ∙ omega (arith, front)) ∙ drop-drop (length s) at x)

@@ -3,7 +3,7 @@ ghost use mathlib.Core.Path.{_≡_};
 ghost use mathlib.Core.Bool.{false};
 ghost use mathlib.Core.List.{_++_};
 ghost use Prim.Native.Nat.{ℕ, suc, _+_, _*_, _-_, _≤_, _<_};
-ghost use lib.ListN.{length, getD, replicate};
+ghost use lib.ListN.{length, getD};
 ghost use Rattle.text.specs.Slice.{over-at};
 ghost use Rattle.form.specs.Form.{joined, bad};
 ghost use Rattle.table.specs.Layout.{entry-at, entry-words};
@@ -236,26 +236,4 @@ pub fn add_blank(terms: &mut [u32], counts: Counts) -> Counts
     };
     put_entry(terms, counts, sort, 0, 0);
     count_term(counts, sort, 0)
-}
-
-// Makes every byte zero.
-pub fn clear_bytes(s: &mut [u8])
-    ensures { λ _. ⌜ now (s .exit) ≡ replicate (length (now (s .entry))) 0 ⌝ }
-{
-    let mut i: usize = 0;
-    while i < s.len() {
-        s[i] = 0;
-        i += 1;
-    }
-}
-
-// Makes every word zero.
-pub fn clear_words(s: &mut [u32])
-    ensures { λ _. ⌜ now (s .exit) ≡ replicate (length (now (s .entry))) 0 ⌝ }
-{
-    let mut i: usize = 0;
-    while i < s.len() {
-        s[i] = 0;
-        i += 1;
-    }
 }

@@ -12,7 +12,7 @@ slice-aggregate-add-2 c = search needs
 
 add-requires : tie.Need-add-requires
 unfolding joined undo bad
-add-requires c κs = ((c .before .before .before .before .before .before .before .before .before .pre), refl)
+add-requires c κs = ((c .before .before .before .before .before .before .before .before .before .pre .0, refl), c .before .before .before .before .before .before .before .before .before .pre .1)
 
 same-length : tie.Need-same-length
 same-length c = search needs

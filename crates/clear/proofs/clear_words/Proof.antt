@@ -5,10 +5,10 @@ use native.Mathlib.Omega.{arith}
 use lib.ListN.{length, take, replicate}
 use Rattle.text.specs.Slice.{over}
 use Rattle.text.proofs.Over.{over-start}
-use Rattle.terms.proofs.Slices.{cleared-next, cleared-size, cleared-whole}
+use Rattle.clear.proofs.Zeros.{cleared-next, cleared-size, cleared-whole}
 use borrow.Author.Needs.{needs}
-use Rattle.terms.proofs.clear_words.Statement.{statement}
-use Rattle.terms.proofs.clear_words.Tie as tie
+use Rattle.clear.proofs.clear_words.Statement.{statement}
+use Rattle.clear.proofs.clear_words.Tie as tie
 
 abbrev Inv-loop : tie.InvT-loop
 Inv-loop s₀ i₀ s i = (i ≤ length s₀) × (s ≡ over (take i (replicate (length s₀) 0)) s₀)
