@@ -1,0 +1,6 @@
+-- The long form, read again: printed tokens, how they are cut, and what they stand for.
+pub mod Cutting
+pub mod Undone
+pub mod Printed
+pub mod Forms
+pub mod Sound
