@@ -4,3 +4,4 @@ pub mod Undone
 pub mod Printed
 pub mod Forms
 pub mod Sound
+pub mod Lines

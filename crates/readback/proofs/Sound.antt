@@ -1,6 +1,6 @@
 -- The printed tokens are cut as they stand, and none is refused.
 use mathlib.Core.Path.{_≡_, refl, subst, sym, ap, ap₂, _∙_}
-use mathlib.Core.Logic.{inl, inr}
+use mathlib.Core.Logic.{_⊎_, inl, inr}
 use mathlib.Core.Bool.{Bool, true, false, not, _&&_, _||_}
 use mathlib.Core.List.{List, [], _∷_, _++_}
 use mathlib.Core.Option.{Option, none, some}
@@ -16,7 +16,7 @@ use Rattle.utf8.specs.Utf8.{width, encode, encodes, decode, first-bad}
 use Rattle.utf8.specs.Scalar.{Scalar, Scalars}
 use Rattle.utf8.proofs.Decoding.{valid-encoded}
 use Rattle.utf8.proofs.Tests.{by}
-use Rattle.token.specs.Kind.{Kind, kind-code, IRIREF, «STRING_LITERAL_QUOTE», «BLANK_NODE_LABEL», LANGTAG, carets, dot, open-brace, close-brace}
+use Rattle.token.specs.Kind.{Kind, kind-code, among, names, strings, at-prefix, at-base, PREFIX, BASE, open-bracket, open-paren, IRIREF, «STRING_LITERAL_QUOTE», «BLANK_NODE_LABEL», LANGTAG, carets, dot, open-brace, close-brace}
 use Rattle.token.specs.Regular.{hit, size}
 use Rattle.token.specs.Terminals.{token-at}
 use Rattle.token.specs.Tokens.{Token, white-space}
@@ -30,9 +30,9 @@ use Rattle.table.specs.LongForm.{decimal, iri-byte, string-byte, escaped, iri-f
 use Rattle.machine.specs.Refusals.{no-character, undeclared, no-base, too-long, one-prefix-more, too-deep}
 use Rattle.machine.specs.Demand.{depth-after, Nowhere, Fair}
 use Rattle.readback.proofs.Cutting.{Part, printed, gap, points-of, points, tokens-at, begins-token, Cut}
-use Rattle.readback.proofs.Undone.{Rule, iri-rule, string-rule, lows-scalars, scalars-append, escaped-scalars, unescape-escaped, good-escaped}
+use Rattle.readback.proofs.Undone.{lows, Rule, iri-rule, string-rule, lows-scalars, scalars-append, escaped-scalars, unescape-escaped, good-escaped}
 use Rattle.readback.proofs.Printed.{marked, label-points, label-lows, label-token, TagToken, tag-token, iri-token, string-token, dot-token, open-token, close-token, carets-token}
-use Rattle.readback.proofs.Forms.{GoodIri, Good, GoodPredicate, GoodResource, GoodGraph, GoodQuad, GoodQuads, predicate-good, resource-good, iri-part, string-part, type-parts, term-parts, triple-parts, line-parts, parts, iri-bytes, string-bytes, label-bytes, tag-bytes}
+use Rattle.readback.proofs.Forms.{number-of, GoodIri, Good, GoodPredicate, GoodResource, GoodGraph, GoodQuad, GoodQuads, predicate-good, resource-good, iri-part, string-part, type-parts, term-parts, triple-parts, line-parts, parts, iri-bytes, string-bytes, label-bytes, tag-bytes}
 
 -- ---- What a printed token stands for
 
@@ -95,10 +95,182 @@ harmless-string at s v = record {
   plain = refl;
 }
 
--- Kinds of token that nothing refuses, whatever their text.
-pub record Mild (k : Kind) : Type 0 where
-  pub harmless : (at : ℕ) (cs : List ℕ) → Harmless (token-of k at cs)
+-- Does a refusal look at the text of a token of the kind, or does the token change what is in force?
+abbrev concerns : Kind → List Bool
+concerns k =
+    among (IRIREF ∷ strings) k ∷ among names k ∷ among (IRIREF ∷ []) k ∷ among (open-bracket ∷ open-paren ∷ []) k
+    ∷ among (at-prefix ∷ PREFIX ∷ []) k ∷ among (at-base ∷ BASE ∷ []) k ∷ []
 
-mild-label : Mild «BLANK_NODE_LABEL»
+abbrev Mild : Kind → Type 0
+Mild k = concerns k ≡ false ∷ false ∷ false ∷ false ∷ false ∷ false ∷ []
+
+harmless-mild : (k : Kind) (at : ℕ) (cs : List ℕ) → Mild k → Harmless (token-of k at cs)
 unfolding no-character undeclared no-base too-long too-deep
-mild-label = record { harmless = λ at cs. record { character = refl; declared = refl; based = refl; short = refl; shallow = λ d. refl; plain = refl } }
+harmless-mild k at cs e =
+    let a : among (IRIREF ∷ strings) k ≡ false = cc in
+    let b : among names k ≡ false = cc in
+    let c : among (IRIREF ∷ []) k ≡ false = cc in
+    let d : among (open-bracket ∷ open-paren ∷ []) k ≡ false = cc in
+    let f : among (at-prefix ∷ PREFIX ∷ []) k ≡ false = cc in
+    let g : among (at-base ∷ BASE ∷ []) k ≡ false = cc in
+    record { character = simp a; declared = simp b; based = simp c; short = simp (c, b); shallow = λ n. simp d; plain = simp (f, g) }
+
+-- ---- Sound parts
+
+pub record SoundToken (k : Kind) (cs ds : List ℕ) : Type 0 where
+  pub begins : begins-token cs ≡ true
+  pub front : token-at (cs ++ ds) ≡ hit (kind-code k) (size width cs)
+  pub scalars : Scalars cs
+  pub harmless : (at : ℕ) → Harmless (token-of k at cs)
+
+pub record SoundGap (c : ℕ) : Type 0 where
+  pub white : white-space c ≡ true
+  pub no-comment : is "#" c ≡ false
+  pub one : width c ≡ 1
+  pub scalar : Scalar c
+
+abbrev pub Sound : List Part → Type 0
+Sound [] = Unit {0}
+Sound (printed k cs ∷ ps) = SoundToken k cs (points ps) × Sound ps
+Sound (gap c ∷ ps) = SoundGap c × Sound ps
+
+pub sound-cut : (ps : List Part) → Sound ps → Cut ps
+sound-cut [] s = tt
+sound-cut (printed k cs ∷ ps) s = (s .0 .begins, s .0 .front, sound-cut ps (s .1))
+sound-cut (gap c ∷ ps) s = (s .0 .white, s .0 .no-comment, s .0 .one, sound-cut ps (s .1))
+
+pub sound-scalars : (ps : List Part) → Sound ps → Scalars (points ps)
+unfolding points
+sound-scalars [] s = tt
+sound-scalars (printed k cs ∷ ps) s = scalars-append cs (points ps) (s .0 .scalars) (sound-scalars ps (s .1))
+sound-scalars (gap c ∷ ps) s = (s .0 .scalar, sound-scalars ps (s .1))
+
+abbrev AllHarmless : List Token → Type 0
+AllHarmless [] = Unit {0}
+AllHarmless (t ∷ ts) = Harmless t × AllHarmless ts
+
+sound-harmless : (ps : List Part) (at : ℕ) → Sound ps → AllHarmless (tokens-at at ps)
+unfolding tokens-at
+sound-harmless [] at s = tt
+sound-harmless (printed k cs ∷ ps) at s = (s .0 .harmless at, sound-harmless ps (at + length (encodes cs)) (s .1))
+sound-harmless (gap c ∷ ps) at s = sound-harmless ps (at + width c) (s .1)
+
+-- ---- Fairness
+
+after-last : (ts : List Token) (f : InForce) (t : Token) → after-tokens f (ts ++ t ∷ []) ≡ after-token (after-tokens f ts) t
+unfolding after-tokens
+after-last [] f t = refl
+after-last (u ∷ ts) f t = after-last ts (after-token f u) t
+
+in-force-last : (ts : List Token) (t : Token) → in-force [] ts ≡ start → Harmless t → in-force [] (ts ++ t ∷ []) ≡ start
+unfolding in-force
+in-force-last ts t e h = after-last ts start t ∙ ap (λ (f : InForce). after-token f t) e ∙ h .plain
+
+nowhere : (refuses : List Token → Token → Bool) → ((xs : List Token) (t : Token) → in-force [] xs ≡ start → Harmless t → refuses xs t ≡ false)
+    → (ts before : List Token) → in-force [] before ≡ start → AllHarmless ts → Nowhere refuses before ts
+nowhere refuses f [] before e h = tt
+nowhere refuses f (t ∷ ts) before e h = (f before t e (h .0), nowhere refuses f ts (before ++ t ∷ []) (in-force-last before t e (h .0)) (h .1))
+
+pub sound-fair : (ps : List Part) → Sound ps → Fair [] [] (tokens-at 0 ps)
+unfolding in-force after-tokens one-prefix-more
+sound-fair ps s =
+    let h = sound-harmless ps 0 s in
+    record {
+      characters = nowhere (λ xs t. no-character t) (λ xs t e u. u .character) (tokens-at 0 ps) [] refl h;
+      declared = nowhere (λ xs t. undeclared (in-force [] xs) t) (λ xs t e u. ap (λ (f : InForce). undeclared f t) e ∙ u .declared) (tokens-at 0 ps) [] refl h;
+      based = nowhere (λ xs t. no-base (in-force [] xs) t) (λ xs t e u. ap (λ (f : InForce). no-base f t) e ∙ u .based) (tokens-at 0 ps) [] refl h;
+      lengths = nowhere (λ xs t. too-long (in-force [] xs) t) (λ xs t e u. ap (λ (f : InForce). too-long f t) e ∙ u .short) (tokens-at 0 ps) [] refl h;
+      prefixes = nowhere (λ xs t. one-prefix-more (in-force [] xs)) (λ xs t e u. ap (λ (f : InForce). one-prefix-more f) e) (tokens-at 0 ps) [] refl h;
+      depth = nowhere (λ xs t. too-deep (depth-after xs) t) (λ xs t e u. u .shallow (depth-after xs)) (tokens-at 0 ps) [] refl h;
+    }
+
+-- ---- The parts of statements are sound
+
+decoded : (s : Text) → first-bad s ≡ none → Scalars (decode s)
+decoded s v = valid-encoded s v .scalars
+
+blank-gap : SoundGap 32
+blank-gap = record { white = refl; no-comment = refl; one = refl; scalar = (omega arith, inl (omega arith)) }
+
+line-gap : SoundGap 10
+line-gap = record { white = refl; no-comment = refl; one = refl; scalar = (omega arith, inl (omega arith)) }
+
+marked-scalars : {f : ℕ → Text} (a b : ℕ) (cs : List ℕ) → Rule f → Scalar a → Scalar b → Scalars cs → Scalars (marked a b (escaped f cs))
+marked-scalars {f} a b cs r p q s = (p, scalars-append (escaped f cs) (b ∷ []) (escaped-scalars r cs s) (q, tt))
+
+iri-sound : (s : Text) → GoodIri s → (ds : List ℕ) → SoundToken IRIREF (marked 60 62 (escaped iri-byte (decode s))) ds
+iri-sound s g ds = record {
+  begins = refl;
+  front = iri-token (decode s) (decoded s (g .utf8)) ds;
+  scalars = marked-scalars 60 62 (decode s) iri-rule (omega arith, inl (omega arith)) (omega arith, inl (omega arith)) (decoded s (g .utf8));
+  harmless = λ at. harmless-iri at s g;
+}
+
+string-sound : (s : Text) → first-bad s ≡ none → (d : ℕ) (ds : List ℕ) → eqb d 34 ≡ false
+    → SoundToken «STRING_LITERAL_QUOTE» (marked 34 34 (escaped string-byte (decode s))) (d ∷ ds)
+string-sound s v d ds n = record {
+  begins = refl;
+  front = string-token (decode s) (decoded s v) d ds n;
+  scalars = marked-scalars 34 34 (decode s) string-rule (omega arith, inl (omega arith)) (omega arith, inl (omega arith)) (decoded s v);
+  harmless = λ at. harmless-string at s v;
+}
+
+-- Tokens of ASCII of which only the kind matters.
+mild-sound : (k : Kind) (cs ds : List ℕ) → Mild k → T (lows cs) → begins-token cs ≡ true → token-at (cs ++ ds) ≡ hit (kind-code k) (size width cs) → SoundToken k cs ds
+mild-sound k cs ds m l b e = record { begins = b; front = e; scalars = lows-scalars cs l; harmless = λ at. harmless-mild k at cs m }
+
+module _ (rest : List Part) (r : Sound rest) where
+  then-blank : Sound (gap 32 ∷ rest)
+  then-blank = (blank-gap, r)
+
+  type-sound : (s d : Text) → first-bad s ≡ none → GoodIri d → Sound (string-part s ∷ (type-parts d ++ gap 32 ∷ rest))
+  unfolding points
+  type-sound s d v g =
+      by (same-text d xsd-string) (λ e. rw e (string-sound s v 32 (points rest) refl, then-blank))
+      (λ e.
+      rw e
+      (string-sound s v 94 (94 ∷ after-carets) refl,
+      (mild-sound carets (94 ∷ 94 ∷ []) after-carets refl tt refl (carets-token after-carets), (iri-sound d g (32 ∷ points rest), then-blank))))
+    where
+      after-carets : List ℕ
+      after-carets = points (iri-part d ∷ gap 32 ∷ rest)
+
+  -- A term and a blank.
+  term-sound : (t : Term) → Good t → Sound (term-parts t ++ gap 32 ∷ rest)
+  unfolding points
+  term-sound (iri s) g = (iri-sound s g (32 ∷ points rest), then-blank)
+  term-sound (blank b) g =
+      (mild-sound «BLANK_NODE_LABEL» (label-points (number-of b)) (32 ∷ points rest) refl (label-lows (number-of b)) refl (label-token (number-of b) (points rest)), then-blank)
+  term-sound (literal s d) g = type-sound s d (g .0) (g .1)
+  term-sound (tagged s t) g =
+      let u = tag-token t (g .1) in
+      (string-sound s (g .0) 64 (t ++ 32 ∷ points rest) refl, (mild-sound LANGTAG (64 ∷ t) (32 ∷ points rest) refl (u .ascii-only) refl (u .token (points rest)), then-blank))
+
+module _ (t : Triple) (s : Good (t .subject)) (p : Good (t .predicate)) (o : Good (t .object)) where
+  triple-sound : (d : ℕ) (rest : List Part) → (d ≡ 32) ⊎ (d ≡ 10) → Sound (gap d ∷ rest) → Sound (triple-parts t (gap d ∷ rest))
+  unfolding points
+  triple-sound d rest c r =
+      let end : Sound (printed dot (46 ∷ []) ∷ gap d ∷ rest) = (mild-sound dot (46 ∷ []) (d ∷ points rest) refl tt refl (dot-token d (points rest) c), r) in
+      let third = term-sound (printed dot (46 ∷ []) ∷ gap d ∷ rest) end (t .object) o in
+      let second = term-sound (term-parts (t .object) ++ gap 32 ∷ printed dot (46 ∷ []) ∷ gap d ∷ rest) third (t .predicate) p in
+      term-sound (term-parts (t .predicate) ++ gap 32 ∷ (term-parts (t .object) ++ gap 32 ∷ printed dot (46 ∷ []) ∷ gap d ∷ rest)) second (t .subject) s
+
+  line-sound : (g : Option Term) → GoodGraph g → (rest : List Part) → Sound rest → Sound (line-parts g t rest)
+  unfolding points
+  line-sound none h rest r = triple-sound 10 rest (inr refl) (line-gap, r)
+  line-sound (some g) h rest r =
+      let end : Sound (gap 32 ∷ printed close-brace (125 ∷ []) ∷ gap 10 ∷ rest) =
+      (blank-gap, (mild-sound close-brace (125 ∷ []) (10 ∷ points rest) refl tt refl (close-token (10 ∷ points rest)), (line-gap, r))) in
+      let inside = triple-sound 32 (printed close-brace (125 ∷ []) ∷ gap 10 ∷ rest) (inl refl) end in
+      let after = gap 32 ∷ triple-parts t (gap 32 ∷ printed close-brace (125 ∷ []) ∷ gap 10 ∷ rest) in
+      term-sound (printed open-brace (123 ∷ []) ∷ after)
+      (mild-sound open-brace (123 ∷ []) (points after) refl tt refl (open-token (points after)), (blank-gap, inside))
+      g (resource-good g h)
+
+pub parts-sound : (qs : List Quad) → GoodQuads qs → Sound (parts qs)
+unfolding parts
+parts-sound [] g = tt
+parts-sound (q ∷ qs) g =
+    let h = g .0 in
+    line-sound (q .triple) (resource-good (q .triple .subject) (h .subject)) (predicate-good (q .triple .predicate) (h .predicate)) (h .object) (q .graph) (h .graph)
+    (parts qs) (parts-sound qs (g .1))
