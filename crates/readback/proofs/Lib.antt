@@ -5,3 +5,5 @@ pub mod Printed
 pub mod Forms
 pub mod Sound
 pub mod Lines
+pub mod Tables
+pub mod ReadBack

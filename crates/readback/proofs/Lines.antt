@@ -233,9 +233,9 @@ module _ (t : Triple) (s : GoodResource (t .subject)) (p : GoodPredicate (t .pre
     tree = node block (left (node triplesOrGraph (both (x .tree) (right (both (f .tree) (leaf (dot-of at t) refl))))));
     next = behind (dot-of at t) + 1;
     tokens =
-      ap₂ (λ (a b : List Token). (a ++ (b ++ dot-of at t ∷ [])) ++ after) (x .tokens) (f .tokens)
-      ∙ join (subject-tokens at t) (predicate-tokens at t) (object-tokens at t) (dot-of at t) after
-      ∙ sym (triple-tokens t at (gap 10 ∷ rest));
+        ap₂ (λ (a b : List Token). (a ++ (b ++ dot-of at t ∷ [])) ++ after) (x .tokens) (f .tokens)
+        ∙ join (subject-tokens at t) (predicate-tokens at t) (object-tokens at t) (dot-of at t) after
+        ∙ sym (triple-tokens t at (gap 10 ∷ rest));
     quads = ap (in-graph none) (f .triples-of (value (x .tree) environment .term)) ∙ ap (one-quad none t) (x .term);
   }
     where
@@ -256,26 +256,26 @@ module _ (t : Triple) (s : GoodResource (t .subject)) (p : GoodPredicate (t .pre
   unfolding production leaves meaning tokens-at
   graph-line g h at rest = record {
     tree =
-      node block
-      (left
-      (node triplesOrGraph
-      (both (y .tree)
-      (left
-      (node wrappedGraph
-      (both (leaf opening refl)
-      (both (present (node triplesBlock (both (node triples (left (both (x .tree) (f .tree)))) (present (both (leaf (dot-of first t) refl) absent)))))
-      (leaf closing refl))))))));
+        node block
+        (left
+        (node triplesOrGraph
+        (both (y .tree)
+        (left
+        (node wrappedGraph
+        (both (leaf opening refl)
+        (both (present (node triplesBlock (both (node triples (left (both (x .tree) (f .tree)))) (present (both (leaf (dot-of first t) refl) absent)))))
+        (leaf closing refl))))))));
     next = behind closing + 1;
     tokens =
-      ap₂ (λ (a : List Token) (b : List Token). (a ++ opening ∷ ((b ++ dot-of first t ∷ []) ++ closing ∷ [])) ++ after) (y .tokens)
-      (ap₂ (λ (a b : List Token). a ++ b) (x .tokens) (f .tokens))
-      ∙ join (tokens-at at (term-parts g)) opening (subject-tokens first t) (predicate-tokens first t) (object-tokens first t) (dot-of first t) closing after
-      ∙ ap (λ (ts : List Token). tokens-at at (term-parts g) ++ opening ∷ ts) (sym (triple-tokens t first (gap 32 ∷ printed close-brace (125 ∷ []) ∷ gap 10 ∷ rest)))
-      ∙ sym (blank-tokens (term-parts g) (printed open-brace (123 ∷ []) ∷ gap 32 ∷ triple-parts t (gap 32 ∷ printed close-brace (125 ∷ []) ∷ gap 10 ∷ rest)) at);
+        ap₂ (λ (a : List Token) (b : List Token). (a ++ opening ∷ ((b ++ dot-of first t ∷ []) ++ closing ∷ [])) ++ after) (y .tokens)
+        (ap₂ (λ (a b : List Token). a ++ b) (x .tokens) (f .tokens))
+        ∙ join (tokens-at at (term-parts g)) opening (subject-tokens first t) (predicate-tokens first t) (object-tokens first t) (dot-of first t) closing after
+        ∙ ap (λ (ts : List Token). tokens-at at (term-parts g) ++ opening ∷ ts) (sym (triple-tokens t first (gap 32 ∷ printed close-brace (125 ∷ []) ∷ gap 10 ∷ rest)))
+        ∙ sym (blank-tokens (term-parts g) (printed open-brace (123 ∷ []) ∷ gap 32 ∷ triple-parts t (gap 32 ∷ printed close-brace (125 ∷ []) ∷ gap 10 ∷ rest)) at);
     quads =
-      ap₂ (λ (a : Term) (ts : List Triple). in-graph (some a) ((ts ++ value (f .tree) environment (value (x .tree) environment .term)) ++ [])) (y .term) (x .own)
-      ∙ ap (λ (ts : List Triple). in-graph (some (renamed-term g)) (ts ++ [])) (f .triples-of (value (x .tree) environment .term))
-      ∙ ap (one-quad (some (renamed-term g)) t) (x .term);
+        ap₂ (λ (a : Term) (ts : List Triple). in-graph (some a) ((ts ++ value (f .tree) environment (value (x .tree) environment .term)) ++ [])) (y .term) (x .own)
+        ∙ ap (λ (ts : List Triple). in-graph (some (renamed-term g)) (ts ++ [])) (f .triples-of (value (x .tree) environment .term))
+        ∙ ap (one-quad (some (renamed-term g)) t) (x .term);
   }
     where
       opening : Token

@@ -228,9 +228,10 @@ module _ (rest : List Part) (r : Sound rest) where
   type-sound s d v g =
       by (same-text d xsd-string) (λ e. rw e (string-sound s v 32 (points rest) refl, then-blank))
       (λ e.
-      rw e
-      (string-sound s v 94 (94 ∷ after-carets) refl,
-      (mild-sound carets (94 ∷ 94 ∷ []) after-carets refl tt refl (carets-token after-carets), (iri-sound d g (32 ∷ points rest), then-blank))))
+      rw e (
+        string-sound s v 94 (94 ∷ after-carets) refl,
+        (mild-sound carets (94 ∷ 94 ∷ []) after-carets refl tt refl (carets-token after-carets), (iri-sound d g (32 ∷ points rest), then-blank)),
+      ))
     where
       after-carets : List ℕ
       after-carets = points (iri-part d ∷ gap 32 ∷ rest)

@@ -1,0 +1,71 @@
+-- The long form of usable tables, if it is no larger than a document may be, is read back.
+use mathlib.Core.Path.{_≡_, refl, subst, sym, ap, _∙_}
+use mathlib.Core.List.{List, []}
+use mathlib.Core.Bool.{Bool, true, false}
+use mathlib.Core.Option.{none}
+use Prim.Native.Nat.{ℕ, _≤_}
+use borrow.Author.Tests.{le-ltb}
+use lib.Dec.{T}
+use lib.ListN.{length}
+use Rattle.text.specs.Text.{Text}
+use Rattle.limits.specs.Limits.{document-limit, work-size}
+use Rattle.utf8.specs.Utf8.{first-bad}
+use Rattle.utf8.proofs.Decoding.{valid-encodes}
+use Rattle.token.specs.Tokens.{Token, lexemes, tokens-of, readable}
+use Rattle.grammar.specs.Ebnf.{leaves}
+use Rattle.grammar.specs.Productions.{trig, production, kind-of}
+use Rattle.table.specs.Layout.{Slices}
+use Rattle.table.specs.Usable.{usable, held}
+use Rattle.table.specs.LongForm.{long-form}
+use Rattle.machine.specs.Step.{first-refusal}
+use Rattle.machine.specs.Read.{Lent, bad-base, first-checks}
+use Rattle.machine.specs.Demand.{document-tokens, Fair, Meets}
+use Rattle.readback.specs.ReadBack.{long-form-mode, ReadsBack}
+use Rattle.readback.proofs.Cutting.{points, bytes, tokens-at, cut-whole}
+use Rattle.readback.proofs.Forms.{GoodQuads, parts, parts-bytes}
+use Rattle.readback.proofs.Sound.{Sound, sound-cut, sound-scalars, sound-fair, parts-sound}
+use Rattle.readback.proofs.Lines.{Derived, derived}
+use Rattle.readback.proofs.Tables.{long-form-text, held-good}
+
+-- Checks 1 to 4 pass.
+checked : (doc : Text) (lent : Lent) → length doc ≤ document-limit → work-size ≤ lent .work → first-refusal (first-checks doc long-form-mode [] lent) ≡ none
+unfolding bad-base
+checked doc lent l w = simp (le-ltb document-limit (length doc) l, le-ltb (lent .work) work-size w)
+
+pub read-back : (s : Slices) → usable s ≡ true → length (long-form s) ≤ document-limit → ReadsBack s
+unfolding bytes
+read-back s u l = record {
+  derivation = d .derivation;
+  tokens = tokens;
+  same = d .same;
+  accepted = λ lent w room.
+      record {
+        usable = checked (long-form s) lent l w;
+        utf8 = ap first-bad text ∙ valid-encodes (points (parts (held s))) (sound-scalars (parts (held s)) sound);
+        cuts = subst T (sym (ap (λ (x : Text). readable (lexemes x)) text ∙ cut .1)) tt;
+        derivation = (d .derivation, tokens);
+        fair = subst (Fair [] []) (sym cut-tokens) (sound-fair (parts (held s)) sound);
+        room = room;
+      };
+}
+  where
+    good : GoodQuads (held s)
+    good = held-good s u
+
+    d : Derived (held s)
+    d = derived (held s) good
+
+    sound : Sound (parts (held s))
+    sound = parts-sound (held s) good
+
+    text : long-form s ≡ bytes (parts (held s))
+    text = long-form-text s ∙ sym (parts-bytes (held s) good)
+
+    cut : (tokens-of (lexemes (bytes (parts (held s)))) ≡ tokens-at 0 (parts (held s))) × (readable (lexemes (bytes (parts (held s)))) ≡ true)
+    cut = cut-whole (parts (held s)) (sound-cut (parts (held s)) sound) (sound-scalars (parts (held s)) sound)
+
+    cut-tokens : document-tokens (long-form s) ≡ tokens-at 0 (parts (held s))
+    cut-tokens = ap (λ (x : Text). document-tokens x) text ∙ cut .0
+
+    tokens : leaves kind-of (production trig) (d .derivation) ≡ document-tokens (long-form s)
+    tokens = d .tokens ∙ sym cut-tokens
