@@ -18,7 +18,8 @@ use Rattle.table.specs.Usable.{is-tag}
 use Rattle.table.specs.LongForm.{decimal, iri-byte, string-byte, escaped, iri-form, string-form, type-form}
 use Rattle.readback.proofs.Cutting.{Part, printed, gap, points, bytes, bytes-append}
 use Rattle.readback.proofs.Undone.{Rule, iri-rule, string-rule, lows, lows-encodes, escaped-encodes}
-use Rattle.readback.proofs.Printed.{marked, label-points, label-lows, TagToken, tag-token}
+use Rattle.readback.proofs.Printed.{marked, label-points, label-lows}
+use Rattle.readback.proofs.Tags.{TagToken, tag-token}
 
 -- ---- Statements that the writer takes
 

@@ -2,8 +2,10 @@
 pub mod Cutting
 pub mod Undone
 pub mod Printed
+pub mod Tags
 pub mod Forms
 pub mod Sound
 pub mod Lines
 pub mod Tables
 pub mod ReadBack
+pub mod Renaming

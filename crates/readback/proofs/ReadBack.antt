@@ -19,8 +19,11 @@ use Rattle.table.specs.Usable.{usable, held}
 use Rattle.table.specs.LongForm.{long-form}
 use Rattle.machine.specs.Step.{first-refusal}
 use Rattle.machine.specs.Read.{Lent, bad-base, first-checks}
+use Rattle.machine.specs.Construction.{tables}
 use Rattle.machine.specs.Demand.{document-tokens, Fair, Meets}
-use Rattle.readback.specs.ReadBack.{long-form-mode, ReadsBack}
+use Rattle.machine.proofs.Constructed.{tables-hold}
+use Rattle.machine.proofs.Demands.{meets-answer}
+use Rattle.readback.specs.ReadBack.{long-form-mode, ReadsBack, ReadAgain}
 use Rattle.readback.proofs.Cutting.{points, bytes, tokens-at, cut-whole}
 use Rattle.readback.proofs.Forms.{GoodQuads, parts, parts-bytes}
 use Rattle.readback.proofs.Sound.{Sound, sound-cut, sound-scalars, sound-fair, parts-sound}
@@ -69,3 +72,13 @@ read-back s u l = record {
 
     tokens : leaves kind-of (production trig) (d .derivation) ≡ document-tokens (long-form s)
     tokens = d .tokens ∙ sym cut-tokens
+
+pub read-again : (s : Slices) → usable s ≡ true → length (long-form s) ≤ document-limit → ReadAgain s
+unfolding read-back
+read-again s u l =
+    let b = read-back s u l in
+    record {
+      memory = tables trig (b .derivation) [];
+      same = tables-hold trig (b .derivation) [] ∙ b .same;
+      answer = λ lent w room. meets-answer (long-form s) long-form-mode [] lent (b .accepted lent w room);
+    }

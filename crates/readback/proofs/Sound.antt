@@ -31,7 +31,8 @@ use Rattle.machine.specs.Refusals.{no-character, undeclared, no-base, too-long,
 use Rattle.machine.specs.Demand.{depth-after, Nowhere, Fair}
 use Rattle.readback.proofs.Cutting.{Part, printed, gap, points-of, points, tokens-at, begins-token, Cut}
 use Rattle.readback.proofs.Undone.{lows, Rule, iri-rule, string-rule, lows-scalars, scalars-append, escaped-scalars, unescape-escaped, good-escaped}
-use Rattle.readback.proofs.Printed.{marked, label-points, label-lows, label-token, TagToken, tag-token, iri-token, string-token, dot-token, open-token, close-token, carets-token}
+use Rattle.readback.proofs.Printed.{marked, label-points, label-lows, label-token, iri-token, string-token, dot-token, open-token, close-token, carets-token}
+use Rattle.readback.proofs.Tags.{TagToken, tag-token}
 use Rattle.readback.proofs.Forms.{number-of, GoodIri, Good, GoodPredicate, GoodResource, GoodGraph, GoodQuad, GoodQuads, predicate-good, resource-good, iri-part, string-part, type-parts, term-parts, triple-parts, line-parts, parts, iri-bytes, string-bytes, label-bytes, tag-bytes}
 
 -- ---- What a printed token stands for

@@ -1,8 +1,9 @@
 -- "The long form, read again, gives the same statements up to renaming of blank nodes"
 use mathlib.Core.Path.{_≡_}
-use mathlib.Core.List.{[], _∷_, _++_, map}
+use mathlib.Core.List.{List, [], _∷_, _++_, map}
 use mathlib.Core.Option.{Option, none, some}
-use Prim.Native.Nat.{ℕ, _≤_}
+use Prim.Native.Nat.{ℕ, _≤_, _<_}
+use lib.ListN.{length}
 use Rattle.text.specs.Text.{Text, ascii}
 use Rattle.limits.specs.Limits.{work-size}
 use Rattle.grammar.specs.Ebnf.{leaves}
@@ -10,9 +11,11 @@ use Rattle.grammar.specs.Productions.{trig, production, kind-of, Derivation}
 use Rattle.dataset.specs.Terms.{Blank, label, bracket, cell, numbered, Term, iri, blank, literal, tagged, Quad}
 use Rattle.dataset.specs.Statements.{statements}
 use Rattle.table.specs.Layout.{Slices}
-use Rattle.table.specs.Usable.{held}
+use Rattle.table.specs.Tables.{quads}
+use Rattle.table.specs.Usable.{term, held}
 use Rattle.table.specs.LongForm.{decimal, long-form}
-use Rattle.machine.specs.Read.{Lent, room-of}
+use Rattle.machine.specs.Memory.{Memory}
+use Rattle.machine.specs.Read.{Lent, room-of, success, read}
 use Rattle.machine.specs.Construction.{tables}
 use Rattle.machine.specs.Demand.{document-tokens, Fits, Meets}
 
@@ -54,7 +57,16 @@ renamed q =
       };
     }
 
--- ---- The statement
+-- ---- The statements
+
+-- The words of a lent slice: 32-bit numbers.
+abbrev pub Words : List ℕ → Type 0
+Words [] = Unit {0}
+Words (w ∷ ws) = (w < 4294967296) × Words ws
+
+-- No two blank nodes of the tables get one label: terms that are renamed alike are the same.
+pub record KeepsApart (s : Slices) : Type 0 where
+  pub apart : (m n : ℕ) → renamed-term (term s m) ≡ renamed-term (term s n) → term s m ≡ term s n
 
 -- The long form of the tables has a derivation whose statements are those in the tables, renamed; and with a work slice and room for what that
 -- derivation writes, the long form is accepted.
@@ -63,3 +75,10 @@ pub record ReadsBack (s : Slices) : Type 0 where
   pub tokens : leaves kind-of (production trig) derivation ≡ document-tokens (long-form s)
   pub same : statements trig derivation [] ≡ map renamed (held s)
   pub accepted : (lent : Lent) → work-size ≤ lent .work → Fits (room-of lent) (tables trig derivation []) → Meets (long-form s) long-form-mode [] lent
+
+-- The same of the reader's answer: where there is room for what it writes, it accepts, and its tables hold the statements, renamed.
+pub record ReadAgain (s : Slices) : Type 0 where
+  pub memory : Memory
+  pub same : quads (memory .terms) (memory .rows) ≡ map renamed (held s)
+  pub answer :
+    (lent : Lent) → work-size ≤ lent .work → Fits (room-of lent) memory → read (long-form s) long-form-mode [] lent ≡ success (length (long-form s)) memory
