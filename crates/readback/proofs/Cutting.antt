@@ -1,10 +1,10 @@
 -- How a list of printed parts, tokens and white space, is cut into tokens.
-use mathlib.Core.Path.{_≡_, refl, subst, sym, ap, ap₂, _∙_}
+use mathlib.Core.Path.{_≡_, refl, sym, ap, ap₂, _∙_}
 use mathlib.Core.Bool.{Bool, true, false, _||_}
 use mathlib.Core.List.{List, [], _∷_, _++_, append-assoc}
-use Prim.Native.Nat.{ℕ, zero, suc, _+_, _-_, _≤_, _<_}
+use Prim.Native.Nat.{ℕ, zero, suc, _+_, _-_}
 use native.Mathlib.Omega.{arith}
-use native.Mathlib.Nat.{add-zero, add-assoc}
+use native.Mathlib.Nat.{add-zero}
 use lib.ListN.{length, take, drop, length-append}
 use lib.Seq.{take-at, drop-at}
 use Rattle.text.specs.Text.{Text, cond, is}
@@ -15,7 +15,7 @@ use Rattle.utf8.proofs.Decoding.{encodes-append, decode-encodes}
 use Rattle.token.specs.Kind.{Kind, kind-code, kind-of-code}
 use Rattle.token.specs.Regular.{Match, nothing, hit, size}
 use Rattle.token.specs.Terminals.{token-at}
-use Rattle.token.specs.Tokens.{Token, Lexeme, token, unreadable, Cutting, between, comment, inside, passed, white-space, lexemes-from, lexemes, tokens-of, readable}
+use Rattle.token.specs.Tokens.{Token, Lexeme, token, unreadable, between, comment, passed, white-space, lexemes-from, lexemes, tokens-of, readable}
 use Rattle.token.proofs.KindCodes.{kind-back}
 
 -- A token of a kind, or white space.

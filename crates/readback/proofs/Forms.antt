@@ -1,10 +1,9 @@
 -- The statements that the writer takes, and their long form as a list of parts.
-use mathlib.Core.Path.{_≡_, refl, subst, sym, ap, ap₂, _∙_}
-use mathlib.Core.Bool.{Bool, true, false}
+use mathlib.Core.Path.{_≡_, refl, sym, ap, ap₂, _∙_}
+use mathlib.Core.Bool.{true}
 use mathlib.Core.List.{List, [], _∷_, _++_, append-assoc, append-nil}
 use mathlib.Core.Option.{Option, none, some}
-use Prim.Native.Nat.{ℕ, zero, suc, _≤_}
-use lib.Dec.{T}
+use Prim.Native.Nat.{ℕ, _≤_}
 use lib.ListN.{length}
 use Rattle.text.specs.Text.{Text, ascii, cond, same-text}
 use Rattle.limits.specs.Limits.{iri-limit}
@@ -17,9 +16,9 @@ use Rattle.dataset.specs.Terms.{Blank, label, bracket, cell, numbered, Term, ir
 use Rattle.table.specs.Usable.{is-tag}
 use Rattle.table.specs.LongForm.{decimal, iri-byte, string-byte, escaped, iri-form, string-form, type-form}
 use Rattle.readback.proofs.Cutting.{Part, printed, gap, points, bytes, bytes-append}
-use Rattle.readback.proofs.Undone.{Rule, iri-rule, string-rule, lows, lows-encodes, escaped-encodes}
+use Rattle.readback.proofs.Undone.{Rule, iri-rule, string-rule, lows-encodes, escaped-encodes}
 use Rattle.readback.proofs.Printed.{marked, label-points, label-lows}
-use Rattle.readback.proofs.Tags.{TagToken, tag-token}
+use Rattle.readback.proofs.Tags.{tag-token}
 
 -- ---- Statements that the writer takes
 

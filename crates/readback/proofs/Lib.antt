@@ -9,3 +9,4 @@ pub mod Lines
 pub mod Tables
 pub mod ReadBack
 pub mod Renaming
+pub mod Examples

@@ -1,42 +1,41 @@
 -- The derivation of printed lines, and the statements that it constructs.
-use mathlib.Core.Path.{_≡_, refl, subst, sym, ap, ap₂, _∙_}
-use mathlib.Core.Logic.{_⊎_, inl, inr}
-use mathlib.Core.Bool.{Bool, true, false}
+use mathlib.Core.Path.{_≡_, refl, sym, ap, ap₂, _∙_}
+use mathlib.Core.Bool.{Bool}
 use mathlib.Core.List.{List, [], _∷_, _++_, append-assoc, append-nil, map}
 use mathlib.Core.Option.{Option, none, some}
 use Prim.Native.Nat.{ℕ, _+_}
 use lib.ListN.{length}
 use Rattle.text.specs.Text.{Text, cond, same-text}
 use Rattle.text.proofs.Compare.{same-eq}
-use Rattle.utf8.specs.Utf8.{width, encodes, decode, first-bad}
+use Rattle.utf8.specs.Utf8.{decode, first-bad}
 use Rattle.utf8.proofs.Tests.{by}
-use Rattle.token.specs.Kind.{Kind, IRIREF, «STRING_LITERAL_QUOTE», «BLANK_NODE_LABEL», LANGTAG, carets, dot, open-brace, close-brace}
+use Rattle.token.specs.Kind.{IRIREF, «STRING_LITERAL_QUOTE», «BLANK_NODE_LABEL», LANGTAG, carets, dot, open-brace, close-brace}
 use Rattle.token.specs.Tokens.{Token}
-use Rattle.grammar.specs.Ebnf.{Expr, nt, Tree, leaf, node, both, left, right, done, more, absent, present, leaves}
+use Rattle.grammar.specs.Ebnf.{nt, Tree, leaf, node, both, left, right, done, more, absent, present, leaves}
 use Rattle.grammar.specs.Meaning.{meaning}
-use Rattle.grammar.specs.Productions.{Nonterminal, Mode, trig, production, root, kind-of, Derivation, trigDoc, block, triplesOrGraph, wrappedGraph, triplesBlock, labelOrSubject, triples, predicateObjectList, objectList, verb, RDFLiteral, BlankNode}
+use Rattle.grammar.specs.Productions.{Nonterminal, trig, production, root, kind-of, Derivation, trigDoc, block, triplesOrGraph, wrappedGraph, triplesBlock, labelOrSubject, triples, predicateObjectList, objectList, verb, RDFLiteral, BlankNode}
 use Rattle.grammar.specs.Productions.{subject as subject-nt, predicate as predicate-nt, object as object-nt, literal as literal-nt, blank as blank-nt, String as String-nt, iri as iri-nt}
 use Rattle.iri.specs.Iri.{has-scheme}
 use Rattle.iri.specs.Resolve.{resolve, resolved}
 use Rattle.dataset.specs.Terms.{Blank, label, bracket, cell, numbered, Term, iri, blank, literal, tagged, Triple, Quad, xsd-string}
 use Rattle.dataset.specs.Environment.{Environment, start-environment}
-use Rattle.dataset.specs.Constructors.{string-text, reference, tag, node-label, resolved-reference, iri-of}
+use Rattle.dataset.specs.Constructors.{node-label, resolved-reference, iri-of}
 use Rattle.dataset.specs.Statements.{Node, Value, action, triple, more-objects, more-verbs, in-graph, trig-quads, statements}
-use Rattle.table.specs.LongForm.{decimal, iri-byte, string-byte, escaped}
-use Rattle.readback.specs.ReadBack.{renamed-blank, renamed-term, renamed-graph, renamed}
+use Rattle.table.specs.LongForm.{iri-byte, string-byte, escaped}
+use Rattle.readback.specs.ReadBack.{renamed-blank, renamed-term, renamed}
 use Rattle.readback.proofs.Cutting.{Part, printed, gap, bytes, tokens-at, tokens-append}
 use Rattle.readback.proofs.Printed.{marked, label-points}
-use Rattle.readback.proofs.Forms.{GoodIri, Numbered, Good, GoodPredicate, GoodResource, GoodGraph, GoodQuad, GoodQuads, number-of, iri-part, string-part, type-parts, term-parts, triple-parts, line-parts, parts}
+use Rattle.readback.proofs.Forms.{GoodIri, Numbered, Good, GoodPredicate, GoodResource, GoodGraph, GoodQuad, GoodQuads, number-of, string-part, type-parts, term-parts, triple-parts, line-parts, parts}
 use Rattle.readback.proofs.Sound.{token-of, iri-reference, string-value, tag-value, label-value}
 
 -- Trees of mode 0, their leaves and their values.
-abbrev T0 : Nonterminal → Type 0
-T0 n = Tree kind-of (production trig) (nt n)
+abbrev TreeOf : Nonterminal → Type 0
+TreeOf n = Tree kind-of (production trig) (nt n)
 
-abbrev leaves-of : {n : Nonterminal} → T0 n → List Token
+abbrev leaves-of : {n : Nonterminal} → TreeOf n → List Token
 leaves-of x = leaves kind-of (production trig) x
 
-abbrev value : {n : Nonterminal} → T0 n → Value n
+abbrev value : {n : Nonterminal} → TreeOf n → Value n
 value x = meaning Value (action trig) x
 
 abbrev environment : Environment
@@ -53,18 +52,18 @@ iri-value at s g =
     let e = iri-reference at s (g .utf8) in
     ap (λ (r : Text). cond (has-scheme r) r (resolve [] r)) e ∙ ap (λ (b : Bool). cond b s (resolve [] s)) (g .scheme)
 
--- A node of the term t, whose tokens are those of the parts.
+-- A derivation of the term t, whose tokens are those of the parts; v says that the nonterminal's values are nodes.
 record NodeTree (n : Nonterminal) (v : Value n → Environment → Node) (at : ℕ) (ps : List Part) (t : Term) : Type 0 where
-  tree : T0 n
+  tree : TreeOf n
   tokens : leaves-of tree ≡ tokens-at at ps
   term : v (value tree) environment .term ≡ t
   own : v (value tree) environment .own ≡ []
 
-iri-tree : ℕ → Text → T0 iri-nt
+iri-tree : ℕ → Text → TreeOf iri-nt
 unfolding production
 iri-tree at s = node iri-nt (left (leaf (iri-token-at at s) refl))
 
-label-tree : ℕ → Blank → T0 BlankNode
+label-tree : ℕ → Blank → TreeOf BlankNode
 unfolding production
 label-tree at b = node BlankNode (left (leaf (token-of «BLANK_NODE_LABEL» at (label-points (number-of b))) refl))
 
@@ -98,11 +97,11 @@ carets-at at = token-of carets at (94 ∷ 94 ∷ [])
 abbrev behind : Token → ℕ
 behind t = t .start + length (t .text)
 
-string-tree : ℕ → Text → T0 String-nt
+string-tree : ℕ → Text → TreeOf String-nt
 unfolding production
 string-tree at s = node String-nt (left (leaf (string-token-at at s) refl))
 
-literal-object : T0 RDFLiteral → T0 object-nt
+literal-object : TreeOf RDFLiteral → TreeOf object-nt
 unfolding production
 literal-object x = node object-nt (right (right (right (node literal-nt (left x)))))
 
@@ -145,7 +144,7 @@ object-tree (tagged s h) g at = record {
 -- ---- A predicate with its object
 
 record VerbTree (at : ℕ) (ps : List Part) (t : Term) : Type 0 where
-  tree : T0 verb
+  tree : TreeOf verb
   tokens : leaves-of tree ≡ tokens-at at ps
   term : value tree environment ≡ t
 
@@ -157,7 +156,7 @@ verb-tree (literal s d) g at = absurd g
 verb-tree (tagged s h) g at = absurd g
 
 record PropertyTree (p o : List Token) (P O : Term) : Type 0 where
-  tree : T0 predicateObjectList
+  tree : TreeOf predicateObjectList
   tokens : leaves-of tree ≡ p ++ o
   triples-of : (s : Term) → value tree environment s ≡ triple s P O ∷ []
 
@@ -213,7 +212,7 @@ triple-tokens t at rest =
 
 -- A line, and the place of what follows it.
 record LineTree (at : ℕ) (g : Option Term) (t : Triple) (rest : List Part) : Type 0 where
-  tree : T0 block
+  tree : TreeOf block
   next : ℕ
   tokens : leaves-of tree ++ tokens-at next rest ≡ tokens-at at (line-parts g t rest)
   quads : value tree environment ≡ renamed (record { graph = g; triple = t }) ∷ []

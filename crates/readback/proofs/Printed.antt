@@ -1,27 +1,25 @@
 -- Printed tokens: each is the longest match at the front of what stands there.
-use mathlib.Core.Path.{_≡_, refl, subst, sym, ap, ap₂, _∙_}
+use mathlib.Core.Path.{_≡_, refl, ap, _∙_}
 use mathlib.Core.Logic.{_⊎_, inl, inr, ⊎-elim}
-use mathlib.Core.Bool.{Bool, true, false, not, _&&_, _||_}
-use mathlib.Core.List.{List, [], _∷_, _++_, append-assoc}
-use Prim.Native.Nat.{ℕ, zero, suc, _+_, _-_, _/_, _%_, _≤_, _<_}
+use mathlib.Core.Bool.{Bool, false}
+use mathlib.Core.List.{List, [], _∷_, _++_}
+use Prim.Native.Nat.{ℕ, zero, suc, _+_, _/_, _%_, _≤_, _<_}
 use native.Mathlib.Omega.{arith}
-use borrow.Author.Tests.{ltb-true, lt-ltb, lt-leb}
-use lib.Dec.{T, eqb, ltb, leb, eqb→eq, leb→le}
-use lib.ListN.{length}
+use borrow.Author.Tests.{ltb-true, lt-ltb}
+use lib.Dec.{T, eqb, ltb}
 use Rattle.text.specs.Text.{Text, ascii, cond}
-use Rattle.utf8.specs.Utf8.{width, Range, _–_}
-use Rattle.utf8.specs.Scalar.{Scalar, Scalars}
-use Rattle.utf8.proofs.Tests.{by, split, below, below-at, and-true, and-false}
+use Rattle.utf8.specs.Utf8.{width}
+use Rattle.utf8.specs.Scalar.{Scalars}
 use Rattle.text.proofs.Booleans.{and-in}
-use Rattle.token.specs.Regular.{Re, eps, set, seq, alt, star, in-ranges, in-set, Item, item, Match, nothing, hit, size, Hit, Longest, nullable, cat, cats, after, of-kind, step, now-at, later, best}
-use Rattle.token.proofs.Longest.{best-longest}
-use Rattle.token.specs.Terminals.{terminals, long-terminals, tripled, terminals-at, token-at}
+use Rattle.utf8.proofs.Tests.{by, split, below, below-at, and-true}
+use Rattle.token.specs.Kind.{kind-code, IRIREF, «STRING_LITERAL_QUOTE», «BLANK_NODE_LABEL», dot}
+use Rattle.token.specs.Regular.{eps, item, Match, nothing, hit, size, step, now-at, later, best}
+use Rattle.token.specs.Terminals.{terminals, long-terminals, tripled, token-at}
 use Rattle.automaton.specs.Levels.{intervals}
-use Rattle.automaton.specs.States.{State, steps, in-iri, in-string, in-label, dead, open-states}
+use Rattle.automaton.specs.States.{State, steps, in-iri, in-string, in-label, open-states}
 use Rattle.automaton.proofs.Same.{same-state, same-state-eq}
 use Rattle.automaton.proofs.Steps.{always, high-sends, HighSent, high-to}
 use Rattle.table.specs.LongForm.{digits, decimal, iri-byte, string-byte, escaped}
-use Rattle.table.specs.Usable.{is-match, is-tag}
 use Rattle.readback.proofs.Undone.{lows, Rule, iri-rule, string-rule}
 
 -- ---- The longest match, by where the automaton is after a token
@@ -56,24 +54,21 @@ steps-append : (cs ds : List ℕ) (q : State) → steps (cs ++ ds) q ≡ steps d
 steps-append [] ds q = refl
 steps-append (c ∷ cs) ds q = steps-append cs ds (step c q)
 
+-- ---- Marks
+
 -- After a token that nothing makes longer.
 stops-all : {q : State} {k : ℕ} → q ≡ item k eps ∷ [] → (ds : List ℕ) → Stops q ds
 stops-all e [] = tt
 stops-all e (d ∷ ds) = ap (step d) e
 
--- ---- Marks
+-- A token that ends by itself and begins with no quote, whatever follows it.
+pub closed-token : (k c : ℕ) (cs ds : List ℕ) → eqb c 34 ≡ false → eqb c 39 ≡ false → steps (c ∷ cs) terminals ≡ item k eps ∷ []
+    → token-at (c ∷ (cs ++ ds)) ≡ hit k (size width (c ∷ cs))
+closed-token k c cs ds n m e = token-by (c ∷ cs) ds k (no-quote c (cs ++ ds) n m) (ap now-at e) (stops-all e ds)
 
-pub dot-token : (d : ℕ) (ds : List ℕ) → (d ≡ 32) ⊎ (d ≡ 10) → token-at (46 ∷ d ∷ ds) ≡ hit 19 1
-dot-token d ds h = token-by (46 ∷ []) (d ∷ ds) 19 (no-quote 46 (d ∷ ds) refl refl) refl (⊎-elim (λ e. rw e refl) (λ e. rw e refl) h)
-
-pub open-token : (ds : List ℕ) → token-at (123 ∷ ds) ≡ hit 26 1
-open-token ds = token-by (123 ∷ []) ds 26 (no-quote 123 ds refl refl) refl (stops-all {k = 26} refl ds)
-
-pub close-token : (ds : List ℕ) → token-at (125 ∷ ds) ≡ hit 27 1
-close-token ds = token-by (125 ∷ []) ds 27 (no-quote 125 ds refl refl) refl (stops-all {k = 27} refl ds)
-
-pub carets-token : (ds : List ℕ) → token-at (94 ∷ 94 ∷ ds) ≡ hit 28 2
-carets-token ds = token-by (94 ∷ 94 ∷ []) ds 28 (no-quote 94 (94 ∷ ds) refl refl) refl (stops-all {k = 28} refl ds)
+-- A dot before a blank or the end of line.
+pub dot-token : (d : ℕ) (ds : List ℕ) → (d ≡ 32) ⊎ (d ≡ 10) → token-at (46 ∷ d ∷ ds) ≡ hit (kind-code dot) 1
+dot-token d ds h = token-by (46 ∷ []) (d ∷ ds) (kind-code dot) (no-quote 46 (d ∷ ds) refl refl) refl (⊎-elim (λ e. rw e refl) (λ e. rw e refl) h)
 
 -- ---- Escaped texts
 
@@ -119,24 +114,25 @@ no-three (c ∷ cs) d ds e =
     (λ o. simp (p, q, r, o) (second-plain c ((escaped string-byte cs ++ 34 ∷ []) ++ d ∷ ds) p)))))
 
 module _ (cs : List ℕ) (s : Scalars cs) where
-  pub iri-token : (ds : List ℕ) → token-at (marked 60 62 (escaped iri-byte cs) ++ ds) ≡ hit 1 (size width (marked 60 62 (escaped iri-byte cs)))
+  pub iri-token : (ds : List ℕ) → token-at (marked 60 62 (escaped iri-byte cs) ++ ds) ≡ hit (kind-code IRIREF) (size width (marked 60 62 (escaped iri-byte cs)))
   unfolding open-states
   iri-token ds =
-      token-by (marked 60 62 (escaped iri-byte cs)) ds 1 (no-quote 60 ((escaped iri-byte cs ++ 62 ∷ []) ++ ds) refl refl) (ap now-at e) (stops-all e ds)
-    where
-      e : steps (marked 60 62 (escaped iri-byte cs)) terminals ≡ item 1 eps ∷ []
-      e = steps-append (escaped iri-byte cs) (62 ∷ []) in-iri ∙ ap (step 62) (stays iri-rule stays-iri cs s)
+      closed-token (kind-code IRIREF) 60 (escaped iri-byte cs ++ 62 ∷ []) ds refl refl
+      (steps-append (escaped iri-byte cs) (62 ∷ []) in-iri ∙ ap (step 62) (stays iri-rule stays-iri cs s))
 
+  -- A string before anything but a quote.
   pub string-token : (d : ℕ) (ds : List ℕ) → eqb d 34 ≡ false
-      → token-at (marked 34 34 (escaped string-byte cs) ++ d ∷ ds) ≡ hit 11 (size width (marked 34 34 (escaped string-byte cs)))
+      → token-at (marked 34 34 (escaped string-byte cs) ++ d ∷ ds) ≡ hit (kind-code «STRING_LITERAL_QUOTE») (size width (marked 34 34 (escaped string-byte cs)))
   unfolding open-states
-  string-token d ds n = token-by (marked 34 34 (escaped string-byte cs)) (d ∷ ds) 11 (no-three cs d ds n) (ap now-at e) (stops-all e (d ∷ ds))
+  string-token d ds n =
+      token-by (marked 34 34 (escaped string-byte cs)) (d ∷ ds) (kind-code «STRING_LITERAL_QUOTE») (no-three cs d ds n) (ap now-at e) (stops-all e (d ∷ ds))
     where
-      e : steps (marked 34 34 (escaped string-byte cs)) terminals ≡ item 11 eps ∷ []
+      e : steps (marked 34 34 (escaped string-byte cs)) terminals ≡ item (kind-code «STRING_LITERAL_QUOTE») eps ∷ []
       e = steps-append (escaped string-byte cs) (34 ∷ []) (in-string 34) ∙ ap (step 34) (stays string-rule stays-string cs s)
 
 -- ---- Blank node labels
 
+-- The digit d leads from one state to the other.
 abbrev digit-on : State → State → ℕ → Bool
 digit-on q q2 d = same-state (step (48 + d) q) q2
 
@@ -185,9 +181,10 @@ digits-lows (suc most) n =
 pub label-lows : (n : ℕ) → T (lows (label-points n))
 label-lows n = digits-lows 10 n
 
-pub label-token : (n : ℕ) (ds : List ℕ) → token-at (label-points n ++ 32 ∷ ds) ≡ hit 4 (size width (label-points n))
+-- A label before a blank.
+pub label-token : (n : ℕ) (ds : List ℕ) → token-at (label-points n ++ 32 ∷ ds) ≡ hit (kind-code «BLANK_NODE_LABEL») (size width (label-points n))
 unfolding open-states
-label-token n ds = token-by (label-points n) (32 ∷ ds) 4 (no-quote 95 (58 ∷ 98 ∷ (decimal n ++ 32 ∷ ds)) refl refl) (ap now-at e) (ap (step 32) e)
+label-token n ds = token-by (label-points n) (32 ∷ ds) (kind-code «BLANK_NODE_LABEL») (no-quote 95 (58 ∷ 98 ∷ (decimal n ++ 32 ∷ ds)) refl refl) (ap now-at e) (ap (step 32) e)
   where
     e : steps (label-points n) terminals ≡ in-label
     e = digits-to 9 n label-start first-digit

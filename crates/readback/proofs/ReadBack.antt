@@ -1,26 +1,29 @@
 -- The long form of usable tables, if it is no larger than a document may be, is read back.
 use mathlib.Core.Path.{_≡_, refl, subst, sym, ap, _∙_}
-use mathlib.Core.List.{List, []}
-use mathlib.Core.Bool.{Bool, true, false}
+use mathlib.Core.List.{[]}
+use mathlib.Core.Bool.{true}
 use mathlib.Core.Option.{none}
-use Prim.Native.Nat.{ℕ, _≤_}
+use Prim.Native.Nat.{ℕ, suc, _≤_}
+use native.Mathlib.Omega.{arith}
 use borrow.Author.Tests.{le-ltb}
-use lib.Dec.{T}
-use lib.ListN.{length}
+use lib.Dec.{T, ltb}
+use lib.ListN.{length, take, drop}
+use lib.Seq.{take-at}
 use Rattle.text.specs.Text.{Text}
 use Rattle.limits.specs.Limits.{document-limit, work-size}
 use Rattle.utf8.specs.Utf8.{first-bad}
 use Rattle.utf8.proofs.Decoding.{valid-encodes}
-use Rattle.token.specs.Tokens.{Token, lexemes, tokens-of, readable}
+use Rattle.utf8.proofs.Tests.{by}
+use Rattle.token.specs.Tokens.{lexemes, tokens-of, readable}
 use Rattle.grammar.specs.Ebnf.{leaves}
 use Rattle.grammar.specs.Productions.{trig, production, kind-of}
 use Rattle.table.specs.Layout.{Slices}
 use Rattle.table.specs.Usable.{usable, held}
-use Rattle.table.specs.LongForm.{long-form}
+use Rattle.table.specs.LongForm.{long-form, Written, write}
 use Rattle.machine.specs.Step.{first-refusal}
 use Rattle.machine.specs.Read.{Lent, bad-base, first-checks}
 use Rattle.machine.specs.Construction.{tables}
-use Rattle.machine.specs.Demand.{document-tokens, Fair, Meets}
+use Rattle.machine.specs.Demand.{document-tokens, Fair}
 use Rattle.machine.proofs.Constructed.{tables-hold}
 use Rattle.machine.proofs.Demands.{meets-answer}
 use Rattle.readback.specs.ReadBack.{long-form-mode, ReadsBack, ReadAgain}
@@ -82,3 +85,27 @@ read-again s u l =
       same = tables-hold trig (b .derivation) [] ∙ b .same;
       answer = λ lent w room. meets-answer (long-form s) long-form-mode [] lent (b .accepted lent w room);
     }
+
+-- ---- What the writer wrote
+
+-- Where the writer answers 0, the tables are usable and what it wrote is their long form.
+pub record WrittenForm (s : Slices) (w : Written) : Type 0 where
+  pub usable : usable s ≡ true
+  pub size : w .position ≡ length (long-form s)
+  pub text : take (w .position) (w .output) ≡ long-form s
+
+pub written-form : (s : Slices) (out : Text) → write s out .number ≡ 0 → WrittenForm s (write s out)
+unfolding write
+written-form s out e =
+    by (usable s)
+    (λ u.
+    by (ltb (length out) (length (long-form s))) (λ f. none-such (rw (u, f) at e))
+    (λ f. rw (u, f) (record { usable = u; size = refl; text = take-at (long-form s) (drop (length (long-form s)) out) (length (long-form s)) refl })))
+    (λ u. none-such (rw u at e))
+  where
+    none-such : {X : Type 0} {n : ℕ} → suc n ≡ 0 → X
+    none-such e = absurd (omega arith)
+
+-- What the writer wrote, if it is no larger than a document may be, is read again.
+pub read-written : (s : Slices) (out : Text) → write s out .number ≡ 0 → write s out .position ≤ document-limit → ReadAgain s
+read-written s out e l = let w = written-form s out e in read-again s (w .usable) (subst (λ (n : ℕ). n ≤ document-limit) (w .size) l)

@@ -1,18 +1,16 @@
 -- The renaming of blank nodes is undone by reading the number in a label, so that it keeps nodes apart.
 use mathlib.Core.Path.{_≡_, refl, sym, ap, _∙_}
-use mathlib.Core.Bool.{Bool, true, false}
 use mathlib.Core.List.{List, [], _∷_, _++_}
 use Prim.Native.Nat.{ℕ, zero, suc, pred, _+_, _*_, _-_, _/_, _%_, _<_}
 use native.Mathlib.Omega.{arith}
-use borrow.Author.Tests.{ltb-true}
 use lib.Dec.{ltb}
 use lib.ListN.{getD, drop}
-use Rattle.text.specs.Text.{Text, cond}
+use Rattle.text.specs.Text.{Text}
 use Rattle.utf8.proofs.Tests.{by}
 use Rattle.dataset.specs.Terms.{Blank, label, bracket, cell, numbered, Term, iri, blank, literal, tagged}
 use Rattle.table.specs.Layout.{term-size, entry-at, iri-kind, blank-kind, literal-kind, Slices}
-use Rattle.table.specs.Usable.{the, text, tag, has-kind, term}
-use Rattle.table.specs.LongForm.{digits, decimal}
+use Rattle.table.specs.Usable.{the, has-kind, term}
+use Rattle.table.specs.LongForm.{digits}
 use Rattle.readback.specs.ReadBack.{label-of-number, renamed-term, Words, KeepsApart}
 
 -- ---- Decimal digits

@@ -1,18 +1,18 @@
 -- The printed tokens are cut as they stand, and none is refused.
-use mathlib.Core.Path.{_≡_, refl, subst, sym, ap, ap₂, _∙_}
+use mathlib.Core.Path.{_≡_, refl, ap, _∙_}
 use mathlib.Core.Logic.{_⊎_, inl, inr}
-use mathlib.Core.Bool.{Bool, true, false, not, _&&_, _||_}
+use mathlib.Core.Bool.{Bool, true, false}
 use mathlib.Core.List.{List, [], _∷_, _++_}
 use mathlib.Core.Option.{Option, none, some}
-use Prim.Native.Nat.{ℕ, _+_, _-_, _≤_}
+use Prim.Native.Nat.{ℕ, _+_, _-_}
 use native.Mathlib.Omega.{arith}
 use borrow.Author.Tests.{le-ltb}
-use lib.Dec.{T, eqb, ltb}
-use lib.ListN.{length, take, drop, length-append}
+use lib.Dec.{T, eqb}
+use lib.ListN.{length, drop, length-append}
 use lib.Seq.{take-at}
-use Rattle.text.specs.Text.{Text, cond, is, same-text}
+use Rattle.text.specs.Text.{Text, is, same-text}
 use Rattle.limits.specs.Limits.{iri-limit}
-use Rattle.utf8.specs.Utf8.{width, encode, encodes, decode, first-bad}
+use Rattle.utf8.specs.Utf8.{width, encodes, decode, first-bad}
 use Rattle.utf8.specs.Scalar.{Scalar, Scalars}
 use Rattle.utf8.proofs.Decoding.{valid-encoded}
 use Rattle.utf8.proofs.Tests.{by}
@@ -22,18 +22,18 @@ use Rattle.token.specs.Terminals.{token-at}
 use Rattle.token.specs.Tokens.{Token, white-space}
 use Rattle.escape.specs.Escape.{unescape, bad-escape}
 use Rattle.iri.specs.Iri.{has-scheme}
-use Rattle.dataset.specs.Terms.{Blank, Term, iri, blank, literal, tagged, Triple, Quad, xsd-string}
-use Rattle.dataset.specs.Environment.{Environment, start-environment}
+use Rattle.dataset.specs.Terms.{Term, iri, blank, literal, tagged, Triple, Quad, xsd-string}
+use Rattle.dataset.specs.Environment.{start-environment}
 use Rattle.dataset.specs.Constructors.{inner, string-text, reference, tag, node-label, InForce, nothing, awaiting, after-token, after-tokens, in-force}
 use Rattle.table.specs.Usable.{is-tag}
-use Rattle.table.specs.LongForm.{decimal, iri-byte, string-byte, escaped, iri-form, string-form}
+use Rattle.table.specs.LongForm.{decimal, iri-byte, string-byte, escaped}
 use Rattle.machine.specs.Refusals.{no-character, undeclared, no-base, too-long, one-prefix-more, too-deep}
 use Rattle.machine.specs.Demand.{depth-after, Nowhere, Fair}
-use Rattle.readback.proofs.Cutting.{Part, printed, gap, points-of, points, tokens-at, begins-token, Cut}
+use Rattle.readback.proofs.Cutting.{Part, printed, gap, points, tokens-at, begins-token, Cut}
 use Rattle.readback.proofs.Undone.{lows, Rule, iri-rule, string-rule, lows-scalars, scalars-append, escaped-scalars, unescape-escaped, good-escaped}
-use Rattle.readback.proofs.Printed.{marked, label-points, label-lows, label-token, iri-token, string-token, dot-token, open-token, close-token, carets-token}
-use Rattle.readback.proofs.Tags.{TagToken, tag-token}
-use Rattle.readback.proofs.Forms.{number-of, GoodIri, Good, GoodPredicate, GoodResource, GoodGraph, GoodQuad, GoodQuads, predicate-good, resource-good, iri-part, string-part, type-parts, term-parts, triple-parts, line-parts, parts, iri-bytes, string-bytes, label-bytes, tag-bytes}
+use Rattle.readback.proofs.Printed.{marked, label-points, label-lows, label-token, iri-token, string-token, closed-token, dot-token}
+use Rattle.readback.proofs.Tags.{tag-token}
+use Rattle.readback.proofs.Forms.{number-of, GoodIri, Good, GoodGraph, GoodQuads, predicate-good, resource-good, iri-part, string-part, type-parts, term-parts, triple-parts, line-parts, parts, iri-bytes, string-bytes, label-bytes, tag-bytes}
 
 -- ---- What a printed token stands for
 
@@ -231,7 +231,7 @@ module _ (rest : List Part) (r : Sound rest) where
       (λ e.
       rw e (
         string-sound s v 94 (94 ∷ after-carets) refl,
-        (mild-sound carets (94 ∷ 94 ∷ []) after-carets refl tt refl (carets-token after-carets), (iri-sound d g (32 ∷ points rest), then-blank)),
+        (mild-sound carets (94 ∷ 94 ∷ []) after-carets refl tt refl (closed-token (kind-code carets) 94 (94 ∷ []) after-carets refl refl refl), (iri-sound d g (32 ∷ points rest), then-blank)),
       ))
     where
       after-carets : List ℕ
@@ -262,11 +262,11 @@ module _ (t : Triple) (s : Good (t .subject)) (p : Good (t .predicate)) (o : Goo
   line-sound none h rest r = triple-sound 10 rest (inr refl) (line-gap, r)
   line-sound (some g) h rest r =
       let end : Sound (gap 32 ∷ printed close-brace (125 ∷ []) ∷ gap 10 ∷ rest) =
-      (blank-gap, (mild-sound close-brace (125 ∷ []) (10 ∷ points rest) refl tt refl (close-token (10 ∷ points rest)), (line-gap, r))) in
+      (blank-gap, (mild-sound close-brace (125 ∷ []) (10 ∷ points rest) refl tt refl (closed-token (kind-code close-brace) 125 [] (10 ∷ points rest) refl refl refl), (line-gap, r))) in
       let inside = triple-sound 32 (printed close-brace (125 ∷ []) ∷ gap 10 ∷ rest) (inl refl) end in
       let after = gap 32 ∷ triple-parts t (gap 32 ∷ printed close-brace (125 ∷ []) ∷ gap 10 ∷ rest) in
       term-sound (printed open-brace (123 ∷ []) ∷ after)
-      (mild-sound open-brace (123 ∷ []) (points after) refl tt refl (open-token (points after)), (blank-gap, inside))
+      (mild-sound open-brace (123 ∷ []) (points after) refl tt refl (closed-token (kind-code open-brace) 123 [] (points after) refl refl refl), (blank-gap, inside))
       g (resource-good g h)
 
 pub parts-sound : (qs : List Quad) → GoodQuads qs → Sound (parts qs)

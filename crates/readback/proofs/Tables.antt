@@ -1,21 +1,21 @@
 -- Usable tables hold statements that the writer takes, and their long form is the text of these.
-use mathlib.Core.Path.{_≡_, refl, subst, sym, ap, ap₂, _∙_}
-use mathlib.Core.Logic.{_⊎_, inl, inr, ⊎-elim}
+use mathlib.Core.Path.{_≡_, refl, subst, ap, ap₂, _∙_}
+use mathlib.Core.Logic.{⊎-elim}
 use mathlib.Core.Bool.{Bool, true, false, _&&_, _||_}
-use mathlib.Core.List.{List, [], _∷_, _++_}
+use mathlib.Core.List.{_++_}
 use mathlib.Core.Option.{Option, none, some}
 use Prim.Native.Nat.{ℕ, zero, suc, _+_, _≤_, _<_}
 use native.Mathlib.Omega.{arith}
 use borrow.Author.Tests.{eqb-true, leb-true, ltb-true, le-leb}
-use lib.Dec.{T, eqb, leb, ltb, eqb·suc-zero}
-use lib.ListN.{length, take, drop, length-take}
-use Rattle.text.specs.Text.{Text, ascii, cond, between}
+use lib.Dec.{eqb, leb, ltb, eqb·suc-zero}
+use lib.ListN.{drop, length-take}
+use Rattle.text.specs.Text.{Text, ascii, cond}
 use Rattle.text.proofs.Compare.{and-left, and-right}
 use Rattle.utf8.specs.Utf8.{first-bad}
-use Rattle.utf8.proofs.Tests.{by, split, between-true, or-true}
+use Rattle.utf8.proofs.Tests.{by, split, between-true}
 use Rattle.iri.specs.Iri.{has-scheme}
-use Rattle.dataset.specs.Terms.{Blank, numbered, Term, iri, blank, literal, tagged, Triple, Quad}
-use Rattle.table.specs.Layout.{Row, row-at, Entry, iri-kind, blank-kind, literal-kind, tagged-kind, Slices}
+use Rattle.dataset.specs.Terms.{numbered, Term, iri, blank, literal, tagged}
+use Rattle.table.specs.Layout.{Row, row-at, iri-kind, blank-kind, literal-kind, tagged-kind, Slices}
 use Rattle.table.specs.Usable.{is-none, each, is-tag, the, text, tag, inside, counts-fit, has-kind, good-iri, good-datatype, good-tag, good-term, present, resource, good-row, usable, term, graph, quad, quads-from, held}
 use Rattle.table.specs.LongForm.{term-form, triple-form, line, lines-from, long-form}
 use Rattle.readback.proofs.Forms.{GoodIri, Good, GoodPredicate, GoodResource, GoodGraph, GoodQuad, GoodQuads, form, triple-text, line-text, text-of}

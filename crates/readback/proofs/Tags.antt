@@ -13,7 +13,8 @@ use Rattle.text.specs.Text.{Text, cond}
 use Rattle.text.proofs.Booleans.{and-in}
 use Rattle.utf8.specs.Utf8.{width, Range, _–_}
 use Rattle.utf8.proofs.Tests.{split, and-true, and-false}
-use Rattle.token.specs.Regular.{Re, eps, set, seq, alt, star, in-ranges, in-set, Item, item, Match, nothing, hit, size, Hit, Longest, nullable, cat, cats, after, of-kind, step, now-at, later, best}
+use Rattle.token.specs.Kind.{kind-code, LANGTAG}
+use Rattle.token.specs.Regular.{Re, eps, set, seq, alt, star, in-ranges, in-set, item, Match, nothing, hit, size, Longest, nullable, cat, cats, after, of-kind, step, now-at, later, best}
 use Rattle.token.specs.Terminals.{terminals, long-terminals, token-at}
 use Rattle.token.proofs.Longest.{best-longest}
 use Rattle.automaton.specs.States.{State, steps}
@@ -173,7 +174,7 @@ whole (c ∷ g) q k t e = ⊎-elim (λ h. low h (λ f. whole g (step c q) k (con
 
 pub record TagToken (g : Text) : Type 0 where
   pub ascii-only : T (lows g)
-  pub token : (ds : List ℕ) → token-at (64 ∷ (g ++ 32 ∷ ds)) ≡ hit 7 (size width (64 ∷ g))
+  pub token : (ds : List ℕ) → token-at (64 ∷ (g ++ 32 ∷ ds)) ≡ hit (kind-code LANGTAG) (size width (64 ∷ g))
 
 matched : (m : Match) (k n : ℕ) → is-match m k n ≡ true → m ≡ hit k n
 unfolding is-match
@@ -182,10 +183,10 @@ matched (hit j i) k n e = let v = and-true (eqb j k) (eqb i n) (subst T (sym e) 
 
 pub tag-token : (g : Text) → is-tag g ≡ true → TagToken g
 unfolding is-tag token-at
-tag-token g e = record { ascii-only = r .ascii-only; token = λ ds. token-by (64 ∷ g) (32 ∷ ds) 7 (no-quote 64 (g ++ 32 ∷ ds) refl refl) (r .ends) (out-step 32 (steps g (step 64 terminals)) (inl (omega arith)) (r .rest)) }
+tag-token g e = record { ascii-only = r .ascii-only; token = λ ds. token-by (64 ∷ g) (32 ∷ ds) (kind-code LANGTAG) (no-quote 64 (g ++ 32 ∷ ds) refl refl) (r .ends) (out-step 32 (steps g (step 64 terminals)) (inl (omega arith)) (r .rest)) }
   where
-    whole-tag : best width terminals (64 ∷ g) ≡ hit 7 (suc (length g))
-    whole-tag = ap (λ (b : Bool). best width (cond b long-terminals terminals) (64 ∷ g)) (sym (no-quote 64 g refl refl)) ∙ matched (token-at (64 ∷ g)) 7 (suc (length g)) e
+    whole-tag : best width terminals (64 ∷ g) ≡ hit (kind-code LANGTAG) (suc (length g))
+    whole-tag = ap (λ (b : Bool). best width (cond b long-terminals terminals) (64 ∷ g)) (sym (no-quote 64 g refl refl)) ∙ matched (token-at (64 ∷ g)) (kind-code LANGTAG) (suc (length g)) e
 
-    r : Whole g (step 64 terminals) 7
-    r = whole g (step 64 terminals) 7 tt (longer (best width (step 64 terminals) g) terminals 7 (length g) whole-tag)
+    r : Whole g (step 64 terminals) (kind-code LANGTAG)
+    r = whole g (step 64 terminals) (kind-code LANGTAG) tt (longer (best width (step 64 terminals) g) terminals (kind-code LANGTAG) (length g) whole-tag)

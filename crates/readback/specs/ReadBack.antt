@@ -81,4 +81,4 @@ pub record ReadAgain (s : Slices) : Type 0 where
   pub memory : Memory
   pub same : quads (memory .terms) (memory .rows) ≡ map renamed (held s)
   pub answer :
-    (lent : Lent) → work-size ≤ lent .work → Fits (room-of lent) memory → read (long-form s) long-form-mode [] lent ≡ success (length (long-form s)) memory
+      (lent : Lent) → work-size ≤ lent .work → Fits (room-of lent) memory → read (long-form s) long-form-mode [] lent ≡ success (length (long-form s)) memory
