@@ -80,11 +80,18 @@ resource-good (tagged s h) g = absurd g
 
 -- ---- Their parts
 
+-- The code points of a printed IRI and of a printed string.
+abbrev pub iri-points : Text → List ℕ
+iri-points s = marked 60 62 (escaped iri-byte (decode s))
+
+abbrev pub string-points : Text → List ℕ
+string-points s = marked 34 34 (escaped string-byte (decode s))
+
 abbrev pub iri-part : Text → Part
-iri-part s = printed IRIREF (marked 60 62 (escaped iri-byte (decode s)))
+iri-part s = printed IRIREF (iri-points s)
 
 abbrev pub string-part : Text → Part
-string-part s = printed «STRING_LITERAL_QUOTE» (marked 34 34 (escaped string-byte (decode s)))
+string-part s = printed «STRING_LITERAL_QUOTE» (string-points s)
 
 abbrev pub number-of : Blank → ℕ
 number-of (label s) = 0
@@ -146,11 +153,11 @@ module _ {f : ℕ → Text} (rule : Rule f) where
       ∙ ap₂ (λ (x y : Text). x ++ y) (escaped-encodes rule (decode s) ∙ ap (escaped f) (sym (valid-encoded s v .bytes))) d)
 
 -- The text of a token alone.
-pub iri-bytes : (s : Text) → first-bad s ≡ none → encodes (marked 60 62 (escaped iri-byte (decode s))) ≡ iri-form s
+pub iri-bytes : (s : Text) → first-bad s ≡ none → encodes (iri-points s) ≡ iri-form s
 unfolding encodes
 iri-bytes s v = marked-bytes iri-rule 60 62 s refl refl v
 
-pub string-bytes : (s : Text) → first-bad s ≡ none → encodes (marked 34 34 (escaped string-byte (decode s))) ≡ string-form s
+pub string-bytes : (s : Text) → first-bad s ≡ none → encodes (string-points s) ≡ string-form s
 unfolding encodes
 string-bytes s v = marked-bytes string-rule 34 34 s refl refl v
 
@@ -168,15 +175,15 @@ type-bytes : (d : Text) → GoodIri d → bytes (type-parts d) ≡ type-form d
 unfolding bytes points encodes
 type-bytes d g =
     by (same-text d xsd-string) (λ e. rw e refl)
-    (λ e. rw e (ap (λ (x : Text). 94 ∷ 94 ∷ x) (ap encodes (append-nil (marked 60 62 (escaped iri-byte (decode d)))) ∙ iri-bytes d (g .utf8))))
+    (λ e. rw e (ap (λ (x : Text). 94 ∷ 94 ∷ x) (ap encodes (append-nil (iri-points d)) ∙ iri-bytes d (g .utf8))))
 
 pub term-bytes : (t : Term) → Good t → bytes (term-parts t) ≡ form t
 unfolding bytes points encodes
-term-bytes (iri s) g = ap encodes (append-nil (marked 60 62 (escaped iri-byte (decode s)))) ∙ iri-bytes s (g .utf8)
+term-bytes (iri s) g = ap encodes (append-nil (iri-points s)) ∙ iri-bytes s (g .utf8)
 term-bytes (blank b) g = ap encodes (append-nil (label-points (number-of b))) ∙ label-bytes (number-of b)
-term-bytes (literal s d) g = bytes-printed «STRING_LITERAL_QUOTE» (marked 34 34 (escaped string-byte (decode s))) (type-parts d) ∙ ap₂ (λ (x y : Text). x ++ y) (string-bytes s (g .0)) (type-bytes d (g .1))
+term-bytes (literal s d) g = bytes-printed «STRING_LITERAL_QUOTE» (string-points s) (type-parts d) ∙ ap₂ (λ (x y : Text). x ++ y) (string-bytes s (g .0)) (type-bytes d (g .1))
 term-bytes (tagged s t) g =
-    bytes-printed «STRING_LITERAL_QUOTE» (marked 34 34 (escaped string-byte (decode s))) (printed LANGTAG (64 ∷ t) ∷ [])
+    bytes-printed «STRING_LITERAL_QUOTE» (string-points s) (printed LANGTAG (64 ∷ t) ∷ [])
     ∙ ap₂ (λ (x y : Text). x ++ y) (string-bytes s (g .0)) (ap encodes (append-nil (64 ∷ t)) ∙ tag-bytes t (g .1))
     ∙ sym (append-assoc (string-form s) (64 ∷ []) t)
 

@@ -4,6 +4,8 @@ pub mod Undone
 pub mod Printed
 pub mod Tags
 pub mod Forms
+pub mod Values
+pub mod Harmless
 pub mod Sound
 pub mod Lines
 pub mod Tables

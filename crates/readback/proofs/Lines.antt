@@ -7,7 +7,7 @@ use Prim.Native.Nat.{ℕ, _+_}
 use lib.ListN.{length}
 use Rattle.text.specs.Text.{Text, cond, same-text}
 use Rattle.text.proofs.Compare.{same-eq}
-use Rattle.utf8.specs.Utf8.{decode, first-bad}
+use Rattle.utf8.specs.Utf8.{first-bad}
 use Rattle.utf8.proofs.Tests.{by}
 use Rattle.token.specs.Kind.{IRIREF, «STRING_LITERAL_QUOTE», «BLANK_NODE_LABEL», LANGTAG, carets, dot, open-brace, close-brace}
 use Rattle.token.specs.Tokens.{Token}
@@ -21,12 +21,11 @@ use Rattle.dataset.specs.Terms.{Blank, label, bracket, cell, numbered, Term, ir
 use Rattle.dataset.specs.Environment.{Environment, start-environment}
 use Rattle.dataset.specs.Constructors.{node-label, resolved-reference, iri-of}
 use Rattle.dataset.specs.Statements.{Node, Value, action, triple, more-objects, more-verbs, in-graph, trig-quads, statements}
-use Rattle.table.specs.LongForm.{iri-byte, string-byte, escaped}
 use Rattle.readback.specs.ReadBack.{renamed-blank, renamed-term, renamed}
 use Rattle.readback.proofs.Cutting.{Part, printed, gap, bytes, tokens-at, tokens-append}
-use Rattle.readback.proofs.Printed.{marked, label-points}
-use Rattle.readback.proofs.Forms.{GoodIri, Numbered, Good, GoodPredicate, GoodResource, GoodGraph, GoodQuad, GoodQuads, number-of, string-part, type-parts, term-parts, triple-parts, line-parts, parts}
-use Rattle.readback.proofs.Sound.{token-of, iri-reference, string-value, tag-value, label-value}
+use Rattle.readback.proofs.Printed.{label-points}
+use Rattle.readback.proofs.Forms.{iri-points, string-points, GoodIri, Numbered, Good, GoodPredicate, GoodResource, GoodGraph, GoodQuad, GoodQuads, number-of, string-part, type-parts, term-parts, triple-parts, line-parts, parts}
+use Rattle.readback.proofs.Values.{token-of, iri-reference, string-value, tag-value, label-value}
 
 -- Trees of mode 0, their leaves and their values.
 abbrev TreeOf : Nonterminal → Type 0
@@ -44,7 +43,7 @@ environment = start-environment []
 -- ---- Terms
 
 abbrev iri-token-at : ℕ → Text → Token
-iri-token-at at s = token-of IRIREF at (marked 60 62 (escaped iri-byte (decode s)))
+iri-token-at at s = token-of IRIREF at (iri-points s)
 
 iri-value : (at : ℕ) (s : Text) → GoodIri s → iri-of environment (iri-token-at at s) ≡ s
 unfolding iri-of resolved-reference resolved
@@ -88,7 +87,7 @@ subject-tree (literal s d) g at = absurd g
 subject-tree (tagged s h) g at = absurd g
 
 abbrev string-token-at : ℕ → Text → Token
-string-token-at at s = token-of «STRING_LITERAL_QUOTE» at (marked 34 34 (escaped string-byte (decode s)))
+string-token-at at s = token-of «STRING_LITERAL_QUOTE» at (string-points s)
 
 abbrev carets-at : ℕ → Token
 carets-at at = token-of carets at (94 ∷ 94 ∷ [])

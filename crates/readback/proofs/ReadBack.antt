@@ -29,7 +29,8 @@ use Rattle.machine.proofs.Demands.{meets-answer}
 use Rattle.readback.specs.ReadBack.{long-form-mode, ReadsBack, ReadAgain}
 use Rattle.readback.proofs.Cutting.{points, bytes, tokens-at, cut-whole}
 use Rattle.readback.proofs.Forms.{GoodQuads, parts, parts-bytes}
-use Rattle.readback.proofs.Sound.{Sound, sound-cut, sound-scalars, sound-fair, parts-sound}
+use Rattle.readback.proofs.Harmless.{harmless-fair}
+use Rattle.readback.proofs.Sound.{Sound, sound-cut, sound-scalars, sound-harmless, parts-sound}
 use Rattle.readback.proofs.Lines.{Derived, derived}
 use Rattle.readback.proofs.Tables.{long-form-text, held-good}
 
@@ -50,7 +51,7 @@ read-back s u l = record {
         utf8 = ap first-bad text ∙ valid-encodes (points (parts (held s))) (sound-scalars (parts (held s)) sound);
         cuts = subst T (sym (ap (λ (x : Text). readable (lexemes x)) text ∙ cut .1)) tt;
         derivation = (d .derivation, tokens);
-        fair = subst (Fair [] []) (sym cut-tokens) (sound-fair (parts (held s)) sound);
+        fair = subst (Fair [] []) (sym cut-tokens) (harmless-fair (tokens-at 0 (parts (held s))) (sound-harmless (parts (held s)) 0 sound));
         room = room;
       };
 }
