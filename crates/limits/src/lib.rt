@@ -1,7 +1,4 @@
 // The reader's limits, named once. Sizes are in bytes.
-ghost use mathlib.Core.Path.{_≡_};
-ghost use Rattle.limits.specs.Limits.{work-size};
-
 pub struct Limits {}
 
 impl Limits {
@@ -14,11 +11,6 @@ impl Limits {
     pub const PREFIXES: usize = 32;
 
     pub const DEPTH: usize = 64;
-
     // The least work slice: the prefixes with their namespaces, and the base.
-    pub fn work_size() -> usize
-        ensures { λ r. ⌜ r ≡ work-size ⌝ }
-    {
-        Limits::PREFIXES * (Limits::PREFIX + Limits::IRI) + Limits::IRI
-    }
+    pub const WORK: usize = Self::PREFIXES * (Self::PREFIX + Self::IRI) + Self::IRI;
 }

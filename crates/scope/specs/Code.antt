@@ -6,9 +6,10 @@ use mathlib.Core.Option.{none, some}
 use Prim.Native.Nat.{ℕ, zero, suc, _+_, _*_, _≤_}
 use lib.Dec.{leb}
 use lib.ListN.{length, take, drop, getD, set}
+use Rattle.limits.specs.Limits.{iri-limit, prefix-limit, prefixes-limit, work-size}
 use Rattle.text.specs.Text.{Text, cond, same-text}
 use Rattle.text.specs.Slice.{over-at}
-use Rattle.scope.specs.Scope.{Binding, Scope, longest-iri, longest-prefix, most-prefixes, work-size, lookup, declare-answer, after-declare}
+use Rattle.scope.specs.Scope.{Binding, Scope, lookup, declare-answer, after-declare}
 use Rattle.scope.specs.declared.Declared.{Declared}
 use Rattle.scope.specs.declared.Found.{Found}
 use Rattle.scope.specs.declared.Found.the-variants.{At, Missing}
@@ -23,8 +24,8 @@ cell work start size n = take (at-most n size) (drop start work)
 -- "32 prefixes of 64 + 1,024 bytes, and a base of 1,024". The array has the prefixes' lengths, the namespaces', the count and the base's length.
 unfoldable pub binding : Text → List ℕ → ℕ → Binding
 binding work lens i = record {
-  prefix = cell work (i * 1088) longest-prefix (getD lens i 0);
-  namespace = cell work (i * 1088 + 64) longest-iri (getD lens (32 + i) 0);
+  prefix = cell work (i * 1088) prefix-limit (getD lens i 0);
+  namespace = cell work (i * 1088 + 64) iri-limit (getD lens (32 + i) 0);
 }
 
 -- n bindings from the k-th on.
@@ -33,10 +34,10 @@ listed f k zero = []
 listed f k (suc n) = f k ∷ listed f (suc k) n
 
 abbrev pub count : List ℕ → ℕ
-count lens = at-most (getD lens 64 0) most-prefixes
+count lens = at-most (getD lens 64 0) prefixes-limit
 
 unfoldable pub base-cell : Text → List ℕ → Text
-base-cell work lens = cell work 34816 longest-iri (getD lens 65 0)
+base-cell work lens = cell work 34816 iri-limit (getD lens 65 0)
 
 -- What the work slice and the array hold.
 unfoldable pub in-force : Text → List ℕ → Scope
@@ -50,7 +51,7 @@ place p (b ∷ bs) = let r = suc (place p bs) in cond (same-text p (b .prefix)) 
 -- The namespace that was found stands in the work slice.
 unfoldable pub FoundIn : Text → Scope → Text → Found → Type 0
 FoundIn p s work Missing = lookup p (s .bindings) ≡ none
-FoundIn p s work (At start n) = (lookup p (s .bindings) ≡ some (take n (drop start work))) × ((start + n ≤ length work) × (n ≤ longest-iri))
+FoundIn p s work (At start n) = (lookup p (s .bindings) ≡ some (take n (drop start work))) × ((start + n ≤ length work) × (n ≤ iri-limit))
 
 -- A work slice and an array that can hold all this; the caller's are.
 pub record Usable (work : Text) (lens : List ℕ) : Type 0 where
@@ -70,6 +71,6 @@ pub record Declares (work work' : Text) (lens lens' : List ℕ) (p ns : Text) (r
 
 -- What setting the base answers and leaves.
 pub record SetsBase (work work' : Text) (lens lens' : List ℕ) (iri : Text) (r : Bool) : Type 0 where
-  pub answer : r ≡ leb (length iri) longest-iri
+  pub answer : r ≡ leb (length iri) iri-limit
   pub after : in-force work' lens' ≡ cond r (record { bindings = in-force work lens .bindings; base = iri }) (in-force work lens)
   pub usable : Usable work' lens'

@@ -5,22 +5,10 @@ use mathlib.Core.Option.{Option, none, some}
 use Prim.Native.Nat.{ℕ}
 use lib.Dec.{leb, ltb}
 use lib.ListN.{length}
+use Rattle.limits.specs.Limits.{iri-limit, prefix-limit, prefixes-limit}
 use Rattle.text.specs.Text.{Text, cond, same-text, computing as text-computing}
 use Rattle.scope.specs.declared.Declared.{Declared}
 use Rattle.scope.specs.declared.Declared.the-variants.{Done, TooLong, TooMany}
-
--- The limits: the bytes of an IRI and of a prefix (its colon not counted), how many prefixes, the bytes of the work slice.
-abbrev pub longest-iri : ℕ
-longest-iri = 1024
-
-abbrev pub longest-prefix : ℕ
-longest-prefix = 64
-
-abbrev pub most-prefixes : ℕ
-most-prefixes = 32
-
-abbrev pub work-size : ℕ
-work-size = 35840
 
 -- A prefix and its namespace.
 pub record Binding : Type 0 where
@@ -52,8 +40,8 @@ declare p ns (b ∷ bs) = let r = b ∷ declare p ns bs in cond (same-text p (b 
 -- "IRI over 1,024 bytes ..; declared prefix over 64"; "a 33rd distinct prefix"
 unfoldable pub declare-answer : Scope → Text → Text → Declared
 declare-answer s p ns =
-    cond (ltb longest-prefix (length p) || ltb longest-iri (length ns)) TooLong
-    (cond (not (is-declared p (s .bindings)) && leb most-prefixes (length (s .bindings))) TooMany Done)
+    cond (ltb prefix-limit (length p) || ltb iri-limit (length ns)) TooLong
+    (cond (not (is-declared p (s .bindings)) && leb prefixes-limit (length (s .bindings))) TooMany Done)
 
 unfoldable pub after-declare : Declared → Scope → Text → Text → Scope
 after-declare Done s p ns = record { bindings = declare p ns (s .bindings); base = s .base }
