@@ -21,11 +21,27 @@ at-most n most = cond (leb n most) n most
 unfoldable pub cell : Text → ℕ → ℕ → ℕ → Text
 cell work start size n = take (at-most n size) (drop start work)
 
--- "32 prefixes of 64 + 1,024 bytes, and a base of 1,024". The array has the prefixes' lengths, the namespaces', the count and the base's length.
+-- "32 prefixes of 64 + 1,024 bytes, and a base of 1,024"
+abbrev pub cell-size : ℕ
+cell-size = prefix-limit + iri-limit
+
+abbrev pub base-place : ℕ
+base-place = prefixes-limit * cell-size
+
+-- The array has the prefixes' lengths, the namespaces', the count and the base's length.
+abbrev pub count-word : ℕ
+count-word = prefixes-limit + prefixes-limit
+
+abbrev pub base-word : ℕ
+base-word = suc count-word
+
+abbrev pub words-size : ℕ
+words-size = suc base-word
+
 unfoldable pub binding : Text → List ℕ → ℕ → Binding
 binding work lens i = record {
-  prefix = cell work (i * 1088) prefix-limit (getD lens i 0);
-  namespace = cell work (i * 1088 + 64) iri-limit (getD lens (32 + i) 0);
+  prefix = cell work (i * cell-size) prefix-limit (getD lens i 0);
+  namespace = cell work (i * cell-size + prefix-limit) iri-limit (getD lens (prefixes-limit + i) 0);
 }
 
 -- n bindings from the k-th on.
@@ -34,10 +50,10 @@ listed f k zero = []
 listed f k (suc n) = f k ∷ listed f (suc k) n
 
 abbrev pub count : List ℕ → ℕ
-count lens = at-most (getD lens 64 0) prefixes-limit
+count lens = at-most (getD lens count-word 0) prefixes-limit
 
 unfoldable pub base-cell : Text → List ℕ → Text
-base-cell work lens = cell work 34816 iri-limit (getD lens 65 0)
+base-cell work lens = cell work base-place iri-limit (getD lens base-word 0)
 
 -- What the work slice and the array hold.
 unfoldable pub in-force : Text → List ℕ → Scope
@@ -56,12 +72,12 @@ FoundIn p s work (At start n) = (lookup p (s .bindings) ≡ some (take n (drop s
 -- A work slice and an array that can hold all this; the caller's are.
 pub record Usable (work : Text) (lens : List ℕ) : Type 0 where
   pub room : work-size ≤ length work
-  pub words : length lens ≡ 66
+  pub words : length lens ≡ words-size
 
 -- A prefix and its namespace have gone into the i-th cell.
 pub record WroteBinding (work work' : Text) (lens lens' : List ℕ) (i : ℕ) (p ns : Text) : Type 0 where
-  pub texts : work' ≡ over-at (i * 1088 + 64) ns (over-at (i * 1088) p work)
-  pub lengths : lens' ≡ set (set lens i (length p)) (32 + i) (length ns)
+  pub texts : work' ≡ over-at (i * cell-size + prefix-limit) ns (over-at (i * cell-size) p work)
+  pub lengths : lens' ≡ set (set lens i (length p)) (prefixes-limit + i) (length ns)
 
 -- What a declaration answers and leaves.
 pub record Declares (work work' : Text) (lens lens' : List ℕ) (p ns : Text) (r : Declared) : Type 0 where

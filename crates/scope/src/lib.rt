@@ -2,8 +2,8 @@
 ghost use mathlib.Core.Path.{_≡_};
 ghost use Prim.Native.Nat.{_+_, _≤_, _<_};
 ghost use lib.ListN.{length, replicate};
-ghost use Rattle.limits.specs.Limits.{work-size};
-ghost use Rattle.scope.specs.Code.{at-most, binding, count, listed, place, in-force, base-cell, Usable, FoundIn, WroteBinding, Declares, SetsBase};
+ghost use Rattle.limits.specs.Limits.{prefixes-limit, work-size};
+ghost use Rattle.scope.specs.Code.{words-size, at-most, binding, count, listed, place, in-force, base-cell, Usable, FoundIn, WroteBinding, Declares, SetsBase};
 use limits::Limits;
 
 // Where things stand: in the work slice a cell for each prefix and its namespace, and one for the base; in the array the
@@ -23,7 +23,7 @@ impl Layout {
 
     // Nothing is declared, and there is no base.
     pub fn fresh() -> [usize; Layout::WORDS]
-        ensures { λ r. ⌜ r ≡ replicate 66 0 ⌝ }
+        ensures { λ r. ⌜ r ≡ replicate words-size 0 ⌝ }
     {
         [0usize; Layout::WORDS]
     }
@@ -52,7 +52,7 @@ fn at_most(n: usize, most: usize) -> usize
 
 // The place of a prefix among the first n bindings; n where it has none.
 fn find(work: &[u8], lens: &[usize; Layout::WORDS], prefix: &[u8], n: usize) -> usize
-    requires { ⌜ (work-size ≤ length (now work)) × (n ≤ 32) ⌝ }
+    requires { ⌜ (work-size ≤ length (now work)) × (n ≤ prefixes-limit) ⌝ }
     ensures { λ r. ⌜ (r ≡ place (now (prefix .entry)) (listed (binding (now (work .entry)) (now (lens .entry))) 0 n)) × (r ≤ n) ⌝ }
 {
     let mut i: usize = 0;
@@ -100,7 +100,7 @@ fn write_binding(
     prefix: &[u8],
     namespace: &[u8],
 )
-    requires { ⌜ (work-size ≤ length (now work)) × (i < 32) ⌝ }
+    requires { ⌜ (work-size ≤ length (now work)) × (i < prefixes-limit) ⌝ }
     ensures { λ r. ⌜ WroteBinding (now (work .entry)) (now (work .exit)) (now (lens .entry)) (now (lens .exit)) i (now (prefix .entry)) (now (namespace .entry)) ⌝ }
 {
     let first = i * Layout::CELL;
