@@ -8,7 +8,7 @@ use Rattle.text.proofs.Table.{_⇒_, Gives}
 use Rattle.utf8.specs.Utf8.{encodes}
 use Rattle.token.specs.Kind.{dot}
 use Rattle.token.specs.Tokens.{Token, Lexeme, token, unreadable, lexemes}
-use Rattle.dataset.specs.Environment.{binding}
+use Rattle.scope.specs.Environment.{bind}
 use Rattle.dataset.specs.Constructors.{string-text, reference, tag, node-label, prefix, local, iri-of, InForce, nothing, prefix-name, new-base, namespace-of, after-token, in-force, computing}
 
 -- The tokens of a quoted text; the first of them, and the last.
@@ -85,19 +85,14 @@ awaited = refl
 
 -- The latest directive wins, and each is resolved under those before it.
 environments : Gives (λ s. after s .environment) (
-    "" ⇒ record { base = some lent; namespaces = [] }
-    ∷ "<x:s> <x:p> p:a ." ⇒ record { base = some lent; namespaces = [] }
-    ∷ "@prefix p: <c> . PREFIX : <d/>" ⇒ record { base = some lent; namespaces = binding [] (ascii "x:/a/d/") ∷ binding (ascii "p") (ascii "x:/a/c") ∷ [] }
-    ∷ "PREFIX p: <x:1> PREFIX q: <x:2> PREFIX p: <x:3>" ⇒ record { base = some lent; namespaces = binding (ascii "p") (ascii "x:3") ∷ binding (ascii "q") (ascii "x:2") ∷ [] }
-    ∷ "BASE <c/> PREFIX p: <d> @base <../e> . " ⇒ record { base = some (ascii "x:/a/e"); namespaces = binding (ascii "p") (ascii "x:/a/c/d") ∷ [] }
+    "" ⇒ record { base = lent; namespaces = [] }
+    ∷ "<x:s> <x:p> p:a ." ⇒ record { base = lent; namespaces = [] }
+    ∷ "@prefix p: <c> . PREFIX : <d/>" ⇒ record { base = lent; namespaces = bind (ascii "p") (ascii "x:/a/c") ∷ bind [] (ascii "x:/a/d/") ∷ [] }
+    ∷ "PREFIX p: <x:1> PREFIX q: <x:2> PREFIX p: <x:3>" ⇒ record { base = lent; namespaces = bind (ascii "p") (ascii "x:3") ∷ bind (ascii "q") (ascii "x:2") ∷ [] }
+    ∷ "BASE <c/> PREFIX p: <d> @base <../e> . " ⇒ record { base = ascii "x:/a/e"; namespaces = bind (ascii "p") (ascii "x:/a/c/d") ∷ [] }
     ∷ [])
 unfolding computing
 environments = refl
-
--- An empty base is none.
-no-base : Gives (λ base. in-force base [] .environment .base) ([] ⇒ none ∷ ascii "x:" ⇒ some (ascii "x:") ∷ [])
-unfolding computing
-no-base = refl
 
 -- The IRI of the last token, under the directives before it.
 abbrev last-under : InForce → List Token → Text

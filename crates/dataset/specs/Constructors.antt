@@ -8,7 +8,7 @@ use Rattle.token.specs.Kind.{IRIREF, long-strings, at-prefix, at-base, PREFIX, 
 use Rattle.token.specs.Tokens.{Token, has-kind, computing as token-computing}
 use Rattle.escape.specs.Escape.{unescape, unreserve, computing as escape-computing}
 use Rattle.iri.specs.Resolve.{resolved, computing as iri-computing}
-use Rattle.dataset.specs.Environment.{Environment, namespace, without, declare, set-base, start-environment}
+use Rattle.scope.specs.Environment.{Environment, lookup, declare, set-base, start-environment, computing as scope-computing}
 
 -- The text without n bytes at each end.
 unfoldable pub inner : ℕ → Text → Text
@@ -43,11 +43,11 @@ or-empty (some s) = s
 
 -- "Relative IRI resolution is performed per section 4.3", against the base in force.
 unfoldable pub resolved-reference : Environment → Token → Text
-resolved-reference e t = resolved (or-empty (e .base)) (reference t)
+resolved-reference e t = resolved (e .base) (reference t)
 
 -- "concatenating this onto the namespace"; it is not resolved again.
 unfoldable pub joined-name : Environment → Token → Text
-joined-name e t = or-empty (namespace (prefix t) (e .namespaces)) ++ local t
+joined-name e t = or-empty (lookup (prefix t) (e .namespaces)) ++ local t
 
 -- The IRI that an IRIREF or a prefixed name stands for.
 unfoldable pub iri-of : Environment → Token → Text
@@ -91,5 +91,5 @@ in-force base ts = after-tokens (awaiting nothing (start-environment base)) ts
 
 -- All that computes here; an example that is checked by evaluation names it.
 unfoldable pub computing : ℕ
-unfolding token-computing escape-computing iri-computing namespace without inner string-text reference tag node-label prefix local resolved-reference joined-name iri-of after-tokens in-force
+unfolding token-computing escape-computing iri-computing scope-computing inner string-text reference tag node-label prefix local resolved-reference joined-name iri-of after-tokens in-force
 computing = 0

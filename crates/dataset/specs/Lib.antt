@@ -1,5 +1,4 @@
 -- RDF datasets: terms and quads, what tokens stand for, and the statements that a derivation constructs.
 pub mod Terms
-pub mod Environment
 pub mod Constructors
 pub mod Statements

@@ -5,14 +5,14 @@ use mathlib.Core.Option.{Option, none, some}
 use Prim.Native.Nat.{ℕ, _+_, _-_}
 use lib.Dec.{leb, ltb}
 use lib.ListN.{length}
-use Rattle.text.specs.Text.{Text, cond}
+use Rattle.text.specs.Text.{Text, cond, empty}
 use Rattle.limits.specs.Limits.{iri-limit, prefix-limit, prefixes-limit, depth-limit}
 use Rattle.token.specs.Kind.{names, strings, open-bracket, close-bracket, open-paren, close-paren, IRIREF}
 use Rattle.token.specs.Tokens.{Token, has-kind}
 use Rattle.escape.specs.Escape.{bad-escape}
 use Rattle.iri.specs.Iri.{has-scheme}
 use Rattle.iri.specs.Resolve.{resolve-with-dots}
-use Rattle.dataset.specs.Environment.{Environment, namespace}
+use Rattle.scope.specs.Environment.{Environment, lookup}
 use Rattle.dataset.specs.Constructors.{reference, prefix, joined-name, InForce, Awaited, nothing, prefix-name, new-base, namespace-of}
 
 abbrev pub missing : {A : Type 0} → Option A → Bool
@@ -31,7 +31,7 @@ abbrev pub new-prefix : Awaited → Environment → Bool
 new-prefix nothing e = false
 new-prefix prefix-name e = false
 new-prefix new-base e = false
-new-prefix (namespace-of p) e = missing (namespace p (e .namespaces))
+new-prefix (namespace-of p) e = missing (lookup p (e .namespaces))
 
 -- 7: "numeric escape names D800 to DFFF or over 10FFFF"
 unfoldable pub no-character : Token → Bool
@@ -39,16 +39,15 @@ no-character t = has-kind (IRIREF ∷ strings) t && bad-escape (t .text)
 
 -- 9: "prefix not declared before"
 unfoldable pub undeclared : InForce → Token → Bool
-undeclared f t = has-kind names t && not (declared-name (f .awaited)) && missing (namespace (prefix t) (f .environment .namespaces))
+undeclared f t = has-kind names t && not (declared-name (f .awaited)) && missing (lookup (prefix t) (f .environment .namespaces))
 
 -- 10: "relative reference, no base in force"
 unfoldable pub no-base : InForce → Token → Bool
-no-base f t = has-kind (IRIREF ∷ []) t && not (has-scheme (reference t)) && missing (f .environment .base)
+no-base f t = has-kind (IRIREF ∷ []) t && not (has-scheme (reference t)) && empty (f .environment .base)
 
 -- 11: "IRI over 1,024 bytes, as written unescaped, as joined, or as resolved before its dot segments go; declared prefix over 64"
-abbrev pub long-resolved : Option Text → Text → Bool
-long-resolved none r = false
-long-resolved (some b) r = not (has-scheme r) && ltb iri-limit (length (resolve-with-dots b r))
+abbrev pub long-resolved : Text → Text → Bool
+long-resolved b r = not (has-scheme r) && ltb iri-limit (length (resolve-with-dots b r))
 
 unfoldable pub too-long : InForce → Token → Bool
 too-long f t =

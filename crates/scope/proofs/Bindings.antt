@@ -9,17 +9,17 @@ use native.Mathlib.Omega.{arith}
 use lib.ListN.{length}
 use Rattle.text.specs.Text.{Text, same-text}
 use Rattle.text.proofs.Compare.{by, same-eq, same-refl}
-use Rattle.scope.specs.Scope.{Binding, bind, is-declared, lookup, declare}
-use Rattle.scope.specs.Code.{listed, place}
+use Rattle.scope.specs.Environment.{Binding, bind, lookup, bound}
+use Rattle.scope.specs.Code.{is-declared, listed, place}
 
 -- What a directive does, as a reader of it expects: the prefix has the new namespace, every other has the one it had.
-pub declared-now : (p ns : Text) (bs : List Binding) → lookup p (declare p ns bs) ≡ some ns
-unfolding lookup declare
+pub declared-now : (p ns : Text) (bs : List Binding) → lookup p (bound p ns bs) ≡ some ns
+unfolding lookup bound
 declared-now p ns [] = rw (same-refl p)
 declared-now p ns (b ∷ bs) = by (same-text p (b .prefix)) (λ e. rw (e, same-refl p)) (λ e. rw (e, e) (declared-now p ns bs))
 
-pub others-stay : (p q ns : Text) (bs : List Binding) → same-text q p ≡ false → lookup q (declare p ns bs) ≡ lookup q bs
-unfolding lookup declare
+pub others-stay : (p q ns : Text) (bs : List Binding) → same-text q p ≡ false → lookup q (bound p ns bs) ≡ lookup q bs
+unfolding lookup bound
 others-stay p q ns [] h = rw h
 others-stay p q ns (b ∷ bs) h =
     by (same-text p (b .prefix)) (λ e. rw (e, h, ← same-eq p (b .prefix) e, h))
@@ -83,8 +83,8 @@ module _ (p : Text) (f : ℕ → Binding) where
     listed-same k zero h = refl
     listed-same k (suc n) h = rw (h k (omega arith) (omega arith), listed-same (suc k) n (λ j l m. h j (omega arith) (omega arith)))
 
-    pub declare-again : (k n i : ℕ) → i ≡ place p (listed f k n) → i < n → ((j : ℕ) → k ≤ j → j < k + n → (j ≡ k + i → ⊥) → g j ≡ f j) → g (k + i) ≡ bind p ns → listed g k n ≡ declare p ns (listed f k n)
-    unfolding place listed declare
+    pub declare-again : (k n i : ℕ) → i ≡ place p (listed f k n) → i < n → ((j : ℕ) → k ≤ j → j < k + n → (j ≡ k + i → ⊥) → g j ≡ f j) → g (k + i) ≡ bind p ns → listed g k n ≡ bound p ns (listed f k n)
+    unfolding place listed bound
     declare-again k zero i e h same new = absurd (omega arith)
     declare-again k (suc n) i e h same new =
         by (same-text p (f k .prefix))
@@ -93,8 +93,8 @@ module _ (p : Text) (f : ℕ → Binding) where
         let z : k + i ≡ suc k + (i - 1) = omega arith in
         rw (t, same k (omega arith) (omega arith) (λ r. omega arith), declare-again (suc k) n (i - 1) (omega arith) (omega arith) (λ j l m r. same j (omega arith) (omega arith) (λ u. r (omega arith))) (rw z at new)))
 
-    pub declare-new : (k n : ℕ) → n ≤ place p (listed f k n) → ((j : ℕ) → k ≤ j → j < k + n → g j ≡ f j) → g (k + n) ≡ bind p ns → listed g k (suc n) ≡ declare p ns (listed f k n)
-    unfolding place listed declare
+    pub declare-new : (k n : ℕ) → n ≤ place p (listed f k n) → ((j : ℕ) → k ≤ j → j < k + n → g j ≡ f j) → g (k + n) ≡ bind p ns → listed g k (suc n) ≡ bound p ns (listed f k n)
+    unfolding place listed bound
     declare-new k zero h same new = let z : k + 0 ≡ k = omega arith in rw (← new, z)
     declare-new k (suc n) h same new =
         by (same-text p (f k .prefix)) (λ e. absurd (omega (arith, rw e at h)))

@@ -15,7 +15,7 @@ use Rattle.text.specs.Text.{Text, same-text}
 use Rattle.text.specs.Slice.{over-at}
 use Rattle.text.proofs.Compare.{by}
 use Rattle.text.proofs.Over.{over-front, over-at-length, over-at-before, over-at-back, over-at-from}
-use Rattle.scope.specs.Scope.{bind}
+use Rattle.scope.specs.Environment.{bind}
 use Rattle.scope.specs.Code.{at-most, cell, binding, count, listed, place, base-cell, in-force, FoundIn, Usable, WroteBinding}
 use Rattle.scope.specs.declared.Found.the-variants.{At, Missing}
 use Rattle.scope.proofs.Bindings.{lookup-at, lookup-none}

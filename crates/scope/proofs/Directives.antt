@@ -11,8 +11,8 @@ use borrow.Author.Tests.{lt-ltb, le-ltb, le-leb, lt-leb}
 use Rattle.text.specs.Text.{Text, cond}
 use Rattle.text.specs.Slice.{over, over-at}
 use Rattle.text.proofs.Over.{over-at-length, over-part}
-use Rattle.scope.specs.Scope.{Binding, bind, is-declared, declare, declare-answer, after-declare}
-use Rattle.scope.specs.Code.{at-most, cell, binding, count, listed, place, base-cell, in-force, Usable, WroteBinding, Declares, SetsBase}
+use Rattle.scope.specs.Environment.{Binding, bind, bound, start-environment}
+use Rattle.scope.specs.Code.{is-declared, declare-answer, after-declare, at-most, cell, binding, count, listed, place, base-cell, in-force, Usable, WroteBinding, Declares, SetsBase}
 use Rattle.scope.specs.declared.Declared.the-variants.{Done, TooLong, TooMany}
 use Rattle.scope.proofs.Bindings.{not-declared, declared-at, listed-length, listed-same, declare-again, declare-new}
 use Rattle.scope.proofs.Cells.{cell-read, most-at, most-small, cell-new, kept-before, binding-new, binding-other, base-stays, count-stays, written-usable}
@@ -53,13 +53,13 @@ module _ (work : Text) (lens : List ℕ) (p ns : Text) (u : Usable work lens) wh
       abbrev f : ℕ → Binding
       f = binding work lens
 
-      bindings-are : in-force work lens .bindings ≡ listed f 0 n
+      namespaces-are : in-force work lens .namespaces ≡ listed f 0 n
       unfolding in-force
-      bindings-are = rw en
+      namespaces-are = rw en
 
       answer-by : (known : Bool) → is-declared p (listed f 0 n) ≡ known → declare-answer (in-force work lens) p ns ≡ cond (not known && leb 32 n) TooMany Done
       unfolding declare-answer
-      answer-by known e = rw (le-ltb 64 (length p) hp, le-ltb 1024 (length ns) hn, bindings-are, e, listed-length p f 0 n)
+      answer-by known e = rw (le-ltb 64 (length p) hp, le-ltb 1024 (length ns) hn, namespaces-are, e, listed-length p f 0 n)
 
       pub too-many : 32 ≤ i → n ≤ 32 → Declares work work lens lens p ns TooMany
       unfolding after-declare
@@ -77,7 +77,7 @@ module _ (work : Text) (lens : List ℕ) (p ns : Text) (u : Usable work lens) wh
             let z : 0 + i ≡ i = omega arith in
             let c : count lens' ≡ n = rw (count-stays work work' lens lens' i p ns w u small hp hn) (sym en) in
             let new : binding work' lens' (0 + i) ≡ bind p ns = rw z (binding-new work work' lens lens' i p ns w u small hp hn) in
-            let bs : listed (binding work' lens') 0 n ≡ declare p ns (listed f 0 n) =
+            let bs : listed (binding work' lens') 0 n ≡ bound p ns (listed f 0 n) =
             declare-again p f ns (binding work' lens') 0 n i ei h (λ j l m q. binding-other work work' lens lens' i p ns w u small hp hn j (omega arith) (λ e. q (omega arith))) new in
             record {
               answer = sym (answer-by true (declared-at p f 0 n (omega arith)));
@@ -95,7 +95,7 @@ module _ (work : Text) (lens : List ℕ) (p ns : Text) (u : Usable work lens) wh
             let same : (k : ℕ) → (k ≡ 64 → ⊥) → getD lens'' k 0 ≡ getD lens' k 0 = λ k q. ap (λ (l : List ℕ). getD l k 0) e'' ∙ getD-set-other lens' 64 k (n + 1) 0 q in
             let z : 0 + n ≡ i = omega arith in
             let new : binding work' lens'' (0 + n) ≡ bind p ns = rw z (by-lengths work' lens' lens'' same i small ∙ binding-new work work' lens lens' i p ns w u small hp hn) in
-            let bs : listed (binding work' lens'') 0 (suc n) ≡ declare p ns (listed f 0 n) =
+            let bs : listed (binding work' lens'') 0 (suc n) ≡ bound p ns (listed f 0 n) =
             declare-new p f ns (binding work' lens'') 0 n (omega arith)
             (λ j l m. by-lengths work' lens' lens'' same j (omega arith) ∙ binding-other work work' lens lens' i p ns w u small hp hn j (omega arith) (λ e. omega arith)) new in
             let b : base-cell work' lens'' ≡ base-cell work lens = base-by work' lens' lens'' same ∙ base-stays work work' lens lens' i p ns w u small hp hn in
@@ -148,10 +148,10 @@ unfolding in-force base-cell
 base-read work lens r e = cell-read work 34816 1024 (getD lens 65 0) r e
 
 -- The count is of the bindings, and a fresh array holds nothing.
-pub count-is : (work : Text) (lens : List ℕ) → length (in-force work lens .bindings) ≡ count lens
+pub count-is : (work : Text) (lens : List ℕ) → length (in-force work lens .namespaces) ≡ count lens
 unfolding in-force
 count-is work lens = listed-length work (binding work lens) 0 (count lens)
 
-pub fresh-is : (work : Text) → in-force work (replicate 66 0) ≡ record { bindings = []; base = [] }
+pub fresh-is : (work : Text) → in-force work (replicate 66 0) ≡ start-environment []
 unfolding in-force listed base-cell cell
 fresh-is work = refl

@@ -3,11 +3,11 @@ use mathlib.Core.Path.{_≡_, refl}
 use mathlib.Core.List.{List, []}
 use mathlib.Core.Option.{none, some}
 use Rattle.text.specs.Text.{ascii}
-use Rattle.scope.specs.Scope.{Binding, lookup, declare, computing}
+use Rattle.scope.specs.Environment.{Binding, lookup, bound, computing}
 
 -- @prefix m: <x:m#> . @prefix e: <x:e#> . @prefix m: <x:n#> .
 abbrev three : List Binding
-three = declare (ascii "m") (ascii "x:n#") (declare (ascii "e") (ascii "x:e#") (declare (ascii "m") (ascii "x:m#") []))
+three = bound (ascii "m") (ascii "x:n#") (bound (ascii "e") (ascii "x:e#") (bound (ascii "m") (ascii "x:m#") []))
 
 latest : lookup (ascii "m") three ≡ some (ascii "x:n#")
 unfolding computing

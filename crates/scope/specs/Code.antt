@@ -1,16 +1,17 @@
 -- How the work slice and the array of lengths hold what is in force.
 use mathlib.Core.List.{List, [], _∷_}
 use mathlib.Core.Path.{_≡_}
-use mathlib.Core.Bool.{Bool}
+use mathlib.Core.Bool.{Bool, false, not, _&&_, _||_}
 use mathlib.Core.Option.{none, some}
 use Prim.Native.Nat.{ℕ, zero, suc, _+_, _*_, _≤_}
-use lib.Dec.{leb}
+use lib.Dec.{leb, ltb}
 use lib.ListN.{length, take, drop, getD, set}
 use Rattle.limits.specs.Limits.{iri-limit, prefix-limit, prefixes-limit, work-size}
 use Rattle.text.specs.Text.{Text, cond, same-text}
 use Rattle.text.specs.Slice.{over-at}
-use Rattle.scope.specs.Scope.{Binding, Scope, lookup, declare-answer, after-declare}
+use Rattle.scope.specs.Environment.{Binding, Environment, lookup, declare, set-base}
 use Rattle.scope.specs.declared.Declared.{Declared}
+use Rattle.scope.specs.declared.Declared.the-variants.{Done, TooLong, TooMany}
 use Rattle.scope.specs.declared.Found.{Found}
 use Rattle.scope.specs.declared.Found.the-variants.{At, Missing}
 
@@ -56,8 +57,8 @@ unfoldable pub base-cell : Text → List ℕ → Text
 base-cell work lens = cell work base-place iri-limit (getD lens base-word 0)
 
 -- What the work slice and the array hold.
-unfoldable pub in-force : Text → List ℕ → Scope
-in-force work lens = record { bindings = listed (binding work lens) 0 (count lens); base = base-cell work lens }
+unfoldable pub in-force : Text → List ℕ → Environment
+in-force work lens = record { namespaces = listed (binding work lens) 0 (count lens); base = base-cell work lens }
 
 -- The place of a prefix among the bindings, their number where it has none.
 unfoldable pub place : Text → List Binding → ℕ
@@ -65,9 +66,9 @@ place p [] = 0
 place p (b ∷ bs) = let r = suc (place p bs) in cond (same-text p (b .prefix)) 0 r
 
 -- The namespace that was found stands in the work slice.
-unfoldable pub FoundIn : Text → Scope → Text → Found → Type 0
-FoundIn p s work Missing = lookup p (s .bindings) ≡ none
-FoundIn p s work (At start n) = (lookup p (s .bindings) ≡ some (take n (drop start work))) × ((start + n ≤ length work) × (n ≤ iri-limit))
+unfoldable pub FoundIn : Text → Environment → Text → Found → Type 0
+FoundIn p e work Missing = lookup p (e .namespaces) ≡ none
+FoundIn p e work (At start n) = (lookup p (e .namespaces) ≡ some (take n (drop start work))) × ((start + n ≤ length work) × (n ≤ iri-limit))
 
 -- A work slice and an array that can hold all this; the caller's are.
 pub record Usable (work : Text) (lens : List ℕ) : Type 0 where
@@ -79,6 +80,21 @@ pub record WroteBinding (work work' : Text) (lens lens' : List ℕ) (i : ℕ) (p
   pub texts : work' ≡ over-at (i * cell-size + prefix-limit) ns (over-at (i * cell-size) p work)
   pub lengths : lens' ≡ set (set lens i (length p)) (prefixes-limit + i) (length ns)
 
+unfoldable pub is-declared : Text → List Binding → Bool
+is-declared p [] = false
+is-declared p (b ∷ bs) = let r = is-declared p bs in same-text p (b .prefix) || r
+
+-- "IRI over 1,024 bytes ..; declared prefix over 64"; "a 33rd distinct prefix"
+unfoldable pub declare-answer : Environment → Text → Text → Declared
+declare-answer e p ns =
+    cond (ltb prefix-limit (length p) || ltb iri-limit (length ns)) TooLong
+    (cond (not (is-declared p (e .namespaces)) && leb prefixes-limit (length (e .namespaces))) TooMany Done)
+
+unfoldable pub after-declare : Declared → Environment → Text → Text → Environment
+after-declare Done e p ns = declare p ns e
+after-declare TooLong e p ns = e
+after-declare TooMany e p ns = e
+
 -- What a declaration answers and leaves.
 pub record Declares (work work' : Text) (lens lens' : List ℕ) (p ns : Text) (r : Declared) : Type 0 where
   pub answer : r ≡ declare-answer (in-force work lens) p ns
@@ -88,5 +104,5 @@ pub record Declares (work work' : Text) (lens lens' : List ℕ) (p ns : Text) (r
 -- What setting the base answers and leaves.
 pub record SetsBase (work work' : Text) (lens lens' : List ℕ) (iri : Text) (r : Bool) : Type 0 where
   pub answer : r ≡ leb (length iri) iri-limit
-  pub after : in-force work' lens' ≡ cond r (record { bindings = in-force work lens .bindings; base = iri }) (in-force work lens)
+  pub after : in-force work' lens' ≡ cond r (set-base iri (in-force work lens)) (in-force work lens)
   pub usable : Usable work' lens'

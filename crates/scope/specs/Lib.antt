@@ -1,3 +1,3 @@
 -- The prefixes and the base in force.
-pub mod Scope
+pub mod Environment
 pub mod Code
