@@ -1,0 +1,2 @@
+-- The long form, read again.
+pub mod ReadBack

@@ -1,0 +1,87 @@
+-- "The long form, read again, gives the same statements up to renaming of blank nodes"
+use mathlib.Core.Path.{_≡_}
+use mathlib.Core.List.{List, [], _∷_, _++_, map}
+use mathlib.Core.Option.{Option, none, some}
+use Prim.Native.Nat.{ℕ, _≤_, _<_}
+use lib.ListN.{length}
+use Rattle.text.specs.Text.{Text, ascii}
+use Rattle.limits.specs.Limits.{work-size}
+use Rattle.grammar.specs.Ebnf.{leaves}
+use Rattle.grammar.specs.Productions.{trig, production, kind-of, Derivation}
+use Rattle.dataset.specs.Terms.{Blank, label, bracket, cell, numbered, Term, iri, blank, literal, tagged, Quad}
+use Rattle.dataset.specs.Statements.{statements}
+use Rattle.table.specs.Layout.{Slices}
+use Rattle.table.specs.Tables.{quads}
+use Rattle.table.specs.Usable.{term, held}
+use Rattle.table.specs.LongForm.{decimal, long-form}
+use Rattle.machine.specs.Memory.{Memory}
+use Rattle.machine.specs.Read.{Lent, room-of, success, read}
+use Rattle.machine.specs.Construction.{tables}
+use Rattle.machine.specs.Demand.{document-tokens, Fits, Meets}
+
+-- "It is read again in mode 0."
+abbrev pub long-form-mode : ℕ
+long-form-mode = 0
+
+-- ---- The renaming
+
+-- "Blanks as _:b and the blank number": the label under which the node with a number is read again.
+abbrev pub label-of-number : ℕ → Text
+label-of-number n = ascii "b" ++ decimal n
+
+abbrev pub renamed-blank : Blank → Blank
+renamed-blank (label s) = label s
+renamed-blank (bracket p) = bracket p
+renamed-blank (cell p) = cell p
+renamed-blank (numbered n) = label (label-of-number n)
+
+-- Terms, and statements, with their blank nodes renamed.
+abbrev pub renamed-term : Term → Term
+renamed-term (iri s) = iri s
+renamed-term (blank b) = blank (renamed-blank b)
+renamed-term (literal s d) = literal s d
+renamed-term (tagged s g) = tagged s g
+
+abbrev pub renamed-graph : Option Term → Option Term
+renamed-graph none = none
+renamed-graph (some g) = some (renamed-term g)
+
+abbrev pub renamed : Quad → Quad
+renamed q =
+    record {
+      graph = renamed-graph (q .graph);
+      triple = record {
+        subject = renamed-term (q .triple .subject);
+        predicate = renamed-term (q .triple .predicate);
+        object = renamed-term (q .triple .object);
+      };
+    }
+
+-- ---- The statements
+
+-- The words of a lent slice: "32-bit words".
+abbrev pub word-limit : ℕ
+word-limit = 4294967296
+
+abbrev pub Words : List ℕ → Type 0
+Words [] = Unit {0}
+Words (w ∷ ws) = (w < word-limit) × Words ws
+
+-- No two blank nodes of the tables get one label: terms that are renamed alike are the same.
+pub record KeepsApart (s : Slices) : Type 0 where
+  pub apart : (m n : ℕ) → renamed-term (term s m) ≡ renamed-term (term s n) → term s m ≡ term s n
+
+-- The long form of the tables has a derivation whose statements are those in the tables, renamed; and with a work slice and room for what that
+-- derivation writes, the long form is accepted.
+pub record ReadsBack (s : Slices) : Type 0 where
+  pub derivation : Derivation trig
+  pub tokens : leaves kind-of (production trig) derivation ≡ document-tokens (long-form s)
+  pub same : statements trig derivation [] ≡ map renamed (held s)
+  pub accepted : (lent : Lent) → work-size ≤ lent .work → Fits (room-of lent) (tables trig derivation []) → Meets (long-form s) long-form-mode [] lent
+
+-- The same of the reader's answer: where there is room for what it writes, it accepts, and its tables hold the statements, renamed.
+pub record ReadAgain (s : Slices) : Type 0 where
+  pub memory : Memory
+  pub same : quads (memory .terms) (memory .rows) ≡ map renamed (held s)
+  pub answer :
+      (lent : Lent) → work-size ≤ lent .work → Fits (room-of lent) memory → read (long-form s) long-form-mode [] lent ≡ success (length (long-form s)) memory
