@@ -11,3 +11,4 @@ pub mod Lines
 pub mod Tables
 pub mod ReadBack
 pub mod Renaming
+pub mod Examples
