@@ -11,7 +11,7 @@ use Rattle.dataset.specs.Terms.{Blank, label, bracket, cell, numbered, Term, ir
 use Rattle.table.specs.Layout.{term-size, entry-at, iri-kind, blank-kind, literal-kind, Slices}
 use Rattle.table.specs.Usable.{the, has-kind, term}
 use Rattle.table.specs.LongForm.{digits}
-use Rattle.readback.specs.ReadBack.{label-of-number, renamed-term, Words, KeepsApart}
+use Rattle.readback.specs.ReadBack.{label-of-number, renamed-term, word-limit, Words, KeepsApart}
 
 -- ---- Decimal digits
 
@@ -38,7 +38,7 @@ digits-number (suc most) n h =
     let r = digits-number most (n / 10) (omega arith) in
     rw e (number-last 0 (48 + n % 10) (digits most (n / 10)) ∙ rw r (omega arith)))
 
-pub labels-apart : (m n : ℕ) → m < 4294967296 → n < 4294967296 → label-of-number m ≡ label-of-number n → m ≡ n
+pub labels-apart : (m n : ℕ) → m < word-limit → n < word-limit → label-of-number m ≡ label-of-number n → m ≡ n
 labels-apart m n h l e = sym (digits-number 10 m (omega arith)) ∙ ap (λ (s : Text). number-from 0 (drop 1 s)) e ∙ digits-number 10 n (omega arith)
 
 -- ---- Terms
@@ -56,7 +56,7 @@ renamed-again (blank b) = blank (numbered-again b)
 renamed-again (literal s d) = literal s d
 renamed-again (tagged s g) = tagged s g
 
-word-at : (ws : List ℕ) → Words ws → (i : ℕ) → getD ws i 0 < 4294967296
+word-at : (ws : List ℕ) → Words ws → (i : ℕ) → getD ws i 0 < word-limit
 word-at [] h i = omega arith
 word-at (w ∷ ws) h zero = h .0
 word-at (w ∷ ws) h (suc i) = word-at ws (h .1) i

@@ -59,10 +59,13 @@ renamed q =
 
 -- ---- The statements
 
--- The words of a lent slice: 32-bit numbers.
+-- The words of a lent slice: "32-bit words".
+abbrev pub word-limit : ℕ
+word-limit = 4294967296
+
 abbrev pub Words : List ℕ → Type 0
 Words [] = Unit {0}
-Words (w ∷ ws) = (w < 4294967296) × Words ws
+Words (w ∷ ws) = (w < word-limit) × Words ws
 
 -- No two blank nodes of the tables get one label: terms that are renamed alike are the same.
 pub record KeepsApart (s : Slices) : Type 0 where
