@@ -1,7 +1,7 @@
 // An index of the terms in the part of the work slice that nothing else uses: chains by a hash of the text.
 // Without it, and for terms that it has no room for, the search is linear; the answer is the same.
 ghost use mathlib.Core.Path.{_≡_};
-ghost use Prim.Native.Nat.{ℕ, suc, _+_, _*_, _-_, _/_, _≤_, _<_};
+ghost use Prim.Native.Nat.{suc, _+_, _*_, _-_, _/_, _≤_, _<_};
 ghost use lib.ListN.{length};
 ghost use mathlib.Core.Bool.{false};
 ghost use Rattle.form.specs.Form.{joined, bad};

@@ -1,10 +1,10 @@
 -- Where the bytes of a term lie in the store.
 use mathlib.Core.Path.{_≡_, refl, sym, ap, _∙_}
 use mathlib.Core.List.{List, [], _∷_, _++_, append-assoc, append-nil}
-use Prim.Native.Nat.{ℕ, zero, suc, _+_, _<_, _≤_}
+use Prim.Native.Nat.{ℕ, suc, _+_, _<_, _≤_}
 use native.Mathlib.Omega.{arith}
 use lib.ListN.{length, getD, take, drop, length-append, take-append-drop}
-use lib.Seq.{split-at, take-append-seam, drop-append-seam, drop-append-add}
+use lib.Seq.{split-at, take-append-seam, drop-append-seam}
 use Rattle.text.specs.Text.{Text}
 use Rattle.dataset.specs.Terms.{Term, iri}
 use Rattle.table.specs.Layout.{span}
