@@ -5,7 +5,7 @@ use Prim.Native.Nat.{ℕ, _+_, _<_, _≤_}
 use native.Mathlib.Omega.{arith}
 use lib.Dec.{ltb}
 use borrow.Author.Tests.{ltb-true, ltb-false}
-use lib.ListN.{length, getD, take, drop, set, replicate, length-replicate, getD-replicate, drop-of-length-le, List·getD-eq-default}
+use lib.ListN.{length, getD, take, set, replicate, length-replicate, getD-replicate, drop-of-length-le, List·getD-eq-default}
 use Rattle.text.specs.Text.{Text}
 use Rattle.text.specs.Slice.{over}
 use Rattle.text.proofs.Compare.{by}

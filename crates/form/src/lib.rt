@@ -1,7 +1,6 @@
 // The text of a term as a document gives it: a plain front, as a namespace, and a back that may hold escapes.
 ghost use mathlib.Core.Path.{_≡_};
 ghost use mathlib.Core.Bool.{false};
-ghost use mathlib.Core.List.{_++_};
 ghost use Prim.Native.Nat.{_≤_, _<_};
 ghost use lib.ListN.{length};
 ghost use Rattle.text.specs.Text.{same-text};

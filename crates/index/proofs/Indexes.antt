@@ -2,7 +2,7 @@
 use mathlib.Core.Path.{_≡_, refl, sym, ap, subst, _∙_}
 use mathlib.Core.Bool.{Bool, true, false}
 use mathlib.Core.List.{List, [], _∷_, _++_}
-use mathlib.Core.Option.{Option, none, some}
+use mathlib.Core.Option.{none, some}
 use Prim.Native.Nat.{ℕ, zero, suc, _+_, _-_, _*_, _/_, _%_, _<_, _≤_}
 use native.Mathlib.Nat.{mod-lt}
 use native.Mathlib.Omega.{arith}
@@ -10,7 +10,7 @@ use lib.Dec.{T, ltb}
 use borrow.Author.Tests.{ltb-true, ltb-false}
 use lib.ListN.{length, getD, drop, length-append, List·getD-append}
 use lib.Seq.{getD-append-seam}
-use Rattle.text.specs.Text.{Text, cond}
+use Rattle.text.specs.Text.{Text}
 use Rattle.text.proofs.Compare.{by, contrary}
 use Rattle.dataset.specs.Terms.{Blank, Term, iri, blank, literal, tagged}
 use Rattle.table.specs.Layout.{entry-at}
@@ -25,10 +25,10 @@ use Rattle.terms.specs.Keeps.{blank-count, findable, Typed, Keeps, Means, Added
 use Rattle.terms.specs.Code.{matches, first}
 use Rattle.terms.proofs.Kept.{bytes-room, readable, test-same, found-first}
 use Rattle.index.specs.Slots.{slot-at, put-slot}
-use Rattle.index.specs.Chains.{Chained, buckets, least, bucket-of, Chains, Indexed, Linked, Followed, Follows, Links}
-use Rattle.index.specs.Holds.{Holds, Searchable, Enters}
+use Rattle.index.specs.Chains.{buckets, least, bucket-of, Chains, Indexed, Linked, Followed, Follows, Links}
+use Rattle.index.specs.Holds.{Holds, Searchable}
 use Rattle.index.proofs.Slots.{put-length, slot-same, slot-other}
-use Rattle.index.proofs.Chains.{same-chains, skipped, linked, least-left, least-right, least-low, least-high}
+use Rattle.index.proofs.Chains.{same-chains, skipped, linked, least-left, least-low, least-high}
 
 -- Where the first n terms are others, the search goes on behind them.
 skip : (t : Term) (ts : List Term) (n : ℕ) → n ≤ length ts → ((i : ℕ) → i < n → same-term t (getD ts i (iri [])) ≡ false) → number t ts ≡ number-from (suc n) t (drop n ts)
@@ -219,12 +219,11 @@ holds-blank ts b terms terms' store index c c' H A e f = record {
   indexed = indexed-blank ts (blank b) index f (H .indexed);
 }
 
-pub enters : (terms terms' : List ℕ) (store store' index index' : Text) (c c' : Counts) (sort : Sort) (x g : Text) (h : ℕ) → Added terms terms' store store' c c' sort x g
-    → Links index index' (c .terms) h → h ≡ hash x → Enters terms terms' store store' index index' c c' sort x g
-enters terms terms' store store' index index' c c' sort x g h A L e = record {
-  added = A;
-  holds = λ ts t H M y f n. record {
-    keeps = A .keeps ts t (H .keeps) M y (λ _. n);
-    indexed = L ts t (H .indexed) (sym (H .keeps .count)) f (e ∙ ap hash (sym (means-text ts sort x g t M)));
-  };
+-- A term more that a token may name again: it was added, and put on its chain.
+pub holds-added : (ts : List Term) (t : Term) (terms terms' : List ℕ) (store store' index index' : Text) (c c' : Counts) (sort : Sort) (x g : Text) (key : ℕ) → Holds ts terms store index c
+    → Added terms terms' store store' c c' sort x g → Links index index' (c .terms) key → key ≡ hash x → Means ts sort x g t → Typed ts t → findable t ≡ true → number t ts ≡ none
+    → Holds (ts ++ t ∷ []) terms' store' index' c'
+holds-added ts t terms terms' store store' index index' c c' sort x g key H A L e M y f n = record {
+  keeps = A .keeps ts t (H .keeps) M y (λ _. n);
+  indexed = L ts t (H .indexed) (sym (H .keeps .count)) f (e ∙ ap hash (sym (means-text ts sort x g t M)));
 }

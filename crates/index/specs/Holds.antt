@@ -1,13 +1,12 @@
 -- The whole memory of terms: the term slice, the store, and the index.
 use mathlib.Core.Path.{_≡_}
 use mathlib.Core.Bool.{true}
-use mathlib.Core.List.{List, [], _∷_, _++_}
-use mathlib.Core.Option.{none}
+use mathlib.Core.List.{List}
 use Prim.Native.Nat.{ℕ}
 use Rattle.text.specs.Text.{Text}
 use Rattle.dataset.specs.Terms.{Term}
 use Rattle.table.specs.Tables.{number, or-zero}
-use Rattle.terms.specs.Keeps.{findable, Typed, Keeps, Means, Added}
+use Rattle.terms.specs.Keeps.{findable, Keeps, Means}
 use Rattle.terms.specs.Code.{Readable}
 use Rattle.terms.specs.declared.Counts.{Counts}
 use Rattle.terms.specs.declared.Sort.{Sort}
@@ -26,8 +25,3 @@ pub record Searchable (terms : List ℕ) (store index : Text) (c : Counts) : Typ
 -- What looking for the term answers: its number, or 0.
 abbrev pub Finds : List ℕ → Text → Text → Counts → Sort → Text → Text → ℕ → Type 0
 Finds terms store index c sort x g r = (ts : List Term) (t : Term) → Holds ts terms store index c → Means ts sort x g t → findable t ≡ true → r ≡ or-zero (number t ts)
-
--- What adding a term that a token may name again leaves.
-pub record Enters (terms terms' : List ℕ) (store store' index index' : Text) (c c' : Counts) (sort : Sort) (x g : Text) : Type 0 where
-  pub added : Added terms terms' store store' c c' sort x g
-  pub holds : (ts : List Term) (t : Term) → Holds ts terms store index c → Means ts sort x g t → Typed ts t → findable t ≡ true → number t ts ≡ none → Holds (ts ++ t ∷ []) terms' store' index' c'

@@ -1,5 +1,4 @@
 -- Numbers of four bytes in a byte slice.
-use mathlib.Core.List.{[]}
 use Prim.Native.Nat.{ℕ, _+_, _*_, _/_, _%_}
 use lib.ListN.{getD, set}
 use Rattle.text.specs.Text.{Text}

@@ -1,17 +1,15 @@
 // An index of the terms in the part of the work slice that nothing else uses: chains by a hash of the text.
 // Without it, and for terms that it has no room for, the search is linear; the answer is the same.
 ghost use mathlib.Core.Path.{_≡_};
-ghost use Prim.Native.Nat.{ℕ, suc, _+_, _*_, _-_, _/_, _≤_, _<_};
+ghost use Prim.Native.Nat.{suc, _+_, _*_, _-_, _/_, _≤_, _<_};
 ghost use lib.ListN.{length};
-ghost use mathlib.Core.Bool.{false};
-ghost use Rattle.form.specs.Form.{joined, bad};
+ghost use Rattle.form.specs.Form.{joined};
 ghost use Rattle.form.specs.Hash.{hash};
-ghost use Rattle.terms.specs.Keeps.{Room};
 ghost use Rattle.table.specs.Layout.{entry-at};
 ghost use Rattle.terms.specs.Code.{matches, Readable};
 ghost use Rattle.index.specs.Slots.{slot-at, put-slot};
 ghost use Rattle.index.specs.Chains.{buckets, least, Linked, Follows, Links};
-ghost use Rattle.index.specs.Holds.{Searchable, Finds, Enters};
+ghost use Rattle.index.specs.Holds.{Searchable, Finds};
 use form::Form;
 use terms::Counts;
 use terms::Sort;
@@ -129,8 +127,8 @@ pub fn find(
     )
 }
 
-// Puts the next term, whose text has this hash, on its chain.
-fn link(index: &mut [u8], count: usize, key: usize)
+// Puts the term that was added behind `count` others on its chain. The key is the hash of its text.
+pub fn link(index: &mut [u8], count: usize, key: usize)
     requires { ⌜ count < 4294967295 ⌝ }
     ensures { λ _. ⌜ Links (now (index .entry)) (now (index .exit)) count key ⌝ }
 {
@@ -142,25 +140,4 @@ fn link(index: &mut [u8], count: usize, key: usize)
     let newest = slot(index, bucket);
     set_slot(index, m + count, newest);
     set_slot(index, bucket, count + 1);
-}
-
-// Adds a term behind the others, and to the index; the counts with it. The key is the hash of its text.
-pub fn add(
-    index: &mut [u8],
-    key: usize,
-    terms: &mut [u32],
-    store: &mut [u8],
-    counts: Counts,
-    sort: Sort,
-    front: &[u8],
-    form: Form,
-    back: &[u8],
-    tag: &[u8],
-) -> Counts
-    requires { ⌜ (Room (now terms) (now store) counts sort (joined (now front) form (now back)) (now tag) × (bad form (now back) ≡ false)) × (key ≡ hash (joined (now front) form (now back))) ⌝ }
-    ensures { λ r. ⌜ Enters (now (terms .entry)) (now (terms .exit)) (now (store .entry)) (now (store .exit)) (now (index .entry)) (now (index .exit)) counts r sort (joined (now (front .entry)) form (now (back .entry))) (now (tag .entry)) ⌝ }
-{
-    let count = counts.terms;
-    link(index, count, key);
-    terms::add(terms, store, counts, sort, front, form, back, tag)
 }

@@ -1,7 +1,7 @@
 -- Looking for a term among others, and what adding one changes.
 use mathlib.Core.Path.{_≡_, refl, sym, ap, _∙_}
 use mathlib.Core.List.{List, [], _∷_, _++_}
-use mathlib.Core.Bool.{true}
+use mathlib.Core.Bool.{true, false}
 use mathlib.Core.Option.{Option, none, some}
 use Prim.Native.Nat.{ℕ, zero, suc, _+_, _<_, _≤_}
 use native.Mathlib.Omega.{arith}
@@ -61,6 +61,28 @@ last-from j t (u ∷ ts) e = by (same-term t u) (λ p. not-none (sym (rw p at e)
 pub number-last : (t : Term) (ts : List Term) → number t ts ≡ none → number t (ts ++ t ∷ []) ≡ some (suc (length ts))
 unfolding number
 number-last t ts e = last-from 1 t ts e ∙ ap some (omega arith)
+
+-- One term more does not make another found.
+none-from : (j : ℕ) (t u : Term) (ts : List Term) → same-term t u ≡ false → number-from j t ts ≡ none → number-from j t (ts ++ u ∷ []) ≡ none
+unfolding number-from
+none-from j t u [] f e = rw f
+none-from j t u (v ∷ ts) f e = by (same-term t v) (λ p. not-none (sym (rw p at e))) (λ p. rw p (none-from (suc j) t u ts f (rw p at e)))
+
+pub number-none : (t u : Term) (ts : List Term) → same-term t u ≡ false → number t ts ≡ none → number t (ts ++ u ∷ []) ≡ none
+unfolding number
+number-none t u ts f e = none-from 1 t u ts f e
+
+-- A number is at most the count of the terms.
+within-from : (j : ℕ) (t : Term) (ts : List Term) (n : ℕ) → number-from j t ts ≡ some n → n < j + length ts
+unfolding number-from
+within-from j t [] n e = not-none e
+within-from j t (u ∷ ts) n e =
+    by (same-term t u) (λ p. let q : some j ≡ some n = rw p at e in let r : j ≡ n = cc in omega arith)
+    (λ p. omega (arith, within-from (suc j) t ts n (rw p at e)))
+
+pub number-within : (t : Term) (ts : List Term) (n : ℕ) → number t ts ≡ some n → n ≤ length ts
+unfolding number
+number-within t ts n e = omega (arith, within-from 1 t ts n e)
 
 pub number-positive : (t : Term) (ts : List Term) (n : ℕ) → number t ts ≡ some n → 0 < n
 number-positive t ts zero e = absurd (known-zero ts t (found-known t ts 0 e))

@@ -1,20 +1,19 @@
 -- The tests of a number, one after another, and what the span that they leave shows.
-use mathlib.Core.Path.{_≡_, refl, sym, ap, _∙_}
-use mathlib.Core.List.{List, []}
-use mathlib.Core.Bool.{Bool, true, false, _&&_}
-use mathlib.Core.Option.{Option, none, some}
+use mathlib.Core.Path.{_≡_, refl, sym, _∙_}
+use mathlib.Core.List.{List}
+use mathlib.Core.Bool.{true, _&&_}
+use mathlib.Core.Option.{none, some}
 use Prim.Native.Nat.{ℕ, zero, suc, pred, _+_, _*_, _-_, _/_, _≤_, _<_}
 use native.Mathlib.Omega.{arith}
 use lib.Dec.{leb}
 use borrow.Author.Tests.{le-leb, lt-leb, leb-true}
 use lib.ListN.{length, getD, take, drop}
-use Rattle.text.specs.Text.{Text, cond, between}
-use Rattle.text.proofs.Compare.{by, contrary, and-left, and-right}
-use Rattle.table.specs.Layout.{Entry, entry-at, Slices, span}
+use Rattle.text.specs.Text.{Text, between}
+use Rattle.text.proofs.Compare.{by, and-left, and-right}
+use Rattle.table.specs.Layout.{entry-at, Slices, span}
 use Rattle.table.specs.TermText.{shows, term-text}
-use Rattle.term_text.specs.declared.Span.{Span}
 use Rattle.term_text.specs.declared.Span.the-variants.{Part, Unusable}
-use Rattle.term_text.specs.Shown.{answer, text-of, lent, span-at}
+use Rattle.term_text.specs.Shown.{answer, text-of, lent, number-of, part-of as part-of-store, span-at}
 
 pred-sub : (n : ℕ) → pred n ≡ n - 1
 pred-sub zero = refl
@@ -147,3 +146,12 @@ module _ (s : Slices) (n : ℕ) where
       by (shows s n)
       (λ h. let z : _≡_ {A = ℕ} 0 1 = let q : Part (entry-at (s .terms) n .start) (entry-at (s .terms) n .size) ≡ Unusable = sym (rw h) ∙ e in cc in absurd (omega arith))
       (λ h. rw h)
+
+  -- A span stands for the answer that is asked for.
+  pub span-number : number-of (span-at s n) ≡ answer (term-text s n)
+  unfolding span-at term-text
+  span-number = by (shows s n) (λ h. rw h) (λ h. rw h)
+
+  pub span-text : part-of-store (s .store) (span-at s n) ≡ text-of (term-text s n)
+  unfolding span-at term-text
+  span-text = by (shows s n) (λ h. rw h) (λ h. rw h)

@@ -3,7 +3,7 @@ use mathlib.Core.List.{List, []}
 use mathlib.Core.Option.{Option, none, some}
 use Prim.Native.Nat.{ℕ}
 use Rattle.text.specs.Text.{Text, cond}
-use Rattle.table.specs.Layout.{entry-at, Slices}
+use Rattle.table.specs.Layout.{entry-at, Slices, span}
 use Rattle.table.specs.TermText.{shows}
 use Rattle.term_text.specs.declared.Span.{Span}
 use Rattle.term_text.specs.declared.Span.the-variants.{Part, Unusable}
@@ -21,6 +21,15 @@ text-of (some t) = t
 abbrev pub lent : List ℕ → ℕ → Text → ℕ → Slices
 lent terms count store used = record { rows = []; row-count = 0; terms = terms; term-count = count; store = store; store-count = used }
 
--- Where the text lies, as the code finds it.
+-- The number and the part that each case of a span stands for.
+abbrev pub number-of : Span → ℕ
+number-of (Part start size) = 0
+number-of Unusable = 18
+
+abbrev pub part-of : Text → Span → Text
+part-of store (Part start size) = span store start size
+part-of store Unusable = []
+
+-- Where the text lies.
 unfoldable pub span-at : Slices → ℕ → Span
 span-at s n = cond (shows s n) (Part (entry-at (s .terms) n .start) (entry-at (s .terms) n .size)) Unusable

@@ -1,11 +1,9 @@
 // The text of a term, asked for by its number, in tables that may hold anything.
 ghost use mathlib.Core.Path.{_≡_};
-ghost use Prim.Native.Nat.{_≤_};
-ghost use lib.ListN.{length};
 ghost use Rattle.table.specs.TermText.{term-text};
 ghost use Rattle.term_text.specs.Shown.{lent, span-at, answer, text-of};
 
-// Where a term's text lies in the store, if the tables and the number are usable.
+// A part of the store; or the tables or the number are not usable.
 pub enum Span {
     Part { start: usize, size: usize },
     Unusable,
@@ -17,7 +15,8 @@ fn wide(w: u32) -> usize
     w as usize
 }
 
-fn find_span(terms: &[u32], count: usize, store: &[u8], used: usize, number: usize) -> Span
+// Where the text lies; any number and any tables may be given.
+pub fn find_span(terms: &[u32], count: usize, store: &[u8], used: usize, number: usize) -> Span
     ensures { λ r. ⌜ r ≡ span-at (lent (now (terms .entry)) count (now (store .entry)) used) number ⌝ }
 {
     if number < 1 {

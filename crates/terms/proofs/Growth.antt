@@ -1,27 +1,27 @@
 -- One term more: the slices then hold it behind the others.
-use mathlib.Core.Path.{_≡_, refl, sym, ap, subst, _∙_}
+use mathlib.Core.Path.{_≡_, refl, sym, ap, _∙_}
 use mathlib.Core.List.{List, [], _∷_, _++_, append-assoc, append-nil}
-use mathlib.Core.Bool.{Bool, true, false}
-use mathlib.Core.Option.{Option, none, some}
+use mathlib.Core.Bool.{true}
+use mathlib.Core.Option.{none, some}
 use Prim.Native.Nat.{ℕ, zero, suc, _+_, _*_, _<_, _≤_}
 use native.Mathlib.Omega.{arith}
 use lib.Dec.{eqb, ltb}
 use borrow.Author.Tests.{ltb-true, ltb-false}
-use lib.ListN.{length, getD, take, drop, length-append, length-drop, List·getD-append}
-use lib.Seq.{take-at, length-take-le, getD-append-seam}
+use lib.ListN.{length, getD, take, length-append, List·getD-append}
+use lib.Seq.{getD-append-seam}
 use Rattle.text.specs.Text.{Text, cond}
-use Rattle.text.specs.Slice.{over, over-at}
+use Rattle.text.specs.Slice.{over-at}
 use Rattle.text.proofs.Compare.{by}
 use Rattle.text.proofs.Over.{over-at-none}
 use Rattle.terms.proofs.Slices.{take-over-at}
 use Rattle.dataset.specs.Terms.{Term, iri, blank, literal, tagged}
 use Rattle.table.specs.Layout.{Row, row-words, Entry, entry-words}
-use Rattle.table.specs.Tables.{number, or-zero, is-blank, term-bytes, entry-of, store-size, rows-words}
+use Rattle.table.specs.Tables.{number, is-blank, term-bytes, entry-of, store-size, rows-words}
 use Rattle.table.proofs.Finding.{number-more, number-last}
 use Rattle.table.proofs.Store.{last-bytes, last-size}
 use Rattle.terms.specs.declared.Counts.{Counts}
 use Rattle.terms.specs.declared.Sort.{Sort}
-use Rattle.terms.specs.Keeps.{blank-count, findable, Typed, Keeps, Means, Small, Room, Added, blank-sort, BlankAdded, KeepsRows, RowAdded}
+use Rattle.terms.specs.Keeps.{blank-count, findable, Typed, Keeps, Means, Small, Room, Added, blank-sort, BlankAdded, RowAdded}
 use Rattle.terms.specs.Code.{fourth, next-entry, next-counts}
 use Rattle.terms.proofs.Words.{words-last}
 

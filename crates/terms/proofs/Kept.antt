@@ -2,20 +2,20 @@
 use mathlib.Core.Path.{_≡_, refl, sym, ap, _∙_}
 use mathlib.Core.List.{List, [], _∷_, _++_}
 use mathlib.Core.Bool.{Bool, true, false, _&&_}
-use mathlib.Core.Option.{Option, none, some}
+use mathlib.Core.Option.{some}
 use Prim.Native.Nat.{ℕ, zero, suc, _+_, _*_, _<_, _≤_}
 use native.Mathlib.Nat.{add-zero}
 use native.Mathlib.Omega.{arith}
 use lib.Dec.{eqb}
 use borrow.Author.Tests.{eq-eqb, ne-eqb}
-use lib.ListN.{length, getD, take, drop, length-append}
+use lib.ListN.{length, getD, take, drop, length-append, take-append-drop}
 use lib.Seq.{getD-take}
-use Rattle.text.specs.Text.{Text, cond, same-text}
+use Rattle.text.specs.Text.{Text, same-text}
 use Rattle.text.proofs.Compare.{by, contrary, same-eq, same-refl}
 use Rattle.dataset.specs.Terms.{Blank, label, bracket, cell, numbered, Term, iri, blank, literal, tagged}
 use Rattle.table.specs.Layout.{Entry, entry-words, entry-at, tagged-kind, span}
-use Rattle.table.specs.Tables.{same-blank, same-term, number-from, number, or-zero, label-of, text-of, tag-of, term-bytes, entry-of, terms-words, store-size}
-use Rattle.table.proofs.Finding.{number-step, number-end, number-start, number-positive, positive-some, number-same}
+use Rattle.table.specs.Tables.{same-blank, same-term, number-from, number, or-zero, label-of, text-of, tag-of, term-bytes, entry-of, terms-words, store-bytes, store-size}
+use Rattle.table.proofs.Finding.{number-step, number-end, number-positive, positive-some, number-same}
 use Rattle.table.proofs.Store.{text-span, tag-span, inside, bytes-length}
 use Rattle.terms.specs.declared.Counts.{Counts}
 use Rattle.terms.specs.declared.Sort.{Sort}
@@ -55,6 +55,13 @@ module _ {ts : List Term} {terms : List ℕ} {store : Text} {c : Counts} (K : Ke
 
   pub bytes-room : c .used ≤ length store
   bytes-room = take-fits (c .used) store (ap length (K .bytes) ∙ (bytes-length ts ∙ sym (K .used)))
+
+  -- The whole slices, where all past the terms is as it was at first.
+  pub whole-words : (terms₀ : List ℕ) → drop (5 * c .terms) terms ≡ drop (5 * c .terms) terms₀ → terms ≡ terms-words ts ++ drop (5 * c .terms) terms₀
+  whole-words terms₀ e = sym (take-append-drop (5 * c .terms) terms) ∙ rw (K .words, e)
+
+  pub whole-bytes : (store₀ : Text) → drop (c .used) store ≡ drop (c .used) store₀ → store ≡ store-bytes ts ++ drop (c .used) store₀
+  whole-bytes store₀ e = sym (take-append-drop (c .used) store) ∙ rw (K .bytes, e)
 
   module _ (i : ℕ) (h : i < c .terms) where
     abbrev u : Term

@@ -1,7 +1,7 @@
 -- Writing into a slice from a place on.
-use mathlib.Core.Path.{_≡_, refl, sym, ap, _∙_}
-use mathlib.Core.List.{List, [], _∷_, _++_, append-assoc}
-use Prim.Native.Nat.{ℕ, zero, suc, _+_, _-_, _<_, _≤_}
+use mathlib.Core.Path.{_≡_, sym, ap, _∙_}
+use mathlib.Core.List.{[], _∷_, _++_, append-assoc}
+use Prim.Native.Nat.{ℕ, zero, suc, _+_, _-_, _≤_}
 use native.Mathlib.Nat.{suc-add, zero-add}
 use native.Mathlib.Omega.{arith}
 use lib.ListN.{length, take, drop, length-append, length-drop}
@@ -36,10 +36,11 @@ over-at-append (suc at) s t (b ∷ x) = rw (suc-add at (length s)) (ap (λ (l : 
 pub over-behind : (at end : ℕ) (s t x y : Text) → y ≡ over-at at s x → end ≡ at + length s → over-at end t y ≡ over-at at (s ++ t) x
 over-behind at end s t x y e h = rw (e, h) (sym (over-at-append at s t x))
 
--- What lies past what was written is as it was.
-pub drop-over-at : (at : ℕ) (s x : Text) → at + length s ≤ length x → drop (at + length s) (over-at at s x) ≡ drop (at + length s) x
+-- What lies past the place is as it was at first, in x₀; then so is what lies past what was written there.
+pub past-over-at : (at : ℕ) (s x x₀ : Text) → at + length s ≤ length x → drop at x ≡ drop at x₀ → drop (at + length s) (over-at at s x) ≡ drop (at + length s) x₀
 unfolding over-at
-drop-over-at at s x h =
+past-over-at at s x x₀ h e =
     let front : length (take at x) ≡ at = length-take-le at x (omega arith) in
     rw (over-fits s (drop at x) (omega (arith, length-drop at x)), ← append-assoc (take at x) s (drop (length s) (drop at x)))
-    (drop-at (take at x ++ s) (drop (length s) (drop at x)) (at + length s) (length-append (take at x) s ∙ omega (arith, front)) ∙ drop-drop (length s) at x)
+    (drop-at (take at x ++ s) (drop (length s) (drop at x)) (at + length s) (length-append (take at x) s ∙ omega (arith, front))
+    ∙ (ap (drop (length s)) e ∙ drop-drop (length s) at x₀))

@@ -1,20 +1,17 @@
 -- The words of terms: where those of one term lie, and what adding a term changes.
 use mathlib.Core.Path.{_≡_, refl, sym, ap, _∙_}
 use mathlib.Core.List.{List, [], _∷_, _++_, append-assoc, append-nil}
-use mathlib.Core.Bool.{Bool, true, false}
-use mathlib.Core.Option.{Option, none, some}
-use Prim.Native.Nat.{ℕ, zero, suc, _+_, _*_, _<_, _≤_}
+use Prim.Native.Nat.{ℕ, suc, _+_, _*_, _<_}
 use native.Mathlib.Nat.{zero-add, add-zero}
 use native.Mathlib.Omega.{arith}
-use lib.ListN.{length, getD, take, drop, length-append, List·getD-append}
-use lib.Seq.{split-at, getD-append-add, getD-take, length-take-le}
-use Rattle.text.specs.Text.{Text, cond}
+use lib.ListN.{length, getD, take, drop, List·getD-append}
+use lib.Seq.{split-at, getD-append-add, length-take-le}
+use Rattle.text.specs.Text.{cond}
 use Rattle.text.proofs.Compare.{by}
 use Rattle.dataset.specs.Terms.{Term, iri, blank, literal, tagged}
-use Rattle.table.specs.Layout.{Entry, entry-words, entry-at}
-use Rattle.table.specs.Tables.{number, or-zero, is-blank, term-bytes, entry-of, words-from, terms-words, store-size}
+use Rattle.table.specs.Layout.{Entry, entry-words}
+use Rattle.table.specs.Tables.{is-blank, term-bytes, entry-of, words-from, terms-words, store-size}
 use Rattle.table.proofs.Finding.{number-more}
-use Rattle.table.proofs.Store.{size-append}
 use Rattle.terms.specs.Keeps.{blank-count, Typed}
 
 -- The blank nodes before t, and with it.

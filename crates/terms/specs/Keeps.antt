@@ -7,7 +7,7 @@ use Prim.Native.Nat.{ℕ, suc, _+_, _*_, _<_, _≤_}
 use lib.ListN.{length, getD, take}
 use Rattle.text.specs.Text.{Text, cond}
 use Rattle.text.specs.Slice.{over-at}
-use Rattle.dataset.specs.Terms.{Blank, label, bracket, cell, numbered, Term, iri, blank, literal, tagged}
+use Rattle.dataset.specs.Terms.{label, bracket, cell, numbered, Term, iri, blank, literal, tagged}
 use Rattle.table.specs.Layout.{Row, row-size, row-words, term-size, entry-words, iri-kind, blank-kind, literal-kind, tagged-kind}
 use Rattle.table.specs.Tables.{number, or-zero, is-blank, label-of, terms-words, store-bytes, store-size, rows-words}
 use Rattle.terms.specs.declared.Counts.{Counts}
@@ -66,10 +66,6 @@ pub record Room (terms : List ℕ) (store : Text) (c : Counts) (sort : Sort) (x 
   pub words : term-size * c .terms + term-size ≤ length terms
   pub bytes : c .used + (length x + length g) ≤ length store
   pub small : Small c sort (length x + length g)
-
--- What looking for the term answers: its number, or 0.
-abbrev pub Finds : List ℕ → Text → Counts → Sort → Text → Text → ℕ → Type 0
-Finds terms store c sort x g r = (ts : List Term) (t : Term) → Keeps ts terms store c → Means ts sort x g t → findable t ≡ true → r ≡ or-zero (number t ts)
 
 -- What adding the term leaves: its words and bytes behind the others, and all else as it was.
 pub record Added (terms terms' : List ℕ) (store store' : Text) (c c' : Counts) (sort : Sort) (x g : Text) : Type 0 where

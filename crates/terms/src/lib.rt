@@ -1,4 +1,4 @@
-// Terms and rows in lent slices: finding an equal term, adding a new one, adding a row.
+// Terms and rows in lent slices: looking for an equal term one by one, adding a term, adding a row.
 ghost use mathlib.Core.Path.{_≡_};
 ghost use mathlib.Core.Bool.{false};
 ghost use mathlib.Core.List.{_++_};
@@ -8,7 +8,7 @@ ghost use Rattle.text.specs.Slice.{over-at};
 ghost use Rattle.form.specs.Form.{joined, bad};
 ghost use Rattle.table.specs.Layout.{entry-at, entry-words};
 ghost use Rattle.terms.specs.Code.{same-rest, matches, first, Inside, Readable, fourth, next-entry, next-counts};
-ghost use Rattle.terms.specs.Keeps.{Keeps, Small, Room, Finds, Added, blank-sort, BlankAdded, RowAdded};
+ghost use Rattle.terms.specs.Keeps.{Small, Room, Added, blank-sort, BlankAdded, RowAdded};
 use form::Form;
 
 // How many terms there are, how many bytes of the store they use, and how many of them are blank nodes.
@@ -98,24 +98,6 @@ pub fn find_from(
         i += 1;
     }
     0
-}
-
-// The number of the equal term, or 0.
-pub fn find(
-    terms: &[u32],
-    store: &[u8],
-    counts: Counts,
-    sort: Sort,
-    front: &[u8],
-    form: Form,
-    back: &[u8],
-    tag: &[u8],
-) -> usize
-    requires { ⌜ Readable (now terms) (now store) (counts .terms) ⌝ }
-    ensures { λ r. ⌜ Finds (now (terms .entry)) (now (store .entry)) counts sort (joined (now (front .entry)) form (now (back .entry))) (now (tag .entry)) r ⌝ }
-{
-    let count = counts.terms;
-    find_from(terms, store, 0, count, sort, front, form, back, tag)
 }
 
 // Writes words at a place.

@@ -61,7 +61,7 @@ pub extern "C" fn add_iri(
     used: usize,
     text: &[u8],
 ) -> usize
-    requires { ⌜ Room (now terms) (now store) (counts count used) an-iri (now text) [] × (key ≡ hash (now text)) ⌝ }
+    requires { ⌜ Room (now terms) (now store) (counts count used) an-iri (now text) [] ⌝ }
 {
     let c = Counts {
         terms: count,
@@ -72,9 +72,7 @@ pub extern "C" fn add_iri(
         kind: 1,
         datatype: 0,
     };
-    let r = index::add(
-        index,
-        key,
+    let r = terms::add(
         terms,
         store,
         c,
@@ -84,5 +82,6 @@ pub extern "C" fn add_iri(
         text,
         &text[..0],
     );
+    index::link(index, count, key);
     r.used
 }

@@ -12,7 +12,10 @@ slice-aggregate-add-2 c = search needs
 
 add-requires : tie.Need-add-requires
 unfolding joined undo bad
-add-requires c κs = ((c .before .before .before .before .before .before .before .before .before .pre .0, refl), c .before .before .before .before .before .before .before .before .before .pre .1)
+add-requires c κs = ((c .before .before .before .before .before .before .before .before .pre), refl)
+
+link-requires : tie.Need-link-requires
+link-requires c κs = search needs
 
 same-length : tie.Need-same-length
 same-length c = search needs
@@ -33,6 +36,7 @@ add-iri-spec =
     slice-aggregate-add
     slice-aggregate-add-2
     add-requires
+    link-requires
     same-length
     same-length-2
     same-length-3
