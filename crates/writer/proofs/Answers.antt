@@ -1,0 +1,59 @@
+-- The answer is that of the definition, by what was found.
+use mathlib.Core.Path.{_≡_, refl, ap, sym, _∙_}
+use mathlib.Core.Bool.{true, false}
+use mathlib.Core.List.{List, _++_}
+use Prim.Native.Nat.{ℕ, zero, suc, _+_, _^_, _≤_, _<_}
+use native.Mathlib.Nat.{zero-add}
+use native.Mathlib.Omega.{arith}
+use borrow.Author.Tests.{leb-true, leb-false, lt-ltb, le-ltb}
+use lib.Dec.{leb}
+use lib.ListN.{length, drop}
+use Rattle.text.specs.Text.{Text}
+use Rattle.text.specs.Slice.{over, over-at}
+use Rattle.text.proofs.Over.{over-fits}
+use Rattle.table.specs.Layout.{Slices, row-at}
+use Rattle.table.specs.Usable.{usable}
+use Rattle.table.specs.LongForm.{Written, term-form, triple-form, line, lines-from, long-form, write}
+use Rattle.writer.specs.Writing.{Room, Wrote}
+use Rattle.writer.specs.Drawn.{drawn}
+
+abbrev written : ℕ → ℕ → Text → Written
+written k n out = record { number = k; position = n; output = out }
+
+module _ (s : Slices) where
+  abbrev tables : Slices
+  tables = drawn (s .rows) (s .terms) (s .store)
+
+  -- The counts do not matter to lines.
+  line-drawn : (i : ℕ) → line s (row-at (s .rows) i) ≡ line tables (row-at (s .rows) i)
+  unfolding line triple-form term-form
+  line-drawn i = refl
+
+  lines-drawn : (i n : ℕ) → lines-from s i n ≡ lines-from tables i n
+  unfolding lines-from
+  lines-drawn i zero = refl
+  lines-drawn i (suc n) = rw (line-drawn i, lines-drawn (suc i) n)
+
+  form : long-form s ≡ lines-from tables 0 (s .row-count)
+  unfolding long-form
+  form = lines-drawn 0 (s .row-count)
+
+  pub not-usable : (x : Text) → usable s ≡ false → written 18 0 x ≡ write s x
+  unfolding write
+  not-usable x e = rw e
+
+  module _ (x : Text) (e : usable s ≡ true) where
+    pub too-long : leb (length (lines-from tables 0 (s .row-count))) (length x) ≡ false → written 17 0 x ≡ write s x
+    unfolding write
+    too-long f = rw (e, form, lt-ltb (length x) (length (lines-from tables 0 (s .row-count))) (leb-false _ _ f))
+
+    module _ (f : leb (length (lines-from tables 0 (s .row-count))) (length x) ≡ true) where
+      pub lines-room : length x < 2 ^ 64 → Room 0 (lines-from tables 0 (s .row-count))
+      lines-room l = record { fits = omega (arith, leb-true (length (lines-from tables 0 (s .row-count))) (length x) f) }
+
+      pub written-whole : {y : Text} {r : ℕ} → Wrote 0 (lines-from tables 0 (s .row-count)) x y r → written 0 r y ≡ write s x
+      unfolding write over-at
+      written-whole w =
+          let t = lines-from tables 0 (s .row-count) in
+          let l = leb-true (length t) (length x) f in
+          rw (e, form, le-ltb (length x) (length t) l, w .end, w .out, zero-add (length t), over-fits t x l)

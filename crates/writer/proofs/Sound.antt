@@ -1,0 +1,207 @@
+-- Usable tables can be written, and their lines are short.
+use mathlib.Core.Path.{_≡_, refl, ap, sym, _∙_}
+use mathlib.Core.Bool.{Bool, true, false, _&&_, _||_}
+use mathlib.Core.List.{List, [], _∷_, _++_}
+use Prim.Native.Nat.{ℕ, _+_, _*_, _^_, _≤_, _<_}
+use native.Mathlib.Omega.{arith}
+use borrow.Author.Tests.{leb-true, le-leb, ltb-true, eqb-true, eqb-false, ne-eqb}
+use lib.Dec.{eqb, ltb, leb}
+use lib.ListN.{length, length-append}
+use Rattle.text.specs.Text.{Text, ascii, between}
+use Rattle.text.proofs.Compare.{and-left, and-right, contrary}
+use Rattle.utf8.specs.Utf8.{first-bad}
+use Rattle.utf8.proofs.Tests.{by, between-true}
+use Rattle.table.specs.Layout.{Row, Slices, row-at, iri-kind, blank-kind}
+use Rattle.table.specs.Usable.{is-none, the, text, inside, has-kind, good-iri, good-datatype, good-tag, is-tag, tag, good-term, good-row, present, resource, usable}
+use Rattle.table.specs.LongForm.{decimal, iri-form, string-form, type-form, term-form, triple-form, line}
+use Rattle.usable.specs.Lent.{Stands, SpanIn, readable, right-kind}
+use Rattle.usable.proofs.Facts.{Fits, usable-fits, usable-term, usable-row}
+use Rattle.writer.specs.Writing.{Room}
+use Rattle.writer.specs.Drawn.{Writable, WritableRow, Ready, Short, bare, drawn, part-form, blank-form, tag-form, literal-form}
+use Rattle.writer.proofs.Bounds.{span-bound, iri-form-bound, string-form-bound, type-form-bound, digits-bound}
+use Rattle.writer.proofs.Pieces.{term-iri, term-blank, term-literal, literal-typed, literal-tagged}
+use Rattle.writer.proofs.RowForms.{triple-parts, line-default, line-graph}
+
+between-in : (lo hi c : ℕ) → lo ≤ c → c ≤ hi → between lo hi c ≡ true
+between-in lo hi c h k = rw (le-leb lo c h, le-leb c hi k)
+
+-- A test by kind holds: what it says of the kinds 3 and 4.
+module _ (k : ℕ) (a b c : Bool) (t : ((eqb k 1 && a) || eqb k 2 || (eqb k 3 && b) || (eqb k 4 && c)) ≡ true) where
+  third : k ≡ 3 → b ≡ true
+  third h = by b (λ e. e) (λ e. contrary (sym (rw (h, e) at t)))
+
+  fourth : (k ≡ 1 → ⊥) → (k ≡ 2 → ⊥) → (k ≡ 3 → ⊥) → c ≡ true
+  fourth h i j = and-right (eqb k 4) c (rw (ne-eqb k 1 h, ne-eqb k 2 i, ne-eqb k 3 j) at t)
+
+module _ (s : Slices) (e : usable s ≡ true) where
+  -- ---- Terms
+
+  module _ (n : ℕ) (p : present s n ≡ true) where
+    bounds : (1 ≤ n) × (n ≤ s .term-count)
+    bounds = between-true 1 (s .term-count) n p
+
+    stands : Stands (s .terms) n
+    stands = let f = usable-fits s e .terms in let b = bounds .0 in let c = bounds .1 in (b, omega arith)
+
+    good : good-term s n ≡ true
+    good = usable-term s e n (bounds .0) (bounds .1)
+
+    text-good : readable s n ≡ true
+    unfolding good-term
+    text-good = and-left (readable s n) (right-kind s n) good
+
+    kind-good : right-kind s n ≡ true
+    unfolding good-term
+    kind-good = and-right (readable s n) (right-kind s n) good
+
+    text-within : the s n .start + the s n .size ≤ s .store-count
+    text-within = leb-true (the s n .start + the s n .size) (s .store-count) (and-left (inside s (the s n .start) (the s n .size)) (is-none (first-bad (text s n))) text-good)
+
+    text-stands : SpanIn s n
+    text-stands = let f = usable-fits s e .store in let t = text-within in omega arith
+
+    text-size : length (text s n) ≤ s .store-count
+    text-size = let t = text-within in let b = span-bound (s .store) (the s n .start) (the s n .size) in omega arith
+
+    typed : the s n .kind ≡ 3 → present s (the s n .fourth) ≡ true
+    typed k =
+        let d = the s n .fourth in
+        let t = third (the s n .kind) (good-iri s n) (good-datatype s n) (good-tag s n) kind-good k in
+        let u = and-left (leb 1 d && ltb d n) (has-kind s iri-kind d) t in
+        let l = leb-true 1 d (and-left (leb 1 d) (ltb d n) u) in
+        let m = ltb-true d n (and-right (leb 1 d) (ltb d n) u) in
+        let b = bounds .1 in
+        between-in 1 (s .term-count) d l (omega arith)
+
+    tagged : (the s n .kind ≡ 1 → ⊥) → (the s n .kind ≡ 2 → ⊥) → (the s n .kind ≡ 3 → ⊥) → the s n .fourth + the s n .fifth ≤ s .store-count
+    tagged i b l =
+        leb-true (the s n .fourth + the s n .fifth) (s .store-count)
+        (and-left (inside s (the s n .fourth) (the s n .fifth)) (is-tag (tag s n))
+        (fourth (the s n .kind) (good-iri s n) (good-datatype s n) (good-tag s n) kind-good i b l))
+
+  module _ (n : ℕ) (p : present s n ≡ true) where
+    writable : Writable (bare s) n
+    writable = record {
+      stands = stands n p;
+      text-in = text-stands n p;
+      type-stands = λ k. stands (the s n .fourth) (typed n p k);
+      type-in = λ k. text-stands (the s n .fourth) (typed n p k);
+      tag-in = λ i b l. let f = usable-fits s e .store in let t = tagged n p i b l in omega arith;
+    }
+
+    -- A literal with a datatype is the longest.
+    term-bound : length (term-form (bare s) n) ≤ 12 * s .store-count + 13
+    term-bound =
+        by (eqb (the s n .kind) 1)
+        (λ q. let a = iri-form-bound (text s n) in let t = text-size n p in rw (term-iri (bare s) n (eqb-true (the s n .kind) 1 q)) (omega arith))
+        (λ q.
+        by (eqb (the s n .kind) 2)
+        (λ r.
+        let a = digits-bound 10 (the s n .fourth) in
+        rw (term-blank (bare s) n (eqb-false (the s n .kind) 1 q) (eqb-true (the s n .kind) 2 r)) (omega arith))
+        (λ r.
+        rw (term-literal (bare s) n (eqb-false (the s n .kind) 1 q) (eqb-false (the s n .kind) 2 r))
+        (by (eqb (the s n .kind) 3)
+        (λ u. typed-bound (eqb-true (the s n .kind) 3 u))
+        (λ u. tagged-bound (eqb-false (the s n .kind) 1 q) (eqb-false (the s n .kind) 2 r) (eqb-false (the s n .kind) 3 u)))))
+      where
+        typed-bound : the s n .kind ≡ 3 → length (literal-form (bare s) n) ≤ 12 * s .store-count + 13
+        typed-bound k =
+            let d = text s (the s n .fourth) in
+            let a = string-form-bound (text s n) in let t = text-size n p in
+            let b = type-form-bound d in let u = text-size (the s n .fourth) (typed n p k) in
+            let c = length-append (string-form (text s n)) (type-form d) in
+            rw (literal-typed (bare s) n k) (omega arith)
+
+        tagged-bound : (the s n .kind ≡ 1 → ⊥) → (the s n .kind ≡ 2 → ⊥) → (the s n .kind ≡ 3 → ⊥) → length (literal-form (bare s) n) ≤ 12 * s .store-count + 13
+        tagged-bound i b l =
+            let a = string-form-bound (text s n) in let t = text-size n p in
+            let v = tagged n p i b l in let u = span-bound (s .store) (the s n .fourth) (the s n .fifth) in
+            let c = length-append (string-form (text s n)) (tag-form (tag s n)) in
+            rw (literal-tagged (bare s) n l) (omega arith)
+
+  -- ---- Rows
+
+  resource-in : (n : ℕ) → resource s n ≡ true → present s n ≡ true
+  resource-in n t = and-left (present s n) (has-kind s iri-kind n || has-kind s blank-kind n) t
+
+  module _ (r : Row) (t : good-row s r ≡ true) where
+    labelled : Bool
+    labelled = eqb (r .graph) 0 || resource s (r .graph)
+
+    subjected : Bool
+    subjected = resource s (r .subject)
+
+    predicated : Bool
+    predicated = present s (r .predicate) && has-kind s iri-kind (r .predicate)
+
+    triple-good : (labelled && subjected && predicated) ≡ true
+    unfolding good-row labelled subjected predicated
+    triple-good = and-left (labelled && subjected && predicated) (present s (r .object)) t
+
+    object-in : present s (r .object) ≡ true
+    unfolding good-row labelled subjected predicated
+    object-in = and-right (labelled && subjected && predicated) (present s (r .object)) t
+
+    predicate-in : present s (r .predicate) ≡ true
+    unfolding predicated
+    predicate-in = and-left (present s (r .predicate)) (has-kind s iri-kind (r .predicate)) (and-right (labelled && subjected) predicated triple-good)
+
+    subject-in : present s (r .subject) ≡ true
+    unfolding subjected
+    subject-in = resource-in (r .subject) (and-right labelled subjected (and-left (labelled && subjected) predicated triple-good))
+
+    graph-in : (r .graph ≡ 0 → ⊥) → present s (r .graph) ≡ true
+    unfolding labelled
+    graph-in n = resource-in (r .graph) (rw (ne-eqb (r .graph) 0 n) at (and-left labelled subjected (and-left (labelled && subjected) predicated triple-good)))
+
+    abbrev tables : Slices
+    tables = drawn (s .rows) (s .terms) (s .store)
+
+    triple-bound : length (triple-form tables r) ≤ 3 * (12 * s .store-count + 13) + 4
+    triple-bound =
+        let a = term-form (bare s) (r .subject) in
+        let b = term-form (bare s) (r .predicate) in
+        let c = term-form (bare s) (r .object) in
+        let u = term-bound (r .subject) subject-in in
+        let v = term-bound (r .predicate) predicate-in in
+        let w = term-bound (r .object) object-in in
+        let f = length-append a (ascii " ") in
+        let g = length-append b (ascii " ") in
+        let k = length-append c (ascii " .") in
+        let l = length-append (b ++ ascii " ") (c ++ ascii " .") in
+        let m = length-append (a ++ ascii " ") ((b ++ ascii " ") ++ (c ++ ascii " .")) in
+        rw (triple-parts tables r) (omega arith)
+
+    line-bound : length (line tables r) ≤ 4 * (12 * s .store-count + 13) + 10
+    line-bound =
+        by (eqb (r .graph) 0)
+        (λ q.
+        let f = length-append (triple-form tables r) (ascii "\n") in
+        let b = triple-bound in
+        rw (line-default tables r (eqb-true (r .graph) 0 q)) (omega arith))
+        (λ q.
+        let n = eqb-false (r .graph) 0 q in
+        let g = term-form (bare s) (r .graph) in
+        let x = triple-form tables r ++ ascii " }\n" in
+        let u = term-bound (r .graph) (graph-in n) in
+        let b = triple-bound in
+        let f = length-append (triple-form tables r) (ascii " }\n") in
+        let k = length-append g (ascii " ") in
+        let l = length-append (g ++ ascii " ") (ascii "{ " ++ x) in
+        rw (line-graph tables r n) (omega arith))
+
+  pub ready : Ready (drawn (s .rows) (s .terms) (s .store)) (s .row-count)
+  ready i h =
+      let r = row-at (s .rows) i in
+      let t = usable-row s e i h in
+      record {
+        stands = let f = usable-fits s e .rows in omega arith;
+        graph = λ n. writable (r .graph) (graph-in r t n);
+        subject = writable (r .subject) (subject-in r t);
+        predicate = writable (r .predicate) (predicate-in r t);
+        object = writable (r .object) (object-in r t);
+      }
+
+  pub short : s .store-count < 2 ^ 32 → Short (drawn (s .rows) (s .terms) (s .store)) (s .row-count)
+  short l i h = record { fits = let b = line-bound (row-at (s .rows) i) (usable-row s e i h) in omega arith }

@@ -1,0 +1,24 @@
+use Rattle.writer.proofs.Chains.{wrote-byte, wrote-past, wrote-length}
+use mathlib.Core.List.{[], _∷_}
+use Rattle.writer.specs.Writing.{Wrote}
+use borrow.Author.Needs.{needs}
+use mathlib.Core.Path.{sym, subst}
+use Prim.Native.Nat.{_+_}
+use mathlib.Core.Logic.{⊎-elim}
+use Rattle.writer.proofs.bytes.put.Statement.{statement}
+use Rattle.writer.proofs.bytes.put.Tie as tie
+
+slice-write-out : tie.Need-slice-write-out
+slice-write-out c = search needs
+
+add-result : tie.Need-add-result
+add-result c = search needs
+
+same-length : tie.Need-same-length
+same-length c = wrote-length (⊎-elim (λ w. subst (λ l. Wrote (c .before .args .at) ((c .before .args .c) ∷ []) (c .before .args .out .now) l (c .before .args .at + 1)) (sym (w .1)) (wrote-byte (c .before .args .at) (c .before .args .c) (c .before .args .out .now))) (λ w. subst (λ l. Wrote (c .before .args .at) ((c .before .args .c) ∷ []) (c .before .args .out .now) l (c .before .args .at + 1)) (sym (w .1)) (wrote-past (c .before .args .at) (c .before .args .c) (c .before .args .out .now) (w .0 .left))) (c .if1 .came))
+
+returns : tie.Need-returns
+returns c = (⊎-elim (λ w. subst (λ l. Wrote (c .before .args .at) ((c .before .args .c) ∷ []) (c .before .args .out .now) l (c .before .args .at + 1)) (sym (w .1)) (wrote-byte (c .before .args .at) (c .before .args .c) (c .before .args .out .now))) (λ w. subst (λ l. Wrote (c .before .args .at) ((c .before .args .c) ∷ []) (c .before .args .out .now) l (c .before .args .at + 1)) (sym (w .1)) (wrote-past (c .before .args .at) (c .before .args .c) (c .before .args .out .now) (w .0 .left))) (c .if1 .came))
+
+pub put-spec : {M : Type 1} → statement M
+put-spec = tie.close (tie.spec slice-write-out add-result same-length returns)

@@ -1,0 +1,56 @@
+-- The invariant: as many bytes of the text as were passed are written.
+use Rattle.table.specs.LongForm.{escaped}
+use Rattle.writer.specs.Writing.{Wrote, byte-form}
+use Rattle.writer.proofs.Chains.{wrote-length}
+use Rattle.writer.proofs.Escapes.{escaped-none, escaped-all, room-next, wrote-next}
+use borrow.Author.Needs.{needs}
+use native.Mathlib.Omega.{arith}
+use lib.ListN.{length, take}
+use Prim.Native.Nat.{_≤_, _-_}
+use Rattle.writer.proofs.bytes.put_escaped.Statement.{statement}
+use Rattle.writer.proofs.bytes.put_escaped.Tie as tie
+
+abbrev Inv-loop : tie.InvT-loop
+Inv-loop rule s out₀ at end₀ i₀ out end i = (i ≤ length s) × Wrote at (escaped (byte-form rule) (take i s)) out₀ out end
+
+abbrev μ-loop : tie.MeasureT-loop
+μ-loop rule s out₀ at end₀ i₀ out end i = length s - i
+
+loop-holds : tie.Need-loop-holds Inv-loop μ-loop
+loop-holds c = (omega arith, escaped-none (byte-form (c .before .before .args .rule)) (c .before .before .args .at) (c .before .before .args .s .now) (c .before .before .args .out .now))
+
+shared-slice-read-put-byte : tie.Need-shared-slice-read-put-byte Inv-loop μ-loop
+shared-slice-read-put-byte c = search needs
+
+put-byte-requires : tie.Need-put-byte-requires Inv-loop μ-loop
+put-byte-requires c κs = room-next (byte-form (c .before .before .before .before .before .before .args .rule)) (c .before .before .before .before .before .before .args .s .now) (c .before .before .before .loop .i) (c .before .before .loop-test .taken) (c .before .before .before .loop .inv .1) (c .before .before .before .before .before .before .pre)
+
+add-i : tie.Need-add-i Inv-loop μ-loop
+add-i c = search needs
+
+loop-less : tie.Need-loop-less Inv-loop μ-loop
+loop-less c = search needs
+
+loop-again : tie.Need-loop-again Inv-loop μ-loop
+loop-again c = (omega arith, wrote-next (byte-form (c .before .before .before .before .before .before .before .before .before .args .rule)) (c .before .before .before .before .before .before .before .before .before .args .s .now) (c .before .before .before .before .before .before .loop .i) (c .before .before .before .before .before .loop-test .taken) (c .before .before .before .before .before .before .loop .inv .1) (c .before .before .put-byte .ensures))
+
+same-length : tie.Need-same-length Inv-loop μ-loop
+same-length c = wrote-length (c .before .loop .inv .1)
+
+returns : tie.Need-returns Inv-loop μ-loop
+returns c = rw (escaped-all (byte-form (c .before .before .before .before .args .rule)) (c .before .before .before .before .args .s .now) (c .before .loop .i) (c .loop-test .left)) at (c .before .loop .inv .1)
+
+pub put-escaped-spec : {M : Type 1} → statement M
+put-escaped-spec =
+    tie.close
+    (tie.spec
+    Inv-loop
+    μ-loop
+    loop-holds
+    shared-slice-read-put-byte
+    put-byte-requires
+    add-i
+    loop-less
+    loop-again
+    same-length
+    returns)

@@ -1,0 +1,103 @@
+// Terms in the long form.
+ghost use mathlib.Core.List.{[], _∷_, _++_};
+ghost use mathlib.Core.Path.{_≡_};
+ghost use Prim.Native.Nat.{_+_, _*_, _≤_, _<_};
+ghost use lib.ListN.{length};
+ghost use Rattle.text.specs.Text.{ascii, same-text};
+ghost use Rattle.dataset.specs.Terms.{xsd-string};
+ghost use Rattle.table.specs.Usable.{the, text, tag};
+ghost use Rattle.table.specs.LongForm.{decimal, type-form, term-form};
+ghost use Rattle.usable.specs.Lent.{Stands, SpanIn, lent};
+ghost use Rattle.writer.specs.Writing.{Room, Wrote};
+ghost use Rattle.writer.specs.Drawn.{Writable, NoResource, blank-form, tag-form, literal-form};
+use crate::bytes::Rule;
+use crate::bytes::put;
+use crate::bytes::put_digits;
+use crate::bytes::put_escaped;
+use crate::bytes::put_iri;
+use crate::bytes::put_string;
+use crate::bytes::put_three;
+use crate::bytes::put_two;
+use usable::fields::part;
+use usable::fields::word;
+
+fn is_xsd_string(s: &[u8]) -> bool
+    ensures { λ r. ⌜ r ≡ same-text (now (s .entry)) xsd-string ⌝ }
+{
+    text::same(s, b"http://www.w3.org/2001/XMLSchema#string")
+}
+
+// "^^ and the type unless xsd:string"
+fn put_type(datatype: &[u8], out: &mut [u8], at: usize) -> usize
+    requires { ⌜ Room at (type-form (now datatype)) ⌝ }
+    ensures { λ r. ⌜ Wrote at (type-form (now (datatype .entry))) (now (out .entry)) (now (out .exit)) r ⌝ }
+{
+    if is_xsd_string(datatype) {
+        return at;
+    }
+    let next = put_two(out, at, b'^', b'^');
+    put_iri(datatype, out, next)
+}
+
+// "@ and the tag"
+fn put_tag(tag: &[u8], out: &mut [u8], at: usize) -> usize
+    requires { ⌜ Room at (tag-form (now tag)) ⌝ }
+    ensures { λ r. ⌜ Wrote at (tag-form (now (tag .entry))) (now (out .entry)) (now (out .exit)) r ⌝ }
+{
+    let next = put(out, at, b'@');
+    put_escaped(Rule::Plain, tag, out, next)
+}
+
+// "Blanks as _:b and the blank number"
+fn put_blank(number: usize, out: &mut [u8], at: usize) -> usize
+    requires { ⌜ Room at (blank-form number) ⌝ }
+    ensures { λ r. ⌜ Wrote at (blank-form number) (now (out .entry)) (now (out .exit)) r ⌝ }
+{
+    let next = put_three(out, at, b'_', b':', b'b');
+    put_digits(10, number, out, next)
+}
+
+// The text of a term, and the tag of a tagged literal.
+fn text_of<'a>(terms: &[u32], store: &'a [u8], n: usize) -> &'a [u8]
+    requires { ⌜ Stands (now terms) n × SpanIn (lent (now terms) 0 (now store) 0) n ⌝ }
+    ensures { λ r. ⌜ now r ≡ text (lent (now (terms .entry)) 0 (now (store .entry)) 0) n ⌝ }
+{
+    let start = word(terms, n, 1);
+    let size = word(terms, n, 2);
+    part(store, start, size)
+}
+
+fn tag_of<'a>(terms: &[u32], store: &'a [u8], n: usize) -> &'a [u8]
+    requires { ⌜ Stands (now terms) n × (the (lent (now terms) 0 (now store) 0) n .fourth + the (lent (now terms) 0 (now store) 0) n .fifth ≤ length (now store)) ⌝ }
+    ensures { λ r. ⌜ now r ≡ tag (lent (now (terms .entry)) 0 (now (store .entry)) 0) n ⌝ }
+{
+    let start = word(terms, n, 3);
+    let size = word(terms, n, 4);
+    part(store, start, size)
+}
+
+fn put_literal(terms: &[u32], store: &[u8], n: usize, out: &mut [u8], at: usize) -> usize
+    requires { ⌜ Writable (lent (now terms) 0 (now store) 0) n × (NoResource (lent (now terms) 0 (now store) 0) n × Room at (literal-form (lent (now terms) 0 (now store) 0) n)) ⌝ }
+    ensures { λ r. ⌜ Wrote at (literal-form (lent (now (terms .entry)) 0 (now (store .entry)) 0) n) (now (out .entry)) (now (out .exit)) r ⌝ }
+{
+    let end = put_string(text_of(terms, store, n), out, at);
+    if word(terms, n, 0) == 3 {
+        let d = word(terms, n, 3);
+        return put_type(text_of(terms, store, d), out, end);
+    }
+    put_tag(tag_of(terms, store, n), out, end)
+}
+
+pub fn put_term(terms: &[u32], store: &[u8], n: usize, out: &mut [u8], at: usize) -> usize
+    requires { ⌜ Writable (lent (now terms) 0 (now store) 0) n × Room at (term-form (lent (now terms) 0 (now store) 0) n) ⌝ }
+    ensures { λ r. ⌜ Wrote at (term-form (lent (now (terms .entry)) 0 (now (store .entry)) 0) n) (now (out .entry)) (now (out .exit)) r ⌝ }
+{
+    let kind = word(terms, n, 0);
+    if kind == 1 {
+        return put_iri(text_of(terms, store, n), out, at);
+    }
+    if kind == 2 {
+        return put_blank(word(terms, n, 3), out, at);
+    }
+    put_literal(terms, store, n, out, at)
+}
