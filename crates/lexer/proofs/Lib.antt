@@ -2,3 +2,4 @@
 pub mod Blanking
 pub mod Beginning
 pub mod Cutting
+pub mod Examples
