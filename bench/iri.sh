@@ -8,7 +8,7 @@ trap 'rm -rf "$copy"' EXIT
 cp -r crates crates.txt "$copy"
 [ -d target ] && cp -r target "$copy"
 cd "$copy"
-echo 'face: text utf8 escape iri scope' >>crates.txt
+echo 'face: text limits utf8 escape iri scope' >>crates.txt
 mkdir -p crates/face/src
 cat >crates/face/src/lib.rt <<'RATTLE'
 #[no_mangle]
