@@ -1,4 +1,5 @@
 // BLANK_NODE_LABEL.
+ghost use Rattle.token.specs.Kind.{kind-code, «BLANK_NODE_LABEL»};
 ghost use Rattle.automaton.specs.States.{after-underscore, in-label};
 ghost use Rattle.automaton.specs.Run.{At, TokenAt};
 use automaton::Token;
@@ -8,7 +9,7 @@ use characters::names::name_char;
 // BLANK_NODE_LABEL ::= '_:' (PN_CHARS_U | [0-9]) ((PN_CHARS | '.')* PN_CHARS)?, after its first character.
 // Dots at its end are given back.
 fn label_rest(s: &[u8], at: usize) -> Token
-    requires { ⌜ At (now s) in-label at 4 at ⌝ }
+    requires { ⌜ At (now s) in-label at (kind-code «BLANK_NODE_LABEL») at ⌝ }
     ensures { λ r. ⌜ TokenAt (now (s .entry)) r ⌝ }
 {
     let mut i: usize = at;

@@ -2,6 +2,7 @@
 ghost use mathlib.Core.Path.{_≡_};
 ghost use Prim.Native.Nat.{_<_};
 ghost use lib.ListN.{length, drop};
+ghost use Rattle.token.specs.Kind.{kind-code, «PNAME_NS», «PNAME_LN»};
 ghost use Rattle.automaton.specs.States.{after-colon, in-local};
 ghost use Rattle.automaton.specs.Run.{At, TokenAt};
 ghost use Rattle.characters.specs.Bytes.{local, local-first};
@@ -65,7 +66,7 @@ fn local_next(s: &[u8], at: usize) -> usize
 // PN_LOCAL ::= (PN_CHARS_U | ':' | [0-9] | PLX) ((PN_CHARS | '.' | ':' | PLX)* (PN_CHARS | ':' | PLX))?, after its first character.
 // Dots at its end are given back.
 fn local_rest(s: &[u8], at: usize) -> Token
-    requires { ⌜ At (now s) in-local at 3 at ⌝ }
+    requires { ⌜ At (now s) in-local at (kind-code «PNAME_LN») at ⌝ }
     ensures { λ r. ⌜ TokenAt (now (s .entry)) r ⌝ }
 {
     let mut i: usize = at;
@@ -94,7 +95,7 @@ fn local_rest(s: &[u8], at: usize) -> Token
 // PNAME_NS ::= PN_PREFIX? ':'
 // PNAME_LN ::= PNAME_NS PN_LOCAL, after the colon.
 pub fn local_part(s: &[u8], at: usize) -> Token
-    requires { ⌜ At (now s) after-colon at 2 at ⌝ }
+    requires { ⌜ At (now s) after-colon at (kind-code «PNAME_NS») at ⌝ }
     ensures { λ r. ⌜ TokenAt (now (s .entry)) r ⌝ }
 {
     if s.len() <= at {

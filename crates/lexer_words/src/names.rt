@@ -94,8 +94,8 @@ pub fn minus(a: usize, b: usize) -> usize
     a - b
 }
 
-// The same where it may be known that no name begins here.
-fn prefix_or(s: &[u8], at: usize, kind: u8, clear: usize) -> Next
+// The word before, or the name that goes on from it: where it is known that no name begins here, nothing more is read.
+fn word_or_name(s: &[u8], at: usize, kind: u8, clear: usize) -> Next
     requires { ⌜ At (now s) in-prefix at kind (end-at kind at) × (getD (now s) 0 0 ≡ 58 → ⊥) ⌝ }
     ensures { λ r. ⌜ NextAt (now (s .entry)) clear r ⌝ }
 {
@@ -123,9 +123,9 @@ fn keyword<'a>(s: &'a [u8], low: &'a [u8], up: &'a [u8], kind: u8, clear: usize)
 {
     let m = agree(s, 0, low, up);
     if m == low.len() {
-        return prefix_or(s, m, kind, clear);
+        return word_or_name(s, m, kind, clear);
     }
-    prefix_or(s, m, 0, clear)
+    word_or_name(s, m, 0, clear)
 }
 
 // 'true'
@@ -174,7 +174,7 @@ pub fn name(s: &[u8], clear: usize) -> Next
     ensures { λ r. ⌜ NextAt (now (s .entry)) clear r ⌝ }
 {
     match s[0] {
-        b'a' => prefix_or(s, 1, Token::A, clear),
+        b'a' => word_or_name(s, 1, Token::A, clear),
         b't' => true_word(s, clear),
         b'f' => false_word(s, clear),
         b'p' | b'P' => prefix_word(s, clear),
@@ -189,7 +189,7 @@ pub fn name(s: &[u8], clear: usize) -> Next
                     clear: 0,
                 };
             }
-            prefix_or(s, n, 0, clear)
+            word_or_name(s, n, 0, clear)
         }
     }
 }

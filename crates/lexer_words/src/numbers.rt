@@ -1,6 +1,7 @@
 // Numbers. Each routine goes on where the part before it has been read.
 ghost use Prim.Native.Nat.{_+_, _<_};
 ghost use lib.ListN.{length};
+ghost use Rattle.token.specs.Kind.{kind-code, INTEGER, DECIMAL, DOUBLE, dot};
 ghost use Rattle.automaton.specs.States.{after-sign, in-integer, integer-dot, after-dot, in-fraction, after-e, in-exponent};
 ghost use Rattle.automaton.specs.Run.{At, TokenAt};
 use automaton::Token;
@@ -11,7 +12,7 @@ use characters::runs::digits;
 
 // EXPONENT ::= [eE] [+-]? [0-9]+, after its first digit
 fn exponent_digits(s: &[u8], at: usize) -> Token
-    requires { ⌜ At (now s) in-exponent at 10 at ⌝ }
+    requires { ⌜ At (now s) in-exponent at (kind-code DOUBLE) at ⌝ }
     ensures { λ r. ⌜ TokenAt (now (s .entry)) r ⌝ }
 {
     let i = digits(s, at);
@@ -59,7 +60,7 @@ fn exponent(s: &[u8], at: usize, kind: u8, len: usize) -> Token
 
 // DECIMAL ::= [+-]? ([0-9]* '.' [0-9]+), after the first digit behind the dot
 fn fraction(s: &[u8], at: usize) -> Token
-    requires { ⌜ At (now s) in-fraction at 9 at ⌝ }
+    requires { ⌜ At (now s) in-fraction at (kind-code DECIMAL) at ⌝ }
     ensures { λ r. ⌜ TokenAt (now (s .entry)) r ⌝ }
 {
     let i = digits(s, at);
@@ -76,7 +77,7 @@ fn fraction(s: &[u8], at: usize) -> Token
 
 // After an integer and a dot at `at`, which is of the number where a digit or an exponent follows.
 fn point(s: &[u8], at: usize) -> Token
-    requires { ⌜ At (now s) integer-dot (at + 1) 8 at ⌝ }
+    requires { ⌜ At (now s) integer-dot (at + 1) (kind-code INTEGER) at ⌝ }
     ensures { λ r. ⌜ TokenAt (now (s .entry)) r ⌝ }
 {
     if s.len() - at <= 1 {
@@ -101,7 +102,7 @@ fn point(s: &[u8], at: usize) -> Token
 // INTEGER ::= [+-]? [0-9]+, after its first digit
 // DOUBLE ::= [+-]? ([0-9]+ '.' [0-9]* EXPONENT | '.' [0-9]+ EXPONENT | [0-9]+ EXPONENT)
 pub fn integer(s: &[u8], at: usize) -> Token
-    requires { ⌜ At (now s) in-integer at 8 at ⌝ }
+    requires { ⌜ At (now s) in-integer at (kind-code INTEGER) at ⌝ }
     ensures { λ r. ⌜ TokenAt (now (s .entry)) r ⌝ }
 {
     let i = digits(s, at);
@@ -126,7 +127,7 @@ pub fn integer(s: &[u8], at: usize) -> Token
 
 // A dot, or a number that begins with one.
 pub fn dot(s: &[u8]) -> Token
-    requires { ⌜ At (now s) after-dot 1 19 1 ⌝ }
+    requires { ⌜ At (now s) after-dot 1 (kind-code dot) 1 ⌝ }
     ensures { λ r. ⌜ TokenAt (now (s .entry)) r ⌝ }
 {
     if 1 < s.len() {

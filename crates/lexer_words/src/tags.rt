@@ -1,4 +1,5 @@
 // LANGTAG, @prefix and @base.
+ghost use Rattle.token.specs.Kind.{kind-code, LANGTAG};
 ghost use Rattle.automaton.specs.States.{after-at, in-tag};
 ghost use Rattle.automaton.specs.Run.{At, TokenAt};
 ghost use Rattle.lexer_words.specs.Agree.{Word, TagAt};
@@ -43,7 +44,7 @@ fn tag(s: &[u8], at: usize, kind: u8) -> Token
 
 // "Where @prefix or @base is the whole match, it is the keyword, never a LANGTAG"
 fn directive<'a>(s: &'a [u8], word: &'a [u8], kind: u8) -> Token
-    requires { ⌜ Word (now s) 1 (now word) (now word) in-tag kind 7 ⌝ }
+    requires { ⌜ Word (now s) 1 (now word) (now word) in-tag kind (kind-code LANGTAG) ⌝ }
     ensures { λ r. ⌜ TokenAt (now (s .entry)) r ⌝ }
 {
     let m = agree(s, 1, word, word);

@@ -13,8 +13,8 @@ use Rattle.lexer_words.proofs.names.name.Tie as tie
 shared-slice-read-match : tie.Need-shared-slice-read-match
 shared-slice-read-match c = search needs
 
-prefix-or-requires : tie.Need-prefix-or-requires
-prefix-or-requires c κs = (name-a (now (c .before .before .before .args .s)) (c .before .before .before .pre .0) (c .match .keys1), no-colon-mark (now (c .before .before .before .args .s)) (c .before .before .before .pre .0) (c .before .before .before .pre .1))
+word-or-name-requires : tie.Need-word-or-name-requires
+word-or-name-requires c κs = (name-a (now (c .before .before .before .args .s)) (c .before .before .before .pre .0) (c .match .keys1), no-colon-mark (now (c .before .before .before .args .s)) (c .before .before .before .pre .0) (c .before .before .before .pre .1))
 
 true-word-requires : tie.Need-true-word-requires
 true-word-requires c κs = ((c .before .before .before .pre .0), (c .match .keys2))
@@ -37,8 +37,8 @@ base-char-requires c κs = search needs
 returns : tie.Need-returns
 returns c = next-nothing (now (c .before .before .before .before .before .args .s)) (c .before .before .before .before .before .args .clear) (name-none (now (c .before .before .before .before .before .args .s)) (c .before .before .before .before .before .pre .0) (c .before .before .before .before .before .pre .1) (c .before .base-char .result) (c .before .base-char .ensures) (c .if1 .taken))
 
-prefix-or-requires-2 : tie.Need-prefix-or-requires-2
-prefix-or-requires-2 c κs = (name-more (now (c .before .before .before .before .before .args .s)) (c .before .before .before .before .before .pre .0) (c .before .before .before .before .before .pre .1) (c .before .base-char .result) (c .before .base-char .ensures) (sym (ranged-rest key-letter _ ((71 ∷ 103 ∷ []) ∷ (66 ∷ 98 ∷ []) ∷ (80 ∷ 112 ∷ []) ∷ (102 ∷ []) ∷ (116 ∷ []) ∷ (97 ∷ []) ∷ []) 0 256 tt _ (c .before .before .match .rest) (omega arith) ((c .before .before .before .before .shared-slice-known .given) 0 .fits))) (c .if1 .left), no-colon-mark (now (c .before .before .before .before .before .args .s)) (c .before .before .before .before .before .pre .0) (c .before .before .before .before .before .pre .1))
+word-or-name-requires-2 : tie.Need-word-or-name-requires-2
+word-or-name-requires-2 c κs = (name-more (now (c .before .before .before .before .before .args .s)) (c .before .before .before .before .before .pre .0) (c .before .before .before .before .before .pre .1) (c .before .base-char .result) (c .before .base-char .ensures) (sym (ranged-rest key-letter _ ((71 ∷ 103 ∷ []) ∷ (66 ∷ 98 ∷ []) ∷ (80 ∷ 112 ∷ []) ∷ (102 ∷ []) ∷ (116 ∷ []) ∷ (97 ∷ []) ∷ []) 0 256 tt _ (c .before .before .match .rest) (omega arith) ((c .before .before .before .before .shared-slice-known .given) 0 .fits))) (c .if1 .left), no-colon-mark (now (c .before .before .before .before .before .args .s)) (c .before .before .before .before .before .pre .0) (c .before .before .before .before .before .pre .1))
 
 returns-2 : tie.Need-returns-2
 returns-2 c = search needs
@@ -66,7 +66,7 @@ name-spec =
     tie.close
     (tie.spec
     shared-slice-read-match
-    prefix-or-requires
+    word-or-name-requires
     true-word-requires
     false-word-requires
     prefix-word-requires
@@ -74,7 +74,7 @@ name-spec =
     graph-word-requires
     base-char-requires
     returns
-    prefix-or-requires-2
+    word-or-name-requires-2
     returns-2
     returns-3
     returns-4

@@ -1,10 +1,10 @@
--- `prefix_or` meets its contract.
+-- `word_or_name` meets its contract.
 use native.Mathlib.Omega.{arith}
 use borrow.Author.Needs.{needs}
 use denote.Ref.{now}
 use Rattle.lexer_words.proofs.Clearing.{next-zero, known-nothing, known-token}
-use Rattle.lexer_words.proofs.names.prefix_or.Statement.{statement}
-use Rattle.lexer_words.proofs.names.prefix_or.Tie as tie
+use Rattle.lexer_words.proofs.names.word_or_name.Statement.{statement}
+use Rattle.lexer_words.proofs.names.word_or_name.Tie as tie
 
 prefix-rest-requires : tie.Need-prefix-rest-requires
 prefix-rest-requires c κs = (c .before .before .pre .0)
@@ -21,6 +21,6 @@ minus-requires c κs = search needs
 returns-3 : tie.Need-returns-3
 returns-3 c = known-token (now (c .before .before .before .before .args .s)) (c .before .before .before .before .args .at) (c .before .before .before .before .args .kind) (c .before .before .before .before .args .clear) (c .before .before .before .before .pre .0) (omega (arith, (c .before .before .if1 .left))) (c .before .before .before .before .pre .1) (c .before .if2 .left) _ (c .minus .ensures)
 
-pub prefix-or-spec : {M : Type 1} → statement M
-prefix-or-spec =
+pub word-or-name-spec : {M : Type 1} → statement M
+word-or-name-spec =
     tie.close (tie.spec prefix-rest-requires returns returns-2 minus-requires returns-3)
