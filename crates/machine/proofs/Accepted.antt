@@ -6,14 +6,14 @@ use mathlib.Core.Option.{Option, none, some}
 use Prim.Native.Nat.{ℕ}
 use native.Mathlib.Omega.{arith}
 use lib.ListN.{drop}
-use Rattle.text.specs.Text.{Text}
+use Rattle.text.specs.Text.{Text, is-none}
 use Rattle.token.specs.Tokens.{Token, Lexeme, token, unreadable, tokens-of}
 use Rattle.grammar.specs.Ebnf.{leaves}
 use Rattle.grammar.specs.Productions.{Mode, trig, turtle, production, root, kind-of, Derivation}
 use Rattle.machine.specs.Memory.{Memory, start-memory, Write}
 use Rattle.machine.specs.Frame.{Open, directive, statement}
 use Rattle.machine.specs.Rules.{find-rule, rules}
-use Rattle.machine.specs.Refusals.{no-character, missing}
+use Rattle.machine.specs.Refusals.{no-character}
 use Rattle.machine.specs.Step.{Room, State, Test, _when_, first-refusal, answer, obeyed, tests, step, tied-to, Outcome, accepted, refused, at-end, onward, run}
 use Rattle.machine.specs.Read.{start-state}
 use Rattle.machine.specs.Construction.{tables}
@@ -33,7 +33,7 @@ module _ (mode : Mode) (room : Room) (n : ℕ) where
 
   fits-rule : (ls : List Lexeme) (t : Token) (s : State) (x : Bool) (r : Option (Write Open)) (ts : List Test)
       → ((s′ : State) → Fits (run mode room n ls s′) (final mode (tokens-of ls) (s′ .open-now) (s′ .memory)))
-      → Fits (onward (λ s′. run mode room n ls s′) (answer (first-refusal (7 when x ∷ 8 when missing r ∷ ts)) (t .start) (obeyed r t s)))
+      → Fits (onward (λ s′. run mode room n ls s′) (answer (first-refusal (7 when x ∷ 8 when is-none r ∷ ts)) (t .start) (obeyed r t s)))
       (taken r (s .memory) (λ o m. final mode (tokens-of ls) o m))
   unfolding taken
   fits-rule ls t s true r ts h = tt

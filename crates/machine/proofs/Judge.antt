@@ -12,13 +12,13 @@ use Rattle.grammar.specs.Productions.{Mode}
 use Rattle.grammar.proofs.Recogniser.{at-end as end-verdict, later}
 use Rattle.text.proofs.Booleans.{all, and-0, and-1}
 use Rattle.grammar.proofs.Grammar.{kinds-of}
-use Rattle.text.specs.Text.{cond}
+use Rattle.text.specs.Text.{cond, is-none}
 use Rattle.token.specs.Tokens.{Token, Lexeme, token, unreadable, tokens-of, readable, place-of}
 use Rattle.machine.specs.Memory.{Memory, Write}
 use Rattle.machine.specs.Frame.{Open, directive, statement}
 use Rattle.machine.specs.Rules.{find-rule, rules}
 use Rattle.machine.specs.Step.{Room, State, Test, _when_, first-refusal, answer, obeyed, tests, step, tied-to, Outcome, accepted, refused, at-end, onward, run}
-use Rattle.machine.specs.Refusals.{no-character, missing}
+use Rattle.machine.specs.Refusals.{no-character}
 use Rattle.machine.proofs.Decide.{tied-kinds}
 use Rattle.machine.proofs.Link.{follow, finished, machine-verdict}
 
@@ -83,7 +83,7 @@ module _ (mode : Mode) (room : Room) (n : ℕ) where
       → T (all (λ y. not (eqb (number-of y) 8)) ts)
       → ((s′ : State) → Judged n ls (machine-verdict mode (s′ .open-now) (s′ .memory) (tokens-of ls)) (run mode room n ls s′))
       → Judged n (token t ∷ ls) (follow r (s .memory) (λ o m. machine-verdict mode o m (tokens-of ls)))
-      (onward (λ s′. run mode room n ls s′) (answer (first-refusal (7 when x ∷ 8 when missing r ∷ ts)) (t .start) (obeyed r t s)))
+      (onward (λ s′. run mode room n ls s′) (answer (first-refusal (7 when x ∷ 8 when is-none r ∷ ts)) (t .start) (obeyed r t s)))
   unfolding place-of follow
   judge-rule ls t s true r ts q h = other 0 tt refl (λ i e. inr (zero-le, tt))
   judge-rule ls t s false none ts q h = eighth 0 refl refl

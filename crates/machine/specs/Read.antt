@@ -5,7 +5,7 @@ use mathlib.Core.Option.{Option, none, some}
 use Prim.Native.Nat.{ℕ}
 use lib.Dec.{eqb, leb, ltb}
 use lib.ListN.{length, drop, replicate}
-use Rattle.text.specs.Text.{Text, cond, empty, some-byte}
+use Rattle.text.specs.Text.{Text, cond, empty, some-byte, is-none}
 use Rattle.limits.specs.Limits.{document-limit, iri-limit, work-size}
 use Rattle.utf8.specs.Utf8.{first-bad}
 use Rattle.token.specs.Tokens.{lexemes}
@@ -18,7 +18,7 @@ use Rattle.table.specs.LongForm.{computing as table-computing}
 use Rattle.machine.specs.Memory.{Memory, start-memory}
 use Rattle.machine.specs.Frame.{statement}
 use Rattle.machine.specs.Rules.{rules}
-use Rattle.machine.specs.Refusals.{missing, no-character, undeclared, no-base, too-long, one-prefix-more, too-deep, new-depth}
+use Rattle.machine.specs.Refusals.{no-character, undeclared, no-base, too-long, one-prefix-more, too-deep, new-depth}
 use Rattle.machine.specs.Step.{Room, State, Test, _when_, first-refusal, Outcome, accepted, refused, step, run}
 
 -- What the caller lends, apart from document and base: the lengths of the slices, rows and terms in words.
@@ -52,7 +52,7 @@ pub record Answer : Type 0 where
 
 -- "base not empty, and over 1,024 bytes, not UTF-8, without a scheme, or with a character IRIREF forbids unescaped"
 unfoldable pub bad-base : Text → Bool
-bad-base b = not (empty b) && (ltb iri-limit (length b) || not (missing (first-bad b)) || not (has-scheme b) || some-byte forbidden b)
+bad-base b = not (empty b) && (ltb iri-limit (length b) || not (is-none (first-bad b)) || not (has-scheme b) || some-byte forbidden b)
 
 -- Checks 1 to 4
 abbrev pub first-checks : Text → ℕ → Text → Lent → List Test

@@ -5,7 +5,7 @@ use mathlib.Core.Option.{Option, none, some}
 use Prim.Native.Nat.{ℕ, _+_, _-_}
 use lib.Dec.{leb, ltb}
 use lib.ListN.{length}
-use Rattle.text.specs.Text.{Text, cond, empty}
+use Rattle.text.specs.Text.{Text, cond, empty, is-none}
 use Rattle.limits.specs.Limits.{iri-limit, prefix-limit, prefixes-limit, depth-limit}
 use Rattle.token.specs.Kind.{names, strings, open-bracket, close-bracket, open-paren, close-paren, IRIREF}
 use Rattle.token.specs.Tokens.{Token, has-kind}
@@ -14,10 +14,6 @@ use Rattle.iri.specs.Iri.{has-scheme}
 use Rattle.iri.specs.Resolve.{resolve-with-dots}
 use Rattle.scope.specs.Environment.{Environment, lookup}
 use Rattle.dataset.specs.Constructors.{reference, prefix, joined-name, InForce, Awaited, nothing, prefix-name, new-base, namespace-of}
-
-abbrev pub missing : {A : Type 0} → Option A → Bool
-missing none = true
-missing (some a) = false
 
 -- Is the token awaited as the prefix that a directive declares?
 abbrev pub declared-name : Awaited → Bool
@@ -31,7 +27,7 @@ abbrev pub new-prefix : Awaited → Environment → Bool
 new-prefix nothing e = false
 new-prefix prefix-name e = false
 new-prefix new-base e = false
-new-prefix (namespace-of p) e = missing (lookup p (e .namespaces))
+new-prefix (namespace-of p) e = is-none (lookup p (e .namespaces))
 
 -- 7: "numeric escape names D800 to DFFF or over 10FFFF"
 unfoldable pub no-character : Token → Bool
@@ -39,7 +35,7 @@ no-character t = has-kind (IRIREF ∷ strings) t && bad-escape (t .text)
 
 -- 9: "prefix not declared before"
 unfoldable pub undeclared : InForce → Token → Bool
-undeclared f t = has-kind names t && not (declared-name (f .awaited)) && missing (lookup (prefix t) (f .environment .namespaces))
+undeclared f t = has-kind names t && not (declared-name (f .awaited)) && is-none (lookup (prefix t) (f .environment .namespaces))
 
 -- 10: "relative reference, no base in force"
 unfoldable pub no-base : InForce → Token → Bool

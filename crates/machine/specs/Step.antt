@@ -5,7 +5,7 @@ use mathlib.Core.Option.{Option, none, some}
 use Prim.Native.Nat.{ℕ}
 use lib.Dec.{ltb}
 use lib.ListN.{length}
-use Rattle.text.specs.Text.{cond}
+use Rattle.text.specs.Text.{cond, is-none}
 use Rattle.token.specs.Kind.{carets, LANGTAG}
 use Rattle.token.specs.Tokens.{Token, has-kind, Lexeme, token, unreadable}
 use Rattle.grammar.specs.Productions.{Mode}
@@ -14,7 +14,7 @@ use Rattle.table.specs.Tables.{store-size}
 use Rattle.machine.specs.Memory.{Memory, Write}
 use Rattle.machine.specs.Frame.{prefix-name, namespace-of, new-base, last-dot, Open, directive, statement}
 use Rattle.machine.specs.Rules.{find-rule, rules}
-use Rattle.machine.specs.Refusals.{missing, no-character, undeclared, no-base, too-long, one-prefix-more, too-deep, new-depth}
+use Rattle.machine.specs.Refusals.{no-character, undeclared, no-base, too-long, one-prefix-more, too-deep, new-depth}
 
 -- How many rows, terms and store bytes have room.
 pub record Room : Type 0 where
@@ -65,7 +65,7 @@ obeyed (some w) t s = let r = w (s .memory) in record { open-now = r .0; depth =
 abbrev pub tests : Room → State → Token → Option (Write Open) → State → List Test
 tests room s t rule s′ =
     7 when no-character t
-    ∷ 8 when missing rule
+    ∷ 8 when is-none rule
     ∷ 9 when undeclared (in-force-now s) t
     ∷ 10 when no-base (in-force-now s) t
     ∷ 11 when too-long (in-force-now s) t

@@ -9,14 +9,14 @@ use native.Mathlib.Omega.{arith}
 use borrow.Author.Tests.{eqb-true, leb-true, ltb-true, le-leb}
 use lib.Dec.{eqb, leb, ltb, eqb·suc-zero}
 use lib.ListN.{drop, length-take}
-use Rattle.text.specs.Text.{Text, ascii, cond}
+use Rattle.text.specs.Text.{Text, ascii, cond, is-none}
 use Rattle.text.proofs.Compare.{and-left, and-right}
 use Rattle.utf8.specs.Utf8.{first-bad}
 use Rattle.utf8.proofs.Tests.{by, split, between-true}
 use Rattle.iri.specs.Iri.{has-scheme}
 use Rattle.dataset.specs.Terms.{numbered, Term, iri, blank, literal, tagged}
 use Rattle.table.specs.Layout.{Row, row-at, iri-kind, blank-kind, literal-kind, tagged-kind, Slices}
-use Rattle.table.specs.Usable.{is-none, each, is-tag, the, text, tag, inside, counts-fit, has-kind, good-iri, good-datatype, good-tag, good-term, present, resource, good-row, usable, term, graph, quad, quads-from, held}
+use Rattle.table.specs.Usable.{each, is-tag, the, text, tag, inside, counts-fit, has-kind, good-iri, good-datatype, good-tag, good-term, present, resource, good-row, usable, term, graph, quad, quads-from, held}
 use Rattle.table.specs.LongForm.{term-form, triple-form, line, lines-from, long-form}
 use Rattle.readback.proofs.Forms.{GoodIri, Good, GoodPredicate, GoodResource, GoodGraph, GoodQuad, GoodQuads, form, triple-text, line-text, text-of}
 

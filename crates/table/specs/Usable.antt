@@ -5,7 +5,7 @@ use mathlib.Core.Option.{Option, none, some}
 use Prim.Native.Nat.{ℕ, zero, suc, _+_, _*_}
 use lib.Dec.{eqb, leb, ltb}
 use lib.ListN.{length}
-use Rattle.text.specs.Text.{Text, cond, between}
+use Rattle.text.specs.Text.{Text, cond, between, is-none}
 use Rattle.limits.specs.Limits.{iri-limit}
 use Rattle.utf8.specs.Utf8.{first-bad}
 use Rattle.token.specs.Kind.{kind-code, LANGTAG}
@@ -14,10 +14,6 @@ use Rattle.token.specs.Terminals.{token-at}
 use Rattle.iri.specs.Iri.{has-scheme}
 use Rattle.dataset.specs.Terms.{numbered, Term, iri, blank, literal, tagged, Quad}
 use Rattle.table.specs.Layout.{Row, row-size, row-at, Entry, term-size, entry-at, iri-kind, blank-kind, literal-kind, tagged-kind, Slices, span}
-
-abbrev pub is-none : Option ℕ → Bool
-is-none none = true
-is-none (some n) = false
 
 -- The test holds of every number from `from` on, n of them.
 unfoldable pub each : (ℕ → Bool) → ℕ → ℕ → Bool

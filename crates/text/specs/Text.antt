@@ -1,6 +1,7 @@
 -- Texts: lists of bytes or of code points. Tests on them, and how they are taken apart.
 use mathlib.Core.List.{List, [], _∷_}
 use mathlib.Core.Bool.{Bool, true, false, _&&_, _||_}
+use mathlib.Core.Option.{Option, none, some}
 use Prim.Native.Nat.{ℕ}
 use Prim.Native.Char.{Char, code}
 use Prim.Native.String.{String, [] as end, _∷_ as _then_}
@@ -18,6 +19,10 @@ ascii (c then s) = code c ∷ ascii s
 abbrev pub cond {ℓ} : {A : Type ℓ} → Bool → A → A → A
 cond true a b = a
 cond false a b = b
+
+abbrev pub is-none : {A : Type 0} → Option A → Bool
+is-none none = true
+is-none (some a) = false
 
 -- Is c this character?
 abbrev pub is : Char → ℕ → Bool

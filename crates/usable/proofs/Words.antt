@@ -9,10 +9,11 @@ use native.Mathlib.Omega.{arith}
 use borrow.Author.Tests.{ne-eqb, leb-true}
 use lib.Dec.{eqb}
 use lib.ListN.{length, getD}
+use Rattle.text.specs.Text.{is-none}
 use Rattle.text.proofs.Compare.{and-left}
 use Rattle.table.specs.Layout.{Slices, entry-at, row-at}
 use Rattle.utf8.specs.Utf8.{first-bad}
-use Rattle.table.specs.Usable.{is-none, the, text, inside}
+use Rattle.table.specs.Usable.{the, text, inside}
 use Rattle.usable.specs.Lent.{readable, SpanIn}
 
 module _ (w : List ℕ) (n r : ℕ) where

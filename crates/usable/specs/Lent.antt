@@ -4,10 +4,10 @@ use mathlib.Core.Bool.{Bool, _&&_, _||_}
 use Prim.Native.Nat.{ℕ, _+_, _*_, _≤_}
 use lib.Dec.{eqb}
 use lib.ListN.{length}
-use Rattle.text.specs.Text.{Text}
+use Rattle.text.specs.Text.{Text, is-none}
 use Rattle.utf8.specs.Utf8.{first-bad}
 use Rattle.table.specs.Layout.{Slices, iri-kind, blank-kind, literal-kind, tagged-kind, row-at}
-use Rattle.table.specs.Usable.{is-none, the, text, inside, has-kind, good-iri, good-datatype, good-tag, resource, good-row}
+use Rattle.table.specs.Usable.{the, text, inside, has-kind, good-iri, good-datatype, good-tag, resource, good-row}
 
 abbrev pub slices : List ℕ → ℕ → List ℕ → ℕ → Text → ℕ → Slices
 slices rows row-count terms term-count store store-count =

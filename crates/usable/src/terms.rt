@@ -3,24 +3,14 @@ ghost use mathlib.Core.Path.{_≡_};
 ghost use mathlib.Core.List.{[]};
 ghost use Prim.Native.Nat.{_+_, _*_, _≤_, _<_};
 ghost use lib.ListN.{length};
+ghost use Rattle.text.specs.Text.{is-none};
 ghost use Rattle.utf8.specs.Utf8.{first-bad};
-ghost use Rattle.table.specs.Usable.{each, is-none, the, text, inside, good-iri, good-datatype, good-tag, good-term};
+ghost use Rattle.table.specs.Usable.{each, the, text, inside, good-iri, good-datatype, good-tag, good-term};
 ghost use Rattle.usable.specs.Lent.{Stands, SpanIn, lent, readable, right-kind};
 use crate::fields::part;
 use crate::fields::word;
 use crate::tags::is_tag;
 use limits::Limits;
-use utf8::Validity;
-
-fn is_utf8(s: &[u8]) -> bool
-    ensures { λ r. ⌜ r ≡ is-none (first-bad (now (s .entry))) ⌝ }
-{
-    let v = utf8::first_bad(s);
-    match v {
-        Validity::Valid => true,
-        Validity::BadAt(_) => false,
-    }
-}
 
 // Neither "a span leaves the used store" nor "a text is not UTF-8".
 fn has_text(terms: &[u32], store: &[u8], used: usize, n: usize) -> bool
@@ -32,7 +22,7 @@ fn has_text(terms: &[u32], store: &[u8], used: usize, n: usize) -> bool
     if used < start + size {
         return false;
     }
-    is_utf8(part(store, start, size))
+    utf8::is_utf8(part(store, start, size))
 }
 
 // Not: "an IRI has no scheme or is over 1,024 bytes".

@@ -2,7 +2,7 @@
 ghost use mathlib.Core.Path.{_≡_};
 ghost use mathlib.Core.Bool.{Bool};
 ghost use lib.ListN.{take};
-ghost use Rattle.text.specs.Text.{between};
+ghost use Rattle.text.specs.Text.{is-none, between};
 ghost use Rattle.utf8.specs.Utf8.{sequence-size, code-point, first-bad};
 ghost use Rattle.utf8.specs.Code.{lead-size, second-low, second-high, bad-place};
 
@@ -155,4 +155,14 @@ pub fn first_bad(s: &[u8]) -> Validity
         }
     }
     Validity::Valid
+}
+
+pub fn is_utf8(s: &[u8]) -> bool
+    ensures { λ r. ⌜ r ≡ is-none (first-bad (now (s .entry))) ⌝ }
+{
+    let v = first_bad(s);
+    match v {
+        Validity::Valid => true,
+        Validity::BadAt(_) => false,
+    }
 }

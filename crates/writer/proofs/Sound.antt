@@ -7,12 +7,12 @@ use native.Mathlib.Omega.{arith}
 use borrow.Author.Tests.{leb-true, le-leb, ltb-true, eqb-true, eqb-false, ne-eqb}
 use lib.Dec.{eqb, ltb, leb}
 use lib.ListN.{length, length-append}
-use Rattle.text.specs.Text.{Text, ascii, between}
+use Rattle.text.specs.Text.{Text, ascii, between, is-none}
 use Rattle.text.proofs.Compare.{and-left, and-right, contrary}
 use Rattle.utf8.specs.Utf8.{first-bad}
 use Rattle.utf8.proofs.Tests.{by, between-true}
 use Rattle.table.specs.Layout.{Row, Slices, row-at, iri-kind, blank-kind}
-use Rattle.table.specs.Usable.{is-none, the, text, inside, has-kind, good-iri, good-datatype, good-tag, is-tag, tag, good-term, good-row, present, resource, usable}
+use Rattle.table.specs.Usable.{the, text, inside, has-kind, good-iri, good-datatype, good-tag, is-tag, tag, good-term, good-row, present, resource, usable}
 use Rattle.table.specs.LongForm.{decimal, iri-form, string-form, type-form, term-form, triple-form, line}
 use Rattle.usable.specs.Lent.{Stands, SpanIn, readable, right-kind}
 use Rattle.usable.proofs.Facts.{Fits, usable-fits, usable-term, usable-row}

@@ -1,9 +1,9 @@
+use Rattle.text.specs.Text.{is-none}
 use Rattle.utf8.specs.Code.{bad-place}
-use Rattle.table.specs.Usable.{is-none}
 use borrow.Author.Needs.{needs}
 use mathlib.Core.Path.{ap, sym, _∙_}
-use Rattle.usable.proofs.terms.is_utf8.Statement.{statement}
-use Rattle.usable.proofs.terms.is_utf8.Tie as tie
+use Rattle.utf8.proofs.is_utf8.Statement.{statement}
+use Rattle.utf8.proofs.is_utf8.Tie as tie
 
 first-bad-requires : tie.Need-first-bad-requires
 first-bad-requires c κs = search needs

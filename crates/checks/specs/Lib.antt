@@ -1,0 +1,2 @@
+-- The number of a check that refuses.
+pub mod Checks
