@@ -156,12 +156,6 @@ unfolding low
 low-length [] = refl
 low-length (b ∷ s) = ap suc (low-length s)
 
-low-take : (n : ℕ) (s : Text) → low (take n s) ≡ take n (low s)
-unfolding low
-low-take zero s = refl
-low-take (suc n) [] = refl
-low-take (suc n) (b ∷ s) = ap (λ (l : Text). b % 256 ∷ l) (low-take n s)
-
 pub low-at : (s : Text) (i : ℕ) → getD (low s) i 0 ≡ getD s i 0 % 256
 unfolding low
 low-at [] i = refl

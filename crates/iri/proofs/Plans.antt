@@ -130,9 +130,6 @@ module _ (base : Text) where
   abbrev after : Text
   after = drop (scheme-end base) base
 
-  after-length : length after ≡ length base - scheme-end base
-  after-length = length-drop (scheme-end base) base
-
   to-authority : take (scheme-end base) base ++ split (drop (scheme-end base) base) .authority ≡ take (scheme-end base + authority-length after) base
   unfolding split
   to-authority = sym (take-add (scheme-end base) (authority-length after) base)

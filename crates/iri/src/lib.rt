@@ -1,18 +1,16 @@
 // IRIs: which references have a scheme, and their resolution against a base (RFC 3986, section 5.2).
 use escape::Scan;
 ghost use mathlib.Core.Path.{_≡_};
+ghost use mathlib.Core.List.{_++_};
 ghost use mathlib.Core.Bool.{true, false, not, _&&_};
 ghost use Prim.Native.Nat.{_+_, _-_, _≤_, _<_};
 ghost use lib.ListN.{length, getD, take, drop, replicate};
-ghost use Rattle.iri.specs.Iri.{letter, scheme-byte, has-scheme, forbidden};
 ghost use Rattle.text.specs.Text.{one-of, some-byte};
-ghost use mathlib.Core.List.{_++_};
 ghost use Rattle.text.specs.Slice.{over, over-at};
 ghost use Rattle.escape.specs.Escape.{unescape};
-ghost use Rattle.iri.specs.Code.{scheme-from, verdict, later};
-ghost use Rattle.iri.specs.Code.{before, stop, slash-end, window, rule, rule-by, segment, Moved, Turned, Cleaned, Removed};
+ghost use Rattle.iri.specs.Iri.{letter, scheme-byte, has-scheme, forbidden};
+ghost use Rattle.iri.specs.Code.{verdict, later, before, stop, slash-end, window, rule, rule-by, segment, Moved, Turned, Cleaned, Removed};
 ghost use Rattle.iri.specs.Code.{authority-length, ends-of, plan-by, plan-of, Holds, ResolvedAt, Resolved};
-ghost use Rattle.iri.specs.Resolve.{resolve-with-dots};
 
 // The steps of RFC 3986, section 5.2.4, by what the rest of the path begins with.
 pub enum Rule {
@@ -630,7 +628,8 @@ fn resolve_at(base: &[u8], buffer: &mut [u8], start: usize) -> Resolution
     Resolution::Written(put_resolved(base, buffer, start, p))
 }
 
-// Resolves the reference that is the buffer's last n bytes into its front. What stands behind the result is not told.
+// Resolves the reference that is the buffer's last n bytes, its escapes undone, into the front of the buffer, which
+// bounds it before its dot segments go. What stands behind the result is not told.
 pub fn resolve(base: &[u8], buffer: &mut [u8], n: usize) -> Resolution
     ensures { λ r. ⌜ Resolved (now (base .entry)) (now (buffer .entry)) (now (buffer .exit)) n r ⌝ }
 {

@@ -35,6 +35,7 @@ pub enum Found {
     Missing,
 }
 
+// What a declaration comes to: it is in force; its prefix or namespace is too long; it would be one prefix too many.
 pub enum Declared {
     Done,
     TooLong,
