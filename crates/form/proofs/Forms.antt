@@ -42,8 +42,8 @@ module _ (front : Text) (form : Form) (back t : Text) where
   joined-same r e h = h ∙ (rw (rest-all t (length front)) (sym (same-append front (undo form back) t ∙ rw (begins-take front t, e))))
 
 -- What a part of a slice, given back, leaves in the slice.
-pub given-back : (x y : Text) (n : ℕ) → length y ≡ length (drop n x) → take n x ++ (y ++ drop (length x - n) (drop n x)) ≡ take n x ++ y
-given-back x y n e = rw (drop-of-length-le (drop n x) {i = length x - n} (omega (arith, length-drop n x)), append-nil)
+pub given-back : (x y : Text) (n : ℕ) → take n x ++ (y ++ drop (length x - n) (drop n x)) ≡ take n x ++ y
+given-back x y n = rw (drop-of-length-le (drop n x) {i = length x - n} (omega (arith, length-drop n x)), append-nil)
 
 pub joined-length : (front : Text) (form : Form) (back : Text) → length (joined front form back) ≡ length front + length (undo form back)
 unfolding joined
@@ -66,7 +66,7 @@ module _ (front : Text) (form : Form) (back x y : Text) (e : y ≡ over front x)
       record {
         long = ap (λ (n : ℕ). length front + n) (h .long) ∙ sym (joined-length front form back);
         size =
-            ap length (given-back y w (length front) same)
+            ap length (given-back y w (length front))
             ∙ (length-append (take (length front) y) w ∙ omega (arith, same, joined-room, length-drop (length front) y, length-take-le (length front) y (omega (arith, joined-room)), ap length e, over-length front x));
-        text = λ g. given-back y w (length front) same ∙ behind w (h .text g ∙ ap (over (undo form back)) rest);
+        text = λ g. given-back y w (length front) ∙ behind w (h .text g ∙ ap (over (undo form back)) rest);
       }

@@ -8,8 +8,8 @@ use native.Mathlib.Nat.{mod-lt}
 use native.Mathlib.Omega.{arith}
 use lib.Dec.{T, ltb}
 use borrow.Author.Tests.{ltb-true, ltb-false}
-use lib.ListN.{length, getD, drop, length-append, List·getD-append}
-use lib.Seq.{getD-append-seam}
+use lib.ListN.{length, getD, take, drop, length-append, List·getD-append}
+use lib.Seq.{getD-append-seam, take-at, drop-at, length-take-le}
 use Rattle.text.specs.Text.{Text}
 use Rattle.text.proofs.Compare.{by, contrary}
 use Rattle.dataset.specs.Terms.{Blank, Term, iri, blank, literal, tagged}
@@ -18,6 +18,7 @@ use Rattle.table.specs.Tables.{same-term, number-from, number, or-zero, label-o
 use Rattle.table.proofs.Numbers.{same-term-eq}
 use Rattle.table.proofs.Finding.{number-step, number-start}
 use Rattle.form.specs.Hash.{hash}
+use Rattle.form.proofs.Forms.{rest-all, given-back}
 use Rattle.clear.proofs.Zeros.{zeros, zero-at}
 use Rattle.terms.specs.declared.Counts.{Counts}
 use Rattle.terms.specs.declared.Sort.{Sort}
@@ -227,3 +228,17 @@ holds-added ts t terms terms' store store' index index' c c' sort x g key H A L 
   keeps = A .keeps ts t (H .keeps) M y (λ _. n);
   indexed = L ts t (H .indexed) (sym (H .keeps .count)) f (e ∙ ap hash (sym (means-text ts sort x g t M)));
 }
+
+-- ---- The index at the end of the work slice, from n on
+
+pub end-part : (n m : ℕ) (work : Text) → n ≡ m → take (length work - n) (drop n work) ≡ drop m work
+end-part n m work e = rest-all work n ∙ ap (λ (k : ℕ). drop k work) e
+
+pub entered : (n m : ℕ) (work w : Text) (count key : ℕ) → n ≡ m → m ≤ length work → Links (take (length work - n) (drop n work)) w count key
+    → (take m (take n work ++ (w ++ drop (length work - n) (drop n work))) ≡ take m work) × Links (drop m work) (drop m (take n work ++ (w ++ drop (length work - n) (drop n work)))) count key
+entered n m work w count key e h L =
+    let front : length (take n work) ≡ m = length-take-le n work (omega arith) ∙ e in
+    let back : take n work ++ (w ++ drop (length work - n) (drop n work)) ≡ take n work ++ w = given-back work w n in (
+      rw back (take-at (take n work) w m front ∙ ap (λ (k : ℕ). take k work) e),
+      rw (back, drop-at (take n work) w m front) (rw (end-part n m work e) at L),
+    )

@@ -2,15 +2,18 @@
 // Without it, and for terms that it has no room for, the search is linear; the answer is the same.
 ghost use mathlib.Core.Path.{_≡_};
 ghost use Prim.Native.Nat.{suc, _+_, _*_, _-_, _/_, _≤_, _<_};
-ghost use lib.ListN.{length};
+ghost use mathlib.Core.List.{[]};
+ghost use lib.ListN.{length, take, drop};
+ghost use Rattle.limits.specs.Limits.{work-size};
 ghost use Rattle.form.specs.Form.{joined};
 ghost use Rattle.form.specs.Hash.{hash};
 ghost use Rattle.table.specs.Layout.{entry-at};
 ghost use Rattle.terms.specs.Code.{matches, Readable};
 ghost use Rattle.index.specs.Slots.{slot-at, put-slot};
 ghost use Rattle.index.specs.Chains.{buckets, least, Linked, Follows, Links};
-ghost use Rattle.index.specs.Holds.{Searchable, Finds};
+ghost use Rattle.index.specs.Holds.{Searchable, iri-sort, Names, Finds};
 use form::Form;
+use limits::Limits;
 use terms::Counts;
 use terms::Sort;
 
@@ -128,7 +131,7 @@ pub fn find(
 }
 
 // Puts the term that was added behind `count` others on its chain. The key is the hash of its text.
-pub fn link(index: &mut [u8], count: usize, key: usize)
+fn link(index: &mut [u8], count: usize, key: usize)
     requires { ⌜ count < 4294967295 ⌝ }
     ensures { λ _. ⌜ Links (now (index .entry)) (now (index .exit)) count key ⌝ }
 {
@@ -140,4 +143,47 @@ pub fn link(index: &mut [u8], count: usize, key: usize)
     let newest = slot(index, bucket);
     set_slot(index, m + count, newest);
     set_slot(index, bucket, count + 1);
+}
+
+// The number of the IRI that a prefixed name stands for, or 0: its namespace is a part of the work slice, whose end is the index.
+pub fn find_name(
+    work: &[u8],
+    start: usize,
+    end: usize,
+    key: usize,
+    terms: &[u32],
+    store: &[u8],
+    counts: Counts,
+    form: Form,
+    back: &[u8],
+) -> usize
+    requires { ⌜ Names (now work) start end key form (now back) × Searchable (now terms) (now store) (drop work-size (now work)) counts ⌝ }
+    ensures { λ r. ⌜ Finds (now (terms .entry)) (now (store .entry)) (drop work-size (now (work .entry))) counts iri-sort (joined (take (end - start) (drop start (now (work .entry)))) form (now (back .entry))) [] r ⌝ }
+{
+    let n = Limits::work_size();
+    let sort = Sort {
+        kind: 1,
+        datatype: 0,
+    };
+    find(
+        &work[n..],
+        key,
+        terms,
+        store,
+        counts,
+        sort,
+        &work[start..end],
+        form,
+        back,
+        &back[..0],
+    )
+}
+
+// Puts the term that was added behind `count` others on its chain, in the index at the end of the work slice.
+pub fn enter(work: &mut [u8], count: usize, key: usize)
+    requires { ⌜ (work-size ≤ length (now work)) × (count < 4294967295) ⌝ }
+    ensures { λ _. ⌜ (take work-size (now (work .exit)) ≡ take work-size (now (work .entry))) × Links (drop work-size (now (work .entry))) (drop work-size (now (work .exit))) count key ⌝ }
+{
+    let n = Limits::work_size();
+    link(&mut work[n..], count, key);
 }

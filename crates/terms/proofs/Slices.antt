@@ -8,7 +8,7 @@ use lib.ListN.{length, take, drop, length-append, length-drop}
 use lib.Seq.{take-at, drop-at, drop-drop, length-take-le}
 use Rattle.text.specs.Text.{Text}
 use Rattle.text.specs.Slice.{over, over-at}
-use Rattle.text.proofs.Over.{over-fits, over-append, over-nothing, over-length}
+use Rattle.text.proofs.Over.{over-fits, over-append, over-nothing}
 use Rattle.form.proofs.Forms.{rest-all, given-back}
 
 -- The front of a slice, up to the end of what was written into it.
@@ -24,7 +24,7 @@ pub part-over : (at : ℕ) (s x w : Text) → w ≡ over s (take (length x - at)
 unfolding over-at
 part-over at s x w e =
     let k : w ≡ over s (drop at x) = e ∙ ap (over s) (rest-all x at) in
-    given-back x w at (ap length k ∙ over-length s (drop at x)) ∙ rw k
+    given-back x w at ∙ rw k
 
 -- One text behind another.
 pub over-at-append : (at : ℕ) (s t x : Text) → over-at at (s ++ t) x ≡ over-at (at + length s) t (over-at at s x)

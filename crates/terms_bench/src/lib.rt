@@ -1,10 +1,14 @@
 // The calls that bench/terms.c times. C keeps what they require.
 ghost use mathlib.Core.Path.{_≡_};
 ghost use mathlib.Core.List.{[]};
+ghost use Prim.Native.Nat.{_≤_};
+ghost use lib.ListN.{length, drop};
+ghost use Rattle.limits.specs.Limits.{work-size};
 ghost use Rattle.form.specs.Hash.{hash};
-ghost use Rattle.index.specs.Holds.{Searchable};
+ghost use Rattle.form.specs.declared.Form.the-variants.{Plain};
+ghost use Rattle.index.specs.Holds.{Searchable, Names, iri-sort};
 ghost use Rattle.terms.specs.Keeps.{Room};
-ghost use Rattle.terms_bench.specs.Iris.{counts, an-iri};
+ghost use Rattle.terms_bench.specs.Iris.{counts};
 use form::Form;
 use terms::Counts;
 use terms::Sort;
@@ -18,7 +22,7 @@ pub extern "C" fn hash_iri(text: &[u8]) -> usize
 
 #[no_mangle]
 pub extern "C" fn find_iri(
-    index: &[u8],
+    work: &[u8],
     key: usize,
     terms: &[u32],
     store: &[u8],
@@ -26,34 +30,19 @@ pub extern "C" fn find_iri(
     used: usize,
     text: &[u8],
 ) -> usize
-    requires { ⌜ Searchable (now terms) (now store) (now index) (counts count used) × (key ≡ hash (now text)) ⌝ }
+    requires { ⌜ Names (now work) 0 0 key Plain (now text) × Searchable (now terms) (now store) (drop work-size (now work)) (counts count used) ⌝ }
 {
     let c = Counts {
         terms: count,
         used: used,
         blanks: 0,
     };
-    let sort = Sort {
-        kind: 1,
-        datatype: 0,
-    };
-    index::find(
-        index,
-        key,
-        terms,
-        store,
-        c,
-        sort,
-        &text[..0],
-        Form::Plain,
-        text,
-        &text[..0],
-    )
+    index::find_name(work, 0, 0, key, terms, store, c, Form::Plain, text)
 }
 
 #[no_mangle]
 pub extern "C" fn add_iri(
-    index: &mut [u8],
+    work: &mut [u8],
     key: usize,
     terms: &mut [u32],
     store: &mut [u8],
@@ -61,7 +50,7 @@ pub extern "C" fn add_iri(
     used: usize,
     text: &[u8],
 ) -> usize
-    requires { ⌜ Room (now terms) (now store) (counts count used) an-iri (now text) [] ⌝ }
+    requires { ⌜ Room (now terms) (now store) (counts count used) iri-sort (now text) [] × (work-size ≤ length (now work)) ⌝ }
 {
     let c = Counts {
         terms: count,
@@ -82,6 +71,6 @@ pub extern "C" fn add_iri(
         text,
         &text[..0],
     );
-    index::link(index, count, key);
+    index::enter(work, count, key);
     r.used
 }

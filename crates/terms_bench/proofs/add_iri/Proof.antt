@@ -12,10 +12,10 @@ slice-aggregate-add-2 c = search needs
 
 add-requires : tie.Need-add-requires
 unfolding joined undo bad
-add-requires c κs = ((c .before .before .before .before .before .before .before .before .pre), refl)
+add-requires c κs = (c .before .before .before .before .before .before .before .before .pre .0, refl)
 
-link-requires : tie.Need-link-requires
-link-requires c κs = search needs
+enter-requires : tie.Need-enter-requires
+enter-requires c κs = search needs
 
 same-length : tie.Need-same-length
 same-length c = search needs
@@ -36,7 +36,7 @@ add-iri-spec =
     slice-aggregate-add
     slice-aggregate-add-2
     add-requires
-    link-requires
+    enter-requires
     same-length
     same-length-2
     same-length-3

@@ -1,0 +1,38 @@
+use Rattle.index.proofs.Indexes.{entered}
+use Rattle.limits.specs.Limits.{work-size}
+use borrow.Author.Needs.{needs}
+use Rattle.index.proofs.enter.Statement.{statement}
+use Rattle.index.proofs.enter.Tie as tie
+
+work-size-requires : tie.Need-work-size-requires
+work-size-requires c κs = search needs
+
+sub-link : tie.Need-sub-link
+sub-link c = search needs
+
+part-link-start : tie.Need-part-link-start
+part-link-start c = search needs
+
+part-link-end : tie.Need-part-link-end
+part-link-end c = search needs
+
+link-requires : tie.Need-link-requires
+link-requires c κs = search needs
+
+same-length : tie.Need-same-length
+same-length c = search needs
+
+returns : tie.Need-returns
+returns c = entered (c .before .before .before .before .work-size .result) work-size (c .before .before .before .before .before .before .args .work .now) _ (c .before .before .before .before .before .before .args .count) (c .before .before .before .before .before .before .args .key) (c .before .before .before .before .work-size .ensures) (c .before .before .before .before .before .before .pre .0) (c .before .before .link .ensures)
+
+pub enter-spec : {M : Type 1} → statement M
+enter-spec =
+    tie.close
+    (tie.spec
+    work-size-requires
+    sub-link
+    part-link-start
+    part-link-end
+    link-requires
+    same-length
+    returns)
