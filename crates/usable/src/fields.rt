@@ -5,6 +5,12 @@ ghost use lib.ListN.{length, getD};
 ghost use Rattle.table.specs.Layout.{span};
 ghost use Rattle.usable.specs.Lent.{Stands};
 
+pub fn wide(n: u32) -> usize
+    ensures { λ r. ⌜ r ≡ n ⌝ }
+{
+    n as usize
+}
+
 // The word k of the n-th group of five, from 1 on.
 pub fn word(words: &[u32], n: usize, k: usize) -> usize
     requires { ⌜ Stands (now words) n × (k < 5) ⌝ }

@@ -4,7 +4,7 @@ ghost use mathlib.Core.List.{[]};
 ghost use Prim.Native.Nat.{_+_, _*_, _≤_, _<_};
 ghost use lib.ListN.{length};
 ghost use Rattle.utf8.specs.Utf8.{first-bad};
-ghost use Rattle.table.specs.Usable.{each, is-none, the, text, inside, good-iri, good-datatype, good-tag, good-term};
+ghost use Rattle.table.specs.Usable.{each, is-none, good-iri, good-datatype, good-tag, good-term};
 ghost use Rattle.usable.specs.Lent.{Stands, SpanIn, lent, readable, right-kind};
 use crate::fields::part;
 use crate::fields::word;

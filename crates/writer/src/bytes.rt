@@ -1,8 +1,7 @@
 // Bytes and escaped texts, written from a place of the output on, as far as it goes. What lies past its end is only counted.
-ghost use mathlib.Core.List.{[], _∷_, _++_};
+ghost use mathlib.Core.List.{[], _∷_};
 ghost use mathlib.Core.Path.{_≡_};
-ghost use Prim.Native.Nat.{_+_, _*_, _≤_, _<_};
-ghost use lib.ListN.{length};
+ghost use Prim.Native.Nat.{_+_, _<_};
 ghost use Rattle.iri.specs.Iri.{forbidden};
 ghost use Rattle.table.specs.LongForm.{digits, hex-digit, iri-byte, string-byte, escaped, iri-form, string-form};
 ghost use Rattle.writer.specs.Writing.{Room, Wrote, code-form, escape-of, byte-form};

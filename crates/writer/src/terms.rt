@@ -1,12 +1,11 @@
 // Terms in the long form.
-ghost use mathlib.Core.List.{[], _∷_, _++_};
 ghost use mathlib.Core.Path.{_≡_};
-ghost use Prim.Native.Nat.{_+_, _*_, _≤_, _<_};
+ghost use Prim.Native.Nat.{_+_, _≤_, _<_};
 ghost use lib.ListN.{length};
-ghost use Rattle.text.specs.Text.{ascii, same-text};
+ghost use Rattle.text.specs.Text.{same-text};
 ghost use Rattle.dataset.specs.Terms.{xsd-string};
 ghost use Rattle.table.specs.Usable.{the, text, tag};
-ghost use Rattle.table.specs.LongForm.{decimal, type-form, term-form};
+ghost use Rattle.table.specs.LongForm.{type-form, term-form};
 ghost use Rattle.usable.specs.Lent.{Stands, SpanIn, lent};
 ghost use Rattle.writer.specs.Writing.{Room, Wrote};
 ghost use Rattle.writer.specs.Drawn.{Writable, NoResource, blank-form, tag-form, literal-form};

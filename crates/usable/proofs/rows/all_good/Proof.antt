@@ -1,9 +1,6 @@
 -- The invariant: all rows are good where those that are left are.
-use mathlib.Core.Bool.{Bool}
-use mathlib.Core.List.{List, []}
-use Rattle.table.specs.Layout.{row-at}
-use Rattle.table.specs.Usable.{each, good-row}
-use Rattle.usable.specs.Lent.{lent, row-test}
+use Rattle.table.specs.Usable.{each}
+use Rattle.usable.specs.Lent.{row-test}
 use Rattle.usable.proofs.Each.{left, each-start, each-done, each-next, each-fails}
 use borrow.Author.Needs.{needs}
 use native.Mathlib.Omega.{arith}

@@ -1,4 +1,4 @@
-use Rattle.usable.proofs.Words.{kind-word, of-iri, of-blank, of-literal, of-tagged, of-none}
+use Rattle.usable.proofs.Words.{kind-word, of-iri, of-blank, of-literal, of-tagged}
 use borrow.Author.Needs.{needs}
 use borrow.Author.Tests.{ne-eqb}
 use mathlib.Core.Path.{sym, _∙_}

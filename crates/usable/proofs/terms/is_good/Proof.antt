@@ -1,4 +1,3 @@
-use mathlib.Core.List.{[]}
 use Rattle.table.specs.Usable.{good-term}
 use Rattle.usable.specs.Lent.{lent}
 use Rattle.usable.proofs.Words.{text-in}

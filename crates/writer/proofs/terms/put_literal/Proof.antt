@@ -1,6 +1,6 @@
 use Rattle.usable.specs.Lent.{lent}
 use Rattle.usable.proofs.Words.{kind-word, fourth-word}
-use Rattle.writer.proofs.Chains.{both, room-before, room-after}
+use Rattle.writer.proofs.Chains.{both, room-after}
 use Rattle.writer.proofs.Pieces.{literal-typed, literal-tagged, literal-string}
 use borrow.Author.Needs.{needs}
 use native.Mathlib.Omega.{arith}
