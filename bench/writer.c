@@ -38,7 +38,7 @@ static size_t write_all(void) { return bench_write(rows, 5 * ROWS, row_count, te
 
 static size_t nothing(void) { return 0; }
 
-// Rows of a kind until the long form no longer fits.
+// Rows of a kind until the long form is nearly as long as the output.
 static void fill(int kind) {
     char text[256];
     row_count = term_count = used = 0;
@@ -47,7 +47,7 @@ static void fill(int kind) {
     uint32_t predicate = add(1, "http://motor.example/terms#torque", 0, 0);
     uint32_t graph = add(1, "http://motor.example/graphs/1", 0, 0);
     size_t length = 0;
-    for (int i = 0; length < ROOM - 400; i++) {
+    for (int i = 0; length < ROOM - 20000; i++) {
         snprintf(text, sizeof text, "http://motor.example/parts/%08d", i);
         uint32_t subject = add(1, text, 0, 0), object;
         if (kind == 0) {
@@ -68,9 +68,7 @@ static void fill(int kind) {
             object = add(2, "", i, 0);
         }
         add_row(kind == 3 ? graph : 0, subject, predicate, object);
-        if (i % 64 == 0) length = write_all();
-        if (i % 64 == 0 && length == 0) exit(1);
-        if (length > ROOM - 20000) break;
+        if (i % 64 == 0 && !(length = write_all())) exit(1);
     }
 }
 
