@@ -14,6 +14,7 @@ pub enum Rule {
     Literal,
 }
 
+// Writes a byte; the place behind it.
 pub fn put(out: &mut [u8], at: usize, c: u8) -> usize
     requires { ⌜ Room at (c ∷ []) ⌝ }
     ensures { λ r. ⌜ Wrote at (c ∷ []) (now (out .entry)) (now (out .exit)) r ⌝ }
@@ -24,6 +25,7 @@ pub fn put(out: &mut [u8], at: usize, c: u8) -> usize
     at + 1
 }
 
+// Two bytes, and three.
 pub fn put_two(out: &mut [u8], at: usize, c: u8, d: u8) -> usize
     requires { ⌜ Room at (c ∷ d ∷ []) ⌝ }
     ensures { λ r. ⌜ Wrote at (c ∷ d ∷ []) (now (out .entry)) (now (out .exit)) r ⌝ }
@@ -71,6 +73,7 @@ fn put_code(out: &mut [u8], at: usize, c: u8) -> usize
     put_two(out, digits, hex(c / 16), hex(c % 16))
 }
 
+// A byte of an IRI, and of a literal, with its escape.
 fn put_iri_byte(out: &mut [u8], at: usize, c: u8) -> usize
     requires { ⌜ Room at (iri-byte c) ⌝ }
     ensures { λ r. ⌜ Wrote at (iri-byte c) (now (out .entry)) (now (out .exit)) r ⌝ }
@@ -105,6 +108,7 @@ fn put_string_byte(out: &mut [u8], at: usize, c: u8) -> usize
     put_two(out, at, b'\\', e)
 }
 
+// A byte by the rule.
 fn put_byte(rule: Rule, out: &mut [u8], at: usize, c: u8) -> usize
     requires { ⌜ Room at (byte-form rule c) ⌝ }
     ensures { λ r. ⌜ Wrote at (byte-form rule c) (now (out .entry)) (now (out .exit)) r ⌝ }
@@ -150,6 +154,7 @@ pub fn put_string(s: &[u8], out: &mut [u8], at: usize) -> usize
     put(out, close, b'"')
 }
 
+// The digit for a number below ten.
 fn digit(d: usize) -> u8
     requires { ⌜ d < 10 ⌝ }
     ensures { λ r. ⌜ r ≡ 48 + d ⌝ }
