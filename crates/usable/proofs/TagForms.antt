@@ -2,7 +2,7 @@
 use mathlib.Core.Path.{_≡_, refl, ap, sym, _∙_, subst}
 use mathlib.Core.Logic.{⊎-elim}
 use mathlib.Core.Bool.{Bool, true, false, not, _&&_}
-use mathlib.Core.List.{List, [], _∷_, _++_}
+use mathlib.Core.List.{List, [], _∷_}
 use Prim.Native.Nat.{ℕ, zero, suc, _+_, _≤_, _<_, min}
 use native.Mathlib.Numerals.{one-add, add-one}
 use native.Mathlib.Nat.{min-le-left}
@@ -14,7 +14,7 @@ use lib.Seq.{drop-cons}
 use Rattle.text.specs.Text.{Text, ascii, cond, same-text}
 use Rattle.utf8.specs.Utf8.{Range, _–_, width}
 use Rattle.utf8.proofs.Tests.{by, split, below, below-at, and-true, and-false}
-use Rattle.token.specs.Regular.{Re, eps, set, seq, alt, star, in-ranges, Item, item, Match, nothing, hit, nullable, cats, after, of-kind, step, least-of, now-at, later, best}
+use Rattle.token.specs.Regular.{Re, eps, set, seq, alt, star, in-ranges, item, Match, nothing, hit, nullable, after, step, least-of, now-at, later, best}
 use Rattle.token.specs.Terminals.{terminals, tripled, token-at}
 use Rattle.automaton.specs.States.{State, open-states, after-at, in-tag, tag-dash, in-subtag}
 use Rattle.automaton.proofs.Same.{same-state, same-state-eq}

@@ -6,7 +6,7 @@ use Prim.Native.Nat.{ℕ, pred, _+_, _*_, _≤_}
 use native.Mathlib.Nat.{add-zero}
 use native.Mathlib.Numerals.{add-one}
 use native.Mathlib.Omega.{arith}
-use borrow.Author.Tests.{ne-eqb, leb-true}
+use borrow.Author.Tests.{leb-true}
 use lib.Dec.{eqb}
 use lib.ListN.{length, getD}
 use Rattle.text.specs.Text.{is-none}
@@ -75,9 +75,6 @@ module _ (k : ℕ) (a b c : Bool) where
 
   pub of-tagged : k ≡ 4 → c ≡ by-kind
   of-tagged e = rw e
-
-  pub of-none : (k ≡ 1 → ⊥) → (k ≡ 2 → ⊥) → (k ≡ 3 → ⊥) → (k ≡ 4 → ⊥) → false ≡ by-kind
-  of-none h i j l = rw (ne-eqb k 1 h, ne-eqb k 2 i, ne-eqb k 3 j, ne-eqb k 4 l)
 
 pub and-true : (b : Bool) → (b && true) ≡ b
 and-true true = refl

@@ -5,7 +5,26 @@ ghost use lib.ListN.{length, getD};
 ghost use Rattle.table.specs.Layout.{span};
 ghost use Rattle.usable.specs.Lent.{Stands};
 
-// The word k of the n-th group of five, from 1 on.
+// The kinds of term, its first word.
+pub struct Kind {}
+
+impl Kind {
+    pub const IRI: usize = 1;
+
+    pub const BLANK: usize = 2;
+
+    pub const LITERAL: usize = 3;
+
+    pub const TAGGED: usize = 4;
+}
+
+pub fn wide(n: u32) -> usize
+    ensures { λ r. ⌜ r ≡ n ⌝ }
+{
+    n as usize
+}
+
+// The word k of the n-th group of five, from 1 on: a term, or a row.
 pub fn word(words: &[u32], n: usize, k: usize) -> usize
     requires { ⌜ Stands (now words) n × (k < 5) ⌝ }
     ensures { λ r. ⌜ (r ≡ getD (now (words .entry)) (5 * pred n + k) 0) × (r < 4294967296) ⌝ }

@@ -7,12 +7,7 @@ pub mod terms;
 ghost use mathlib.Core.Path.{_≡_};
 ghost use Rattle.table.specs.Usable.{counts-fit, usable};
 ghost use Rattle.usable.specs.Lent.{slices};
-
-fn wide(n: u32) -> usize
-    ensures { λ r. ⌜ r ≡ n ⌝ }
-{
-    n as usize
-}
+use crate::fields::wide;
 
 // Not: "a count goes past its slice".
 fn fit_counts(

@@ -2,11 +2,12 @@
 ghost use mathlib.Core.Path.{_≡_};
 ghost use mathlib.Core.Bool.{_&&_};
 ghost use mathlib.Core.List.{[]};
-ghost use Prim.Native.Nat.{suc, _+_, _*_, _≤_, _<_};
+ghost use Prim.Native.Nat.{_+_, _*_, _≤_, _<_};
 ghost use lib.ListN.{length};
 ghost use Rattle.table.specs.Layout.{iri-kind};
 ghost use Rattle.table.specs.Usable.{each, has-kind, present, resource};
 ghost use Rattle.usable.specs.Lent.{lent, names-graph, row-test};
+use crate::fields::Kind;
 use crate::fields::word;
 
 // Not: "a row names a missing term".
@@ -28,12 +29,13 @@ fn is_resource(terms: &[u32], count: usize, n: usize) -> bool
         return false;
     }
     let kind = word(terms, n, 0);
-    if kind == 1 {
+    if kind == Kind::IRI {
         return true;
     }
-    kind == 2
+    kind == Kind::BLANK
 }
 
+// Whether a predicate may have the term.
 fn is_predicate(terms: &[u32], count: usize, n: usize) -> bool
     requires { ⌜ 5 * count ≤ length (now terms) ⌝ }
     ensures { λ r. ⌜ r ≡ present (lent (now (terms .entry)) count [] 0) n && has-kind (lent (now (terms .entry)) count [] 0) iri-kind n ⌝ }
@@ -41,9 +43,10 @@ fn is_predicate(terms: &[u32], count: usize, n: usize) -> bool
     if !is_present(count, n) {
         return false;
     }
-    word(terms, n, 0) == 1
+    word(terms, n, 0) == Kind::IRI
 }
 
+// Whether a row may have the graph: "graph 0 is the default graph".
 fn is_graph(terms: &[u32], count: usize, n: usize) -> bool
     requires { ⌜ 5 * count ≤ length (now terms) ⌝ }
     ensures { λ r. ⌜ r ≡ names-graph (lent (now (terms .entry)) count [] 0) n ⌝ }
@@ -54,6 +57,7 @@ fn is_graph(terms: &[u32], count: usize, n: usize) -> bool
     is_resource(terms, count, n)
 }
 
+// Whether the row i is good: none of its terms is missing or stands where it must not.
 fn is_good(rows: &[u32], i: usize, terms: &[u32], count: usize) -> bool
     requires { ⌜ (5 * (i + 1) ≤ length (now rows)) × (5 * count ≤ length (now terms)) ⌝ }
     ensures { λ r. ⌜ r ≡ row-test (now (rows .entry)) (now (terms .entry)) count i ⌝ }

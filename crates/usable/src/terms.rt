@@ -5,8 +5,9 @@ ghost use Prim.Native.Nat.{_+_, _*_, _≤_, _<_};
 ghost use lib.ListN.{length};
 ghost use Rattle.text.specs.Text.{is-none};
 ghost use Rattle.utf8.specs.Utf8.{first-bad};
-ghost use Rattle.table.specs.Usable.{each, the, text, inside, good-iri, good-datatype, good-tag, good-term};
+ghost use Rattle.table.specs.Usable.{each, good-iri, good-datatype, good-tag, good-term};
 ghost use Rattle.usable.specs.Lent.{Stands, SpanIn, lent, readable, right-kind};
+use crate::fields::Kind;
 use crate::fields::part;
 use crate::fields::word;
 use crate::tags::is_tag;
@@ -50,7 +51,7 @@ fn has_datatype(terms: &[u32], n: usize) -> bool
     if n <= d {
         return false;
     }
-    word(terms, d, 0) == 1
+    word(terms, d, 0) == Kind::IRI
 }
 
 // Whether a tagged literal has a tag.
@@ -72,21 +73,22 @@ fn fits_kind(terms: &[u32], store: &[u8], used: usize, n: usize) -> bool
     ensures { λ r. ⌜ r ≡ right-kind (lent (now (terms .entry)) 0 (now (store .entry)) used) n ⌝ }
 {
     let kind = word(terms, n, 0);
-    if kind == 1 {
+    if kind == Kind::IRI {
         return is_iri(terms, store, used, n);
     }
-    if kind == 2 {
+    if kind == Kind::BLANK {
         return true;
     }
-    if kind == 3 {
+    if kind == Kind::LITERAL {
         return has_datatype(terms, n);
     }
-    if kind == 4 {
+    if kind == Kind::TAGGED {
         return has_tag(terms, store, used, n);
     }
     false
 }
 
+// Whether the term n is good: a text that can be read, and what its kind asks for.
 fn is_good(terms: &[u32], store: &[u8], used: usize, n: usize) -> bool
     requires { ⌜ Stands (now terms) n × (used ≤ length (now store)) ⌝ }
     ensures { λ r. ⌜ r ≡ good-term (lent (now (terms .entry)) 0 (now (store .entry)) used) n ⌝ }

@@ -1,15 +1,14 @@
 -- The answer is that of the definition, by what was found.
-use mathlib.Core.Path.{_≡_, refl, ap, sym, _∙_}
+use mathlib.Core.Path.{_≡_, refl}
 use mathlib.Core.Bool.{true, false}
-use mathlib.Core.List.{List, _++_}
-use Prim.Native.Nat.{ℕ, zero, suc, _+_, _^_, _≤_, _<_}
+use Prim.Native.Nat.{ℕ, zero, suc, _^_, _<_}
 use native.Mathlib.Nat.{zero-add}
 use native.Mathlib.Omega.{arith}
 use borrow.Author.Tests.{leb-true, leb-false, lt-ltb, le-ltb}
 use lib.Dec.{leb}
-use lib.ListN.{length, drop}
+use lib.ListN.{length}
 use Rattle.text.specs.Text.{Text}
-use Rattle.text.specs.Slice.{over, over-at}
+use Rattle.text.specs.Slice.{over-at}
 use Rattle.text.proofs.Over.{over-fits}
 use Rattle.table.specs.Layout.{Slices, row-at}
 use Rattle.table.specs.Usable.{usable}

@@ -1,13 +1,11 @@
 -- How long forms are at most.
-use mathlib.Core.Path.{_≡_, refl, ap, sym, _∙_}
-use mathlib.Core.Bool.{true, false}
-use mathlib.Core.List.{[], _∷_, _++_}
-use Prim.Native.Nat.{ℕ, zero, suc, _+_, _*_, _/_, _%_, _≤_, _<_}
+use mathlib.Core.List.{[], _∷_}
+use Prim.Native.Nat.{ℕ, zero, suc, _+_, _*_, _/_, _%_, _≤_}
 use native.Mathlib.Nat.{min-le-left}
 use native.Mathlib.Omega.{arith}
 use lib.Dec.{eqb, ltb}
-use lib.ListN.{length, take, drop, length-append, length-take}
-use Rattle.text.specs.Text.{Text, ascii, cond, same-text}
+use lib.ListN.{length, drop, length-append, length-take}
+use Rattle.text.specs.Text.{Text, ascii, same-text}
 use Rattle.utf8.proofs.Tests.{by}
 use Rattle.iri.specs.Iri.{forbidden}
 use Rattle.dataset.specs.Terms.{xsd-string}

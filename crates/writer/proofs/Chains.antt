@@ -1,13 +1,12 @@
 -- Texts written one after the other.
 use mathlib.Core.Path.{_≡_, refl, ap, sym, _∙_}
 use mathlib.Core.List.{[], _∷_, _++_}
-use Prim.Native.Nat.{ℕ, zero, suc, _+_, _≤_, _<_, _^_}
-use native.Mathlib.Nat.{zero-add, add-zero, suc-add, add-assoc}
+use Prim.Native.Nat.{ℕ, zero, suc, _+_, _≤_}
+use native.Mathlib.Nat.{zero-add, add-zero, suc-add}
 use native.Mathlib.Omega.{arith}
-use lib.ListN.{length, getD, take, drop, set, length-append}
-use lib.Seq.{drop-cons}
+use lib.ListN.{length, set, length-append}
 use Rattle.text.specs.Text.{Text}
-use Rattle.text.specs.Slice.{over, over-at}
+use Rattle.text.specs.Slice.{over-at}
 use Rattle.text.proofs.Over.{over-nothing, over-append, over-at-none, over-at-more, over-at-enough, over-at-length}
 use Rattle.writer.specs.Writing.{Room, Wrote}
 

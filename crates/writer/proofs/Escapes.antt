@@ -1,23 +1,20 @@
 -- Escaped bytes and texts.
 use mathlib.Core.Path.{_≡_, refl, ap, sym, _∙_, subst}
-use mathlib.Core.Bool.{Bool, true, false, not, _&&_}
+use mathlib.Core.Bool.{Bool, true, false, not}
 use mathlib.Core.List.{[], _∷_, _++_, append-assoc, append-nil}
-use Prim.Native.Nat.{ℕ, zero, suc, _+_, _≤_, _<_, _^_}
+use Prim.Native.Nat.{ℕ, _+_, _≤_, _<_}
 use native.Mathlib.Numerals.{add-one}
-use native.Mathlib.Nat.{add-zero}
-use native.Mathlib.Omega.{arith}
-use borrow.Author.Tests.{eqb-true, eqb-false, ne-eqb}
+use borrow.Author.Tests.{ne-eqb}
 use lib.Dec.{T, eqb, ltb}
 use lib.ListN.{length, getD, take, drop, take-append-drop}
 use lib.Seq.{take-suc, take-all}
-use Rattle.text.specs.Text.{Text, ascii, cond, is}
-use Rattle.utf8.proofs.Tests.{by, below, below-at}
+use Rattle.text.specs.Text.{Text, cond, is}
+use Rattle.utf8.proofs.Tests.{by, below-at}
 use Rattle.token.specs.Regular.{in-ranges}
 use Rattle.iri.specs.Iri.{forbidden}
 use Rattle.characters.specs.Bytes.{iri}
 use Rattle.table.specs.LongForm.{iri-byte, string-byte, escaped}
 use Rattle.writer.specs.Writing.{Room, Wrote, code-form, escape-of, byte-form}
-use Rattle.writer.specs.declared.bytes.Rule.{Rule}
 use Rattle.writer.specs.declared.bytes.Rule.the-variants.{Plain}
 use Rattle.writer.proofs.Chains.{both, room-before, room-after, wrote-nothing}
 

@@ -1,23 +1,22 @@
 -- Usable tables can be written, and their lines are short.
-use mathlib.Core.Path.{_≡_, refl, ap, sym, _∙_}
-use mathlib.Core.Bool.{Bool, true, false, _&&_, _||_}
-use mathlib.Core.List.{List, [], _∷_, _++_}
+use mathlib.Core.Path.{_≡_, sym}
+use mathlib.Core.Bool.{Bool, true, _&&_, _||_}
+use mathlib.Core.List.{_++_}
 use Prim.Native.Nat.{ℕ, _+_, _*_, _^_, _≤_, _<_}
 use native.Mathlib.Omega.{arith}
 use borrow.Author.Tests.{leb-true, le-leb, ltb-true, eqb-true, eqb-false, ne-eqb}
 use lib.Dec.{eqb, ltb, leb}
 use lib.ListN.{length, length-append}
-use Rattle.text.specs.Text.{Text, ascii, between, is-none}
+use Rattle.text.specs.Text.{ascii, between, is-none}
 use Rattle.text.proofs.Compare.{and-left, and-right, contrary}
 use Rattle.utf8.specs.Utf8.{first-bad}
 use Rattle.utf8.proofs.Tests.{by, between-true}
 use Rattle.table.specs.Layout.{Row, Slices, row-at, iri-kind, blank-kind}
 use Rattle.table.specs.Usable.{the, text, inside, has-kind, good-iri, good-datatype, good-tag, is-tag, tag, good-term, good-row, present, resource, usable}
-use Rattle.table.specs.LongForm.{decimal, iri-form, string-form, type-form, term-form, triple-form, line}
+use Rattle.table.specs.LongForm.{string-form, type-form, term-form, triple-form, line}
 use Rattle.usable.specs.Lent.{Stands, SpanIn, readable, right-kind}
-use Rattle.usable.proofs.Facts.{Fits, usable-fits, usable-term, usable-row}
-use Rattle.writer.specs.Writing.{Room}
-use Rattle.writer.specs.Drawn.{Writable, WritableRow, Ready, Short, bare, drawn, part-form, blank-form, tag-form, literal-form}
+use Rattle.usable.proofs.Facts.{usable-fits, usable-term, usable-row}
+use Rattle.writer.specs.Drawn.{Writable, Ready, Short, bare, drawn, tag-form, literal-form}
 use Rattle.writer.proofs.Bounds.{span-bound, iri-form-bound, string-form-bound, type-form-bound, digits-bound}
 use Rattle.writer.proofs.Pieces.{term-iri, term-blank, term-literal, literal-typed, literal-tagged}
 use Rattle.writer.proofs.RowForms.{triple-parts, line-default, line-graph}

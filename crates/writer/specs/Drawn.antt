@@ -1,13 +1,12 @@
 -- The pieces of a line, as the routines write them, and what tables must have for it.
 use mathlib.Core.Path.{_≡_}
-use mathlib.Core.List.{List, [], _∷_, _++_}
+use mathlib.Core.List.{List, _++_}
 use Prim.Native.Nat.{ℕ, _+_, _*_, _≤_, _<_}
-use lib.Dec.{eqb}
 use lib.ListN.{length}
 use Rattle.text.specs.Text.{Text, ascii, cond}
 use Rattle.table.specs.Layout.{Slices, literal-kind, row-at}
 use Rattle.table.specs.Usable.{the, text, tag, has-kind}
-use Rattle.table.specs.LongForm.{decimal, string-form, type-form, term-form, triple-form, line}
+use Rattle.table.specs.LongForm.{decimal, string-form, type-form, term-form, line}
 use Rattle.writer.specs.Writing.{Room}
 use Rattle.usable.specs.Lent.{slices, lent, Stands, SpanIn}
 

@@ -2,7 +2,6 @@
 use mathlib.Core.Path.{_≡_}
 use mathlib.Core.List.{[], _∷_, _++_}
 use Prim.Native.Nat.{ℕ, _+_, _/_, _%_, _^_, _<_}
-use lib.Dec.{eqb}
 use lib.ListN.{length}
 use Rattle.text.specs.Text.{Text, ascii, cond, is}
 use Rattle.text.specs.Slice.{over-at}

@@ -1,8 +1,7 @@
 // Bytes and escaped texts, written from a place of the output on, as far as it goes. What lies past its end is only counted.
-ghost use mathlib.Core.List.{[], _∷_, _++_};
+ghost use mathlib.Core.List.{[], _∷_};
 ghost use mathlib.Core.Path.{_≡_};
-ghost use Prim.Native.Nat.{_+_, _*_, _≤_, _<_};
-ghost use lib.ListN.{length};
+ghost use Prim.Native.Nat.{_+_, _<_};
 ghost use Rattle.iri.specs.Iri.{forbidden};
 ghost use Rattle.table.specs.LongForm.{digits, hex-digit, iri-byte, string-byte, escaped, iri-form, string-form};
 ghost use Rattle.writer.specs.Writing.{Room, Wrote, code-form, escape-of, byte-form};
@@ -15,6 +14,7 @@ pub enum Rule {
     Literal,
 }
 
+// Writes a byte; the place behind it.
 pub fn put(out: &mut [u8], at: usize, c: u8) -> usize
     requires { ⌜ Room at (c ∷ []) ⌝ }
     ensures { λ r. ⌜ Wrote at (c ∷ []) (now (out .entry)) (now (out .exit)) r ⌝ }
@@ -25,6 +25,7 @@ pub fn put(out: &mut [u8], at: usize, c: u8) -> usize
     at + 1
 }
 
+// Two bytes, and three.
 pub fn put_two(out: &mut [u8], at: usize, c: u8, d: u8) -> usize
     requires { ⌜ Room at (c ∷ d ∷ []) ⌝ }
     ensures { λ r. ⌜ Wrote at (c ∷ d ∷ []) (now (out .entry)) (now (out .exit)) r ⌝ }
@@ -72,6 +73,7 @@ fn put_code(out: &mut [u8], at: usize, c: u8) -> usize
     put_two(out, digits, hex(c / 16), hex(c % 16))
 }
 
+// A byte of an IRI, and of a literal, with its escape.
 fn put_iri_byte(out: &mut [u8], at: usize, c: u8) -> usize
     requires { ⌜ Room at (iri-byte c) ⌝ }
     ensures { λ r. ⌜ Wrote at (iri-byte c) (now (out .entry)) (now (out .exit)) r ⌝ }
@@ -106,6 +108,7 @@ fn put_string_byte(out: &mut [u8], at: usize, c: u8) -> usize
     put_two(out, at, b'\\', e)
 }
 
+// A byte by the rule.
 fn put_byte(rule: Rule, out: &mut [u8], at: usize, c: u8) -> usize
     requires { ⌜ Room at (byte-form rule c) ⌝ }
     ensures { λ r. ⌜ Wrote at (byte-form rule c) (now (out .entry)) (now (out .exit)) r ⌝ }
@@ -151,6 +154,7 @@ pub fn put_string(s: &[u8], out: &mut [u8], at: usize) -> usize
     put(out, close, b'"')
 }
 
+// The digit for a number below ten.
 fn digit(d: usize) -> u8
     requires { ⌜ d < 10 ⌝ }
     ensures { λ r. ⌜ r ≡ 48 + d ⌝ }

@@ -7,17 +7,12 @@ ghost use mathlib.Core.Path.{_≡_};
 ghost use Rattle.table.specs.LongForm.{write};
 ghost use Rattle.usable.specs.Lent.{slices};
 ghost use Rattle.writer.specs.Answer.{answer};
+use usable::fields::wide;
 
 // The answer's number, 0, 17 or 18, and after 0 the length written.
 pub struct Written {
     pub number: u8,
     pub position: usize,
-}
-
-fn wide(n: u32) -> usize
-    ensures { λ r. ⌜ r ≡ n ⌝ }
-{
-    n as usize
 }
 
 // Writes the long form of the tables over the front of out: so many rows, terms and bytes of the store.

@@ -1,11 +1,10 @@
 // Rows as lines.
-ghost use mathlib.Core.List.{[], _∷_, _++_};
 ghost use mathlib.Core.Path.{_≡_};
-ghost use Prim.Native.Nat.{_+_, _*_, _≤_, _<_};
+ghost use Prim.Native.Nat.{_+_, _<_};
 ghost use lib.Dec.{leb};
 ghost use lib.ListN.{length};
 ghost use Rattle.table.specs.Layout.{row-at};
-ghost use Rattle.table.specs.LongForm.{term-form, triple-form, line, lines-from};
+ghost use Rattle.table.specs.LongForm.{triple-form, line, lines-from};
 ghost use Rattle.usable.specs.Lent.{lent};
 ghost use Rattle.writer.specs.Writing.{Room, Wrote};
 ghost use Rattle.writer.specs.Drawn.{Writable, drawn, part-form, WritableRow, Ready, Short};

@@ -1,12 +1,11 @@
 // Terms in the long form.
-ghost use mathlib.Core.List.{[], _∷_, _++_};
 ghost use mathlib.Core.Path.{_≡_};
-ghost use Prim.Native.Nat.{_+_, _*_, _≤_, _<_};
+ghost use Prim.Native.Nat.{_+_, _≤_, _<_};
 ghost use lib.ListN.{length};
-ghost use Rattle.text.specs.Text.{ascii, same-text};
+ghost use Rattle.text.specs.Text.{same-text};
 ghost use Rattle.dataset.specs.Terms.{xsd-string};
 ghost use Rattle.table.specs.Usable.{the, text, tag};
-ghost use Rattle.table.specs.LongForm.{decimal, type-form, term-form};
+ghost use Rattle.table.specs.LongForm.{type-form, term-form};
 ghost use Rattle.usable.specs.Lent.{Stands, SpanIn, lent};
 ghost use Rattle.writer.specs.Writing.{Room, Wrote};
 ghost use Rattle.writer.specs.Drawn.{Writable, NoResource, blank-form, tag-form, literal-form};
@@ -18,9 +17,11 @@ use crate::bytes::put_iri;
 use crate::bytes::put_string;
 use crate::bytes::put_three;
 use crate::bytes::put_two;
+use usable::fields::Kind;
 use usable::fields::part;
 use usable::fields::word;
 
+// Whether the text is the datatype that is not written.
 fn is_xsd_string(s: &[u8]) -> bool
     ensures { λ r. ⌜ r ≡ same-text (now (s .entry)) xsd-string ⌝ }
 {
@@ -76,27 +77,29 @@ fn tag_of<'a>(terms: &[u32], store: &'a [u8], n: usize) -> &'a [u8]
     part(store, start, size)
 }
 
+// Writes a literal: its text, and its datatype or its tag.
 fn put_literal(terms: &[u32], store: &[u8], n: usize, out: &mut [u8], at: usize) -> usize
     requires { ⌜ Writable (lent (now terms) 0 (now store) 0) n × (NoResource (lent (now terms) 0 (now store) 0) n × Room at (literal-form (lent (now terms) 0 (now store) 0) n)) ⌝ }
     ensures { λ r. ⌜ Wrote at (literal-form (lent (now (terms .entry)) 0 (now (store .entry)) 0) n) (now (out .entry)) (now (out .exit)) r ⌝ }
 {
     let end = put_string(text_of(terms, store, n), out, at);
-    if word(terms, n, 0) == 3 {
+    if word(terms, n, 0) == Kind::LITERAL {
         let d = word(terms, n, 3);
         return put_type(text_of(terms, store, d), out, end);
     }
     put_tag(tag_of(terms, store, n), out, end)
 }
 
+// Writes the term n; the place behind it.
 pub fn put_term(terms: &[u32], store: &[u8], n: usize, out: &mut [u8], at: usize) -> usize
     requires { ⌜ Writable (lent (now terms) 0 (now store) 0) n × Room at (term-form (lent (now terms) 0 (now store) 0) n) ⌝ }
     ensures { λ r. ⌜ Wrote at (term-form (lent (now (terms .entry)) 0 (now (store .entry)) 0) n) (now (out .entry)) (now (out .exit)) r ⌝ }
 {
     let kind = word(terms, n, 0);
-    if kind == 1 {
+    if kind == Kind::IRI {
         return put_iri(text_of(terms, store, n), out, at);
     }
-    if kind == 2 {
+    if kind == Kind::BLANK {
         return put_blank(word(terms, n, 3), out, at);
     }
     put_literal(terms, store, n, out, at)

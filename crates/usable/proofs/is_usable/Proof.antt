@@ -21,11 +21,18 @@ wide-requires-2 : tie.Need-wide-requires-2
 wide-requires-2 c κs = search needs
 
 all-good-requires : tie.Need-all-good-requires
-all-good-requires c κs = let f = counts-in (slices (c .before .before .before .before .before .before .before .args .rows .now) (c .before .before .before .before .before .before .before .args .row-count) (c .before .before .before .before .before .before .before .args .terms .now) (c .before .before .before .before .before .before .before .args .term-count) (c .before .before .before .before .before .before .before .args .store .now) (c .before .before .before .before .before .before .before .args .store-count)) (sym (c .before .before .before .fit-counts .ensures) ∙ not-false _ (c .before .before .if1 .left)) in (rw (c .before .wide .ensures) (f .terms), rw (c .wide2 .ensures) (f .store))
+all-good-requires c κs =
+    let entry = c .before .before .before .before .before .before .before in
+    let fit = sym (c .before .before .before .fit-counts .ensures) ∙ not-false _ (c .before .before .if1 .left) in
+    let f = counts-in (slices (entry .args .rows .now) (entry .args .row-count) (entry .args .terms .now) (entry .args .term-count) (entry .args .store .now) (entry .args .store-count)) fit in (rw (c .before .wide .ensures) (f .terms), rw (c .wide2 .ensures) (f .store))
 
 returns-2 : tie.Need-returns-2
 unfolding usable
-returns-2 c = simp (sym (c .before .before .before .before .before .fit-counts .ensures) ∙ not-false _ (c .before .before .before .before .if1 .left), sym (rw (c .before .before .before .wide .ensures, c .before .before .wide2 .ensures) at (c .before .all-good .ensures) ∙ terms-alone (c .before .before .before .before .before .before .before .before .before .args .rows .now) (c .before .before .before .before .before .before .before .before .before .args .row-count) (c .before .before .before .before .before .before .before .before .before .args .terms .now) (c .before .before .before .before .before .before .before .before .before .args .term-count) (c .before .before .before .before .before .before .before .before .before .args .store .now) (c .before .before .before .before .before .before .before .before .before .args .store-count)) ∙ not-true _ (c .if2 .taken))
+returns-2 c =
+    let entry = c .before .before .before .before .before .before .before .before .before in
+    let fit = sym (c .before .before .before .before .before .fit-counts .ensures) ∙ not-false _ (c .before .before .before .before .if1 .left) in
+    let terms = rw (c .before .before .before .wide .ensures, c .before .before .wide2 .ensures) at (c .before .all-good .ensures) ∙ terms-alone (entry .args .rows .now) (entry .args .row-count) (entry .args .terms .now) (entry .args .term-count) (entry .args .store .now) (entry .args .store-count) in
+    simp (fit, sym terms ∙ not-true _ (c .if2 .taken))
 
 wide-requires-3 : tie.Need-wide-requires-3
 wide-requires-3 c κs = search needs
@@ -34,11 +41,18 @@ wide-requires-4 : tie.Need-wide-requires-4
 wide-requires-4 c κs = search needs
 
 all-good-requires-2 : tie.Need-all-good-requires-2
-all-good-requires-2 c κs = let f = counts-in (slices (c .before .before .before .before .before .before .before .before .before .before .before .args .rows .now) (c .before .before .before .before .before .before .before .before .before .before .before .args .row-count) (c .before .before .before .before .before .before .before .before .before .before .before .args .terms .now) (c .before .before .before .before .before .before .before .before .before .before .before .args .term-count) (c .before .before .before .before .before .before .before .before .before .before .before .args .store .now) (c .before .before .before .before .before .before .before .before .before .before .before .args .store-count)) (sym (c .before .before .before .before .before .before .before .fit-counts .ensures) ∙ not-false _ (c .before .before .before .before .before .before .if1 .left)) in (rw (c .before .wide3 .ensures) (f .rows), rw (c .wide4 .ensures) (f .terms))
+all-good-requires-2 c κs =
+    let entry = c .before .before .before .before .before .before .before .before .before .before .before in
+    let fit = sym (c .before .before .before .before .before .before .before .fit-counts .ensures) ∙ not-false _ (c .before .before .before .before .before .before .if1 .left) in
+    let f = counts-in (slices (entry .args .rows .now) (entry .args .row-count) (entry .args .terms .now) (entry .args .term-count) (entry .args .store .now) (entry .args .store-count)) fit in (rw (c .before .wide3 .ensures) (f .rows), rw (c .wide4 .ensures) (f .terms))
 
 returns-3 : tie.Need-returns-3
 unfolding usable
-returns-3 c = simp (sym (c .before .before .before .before .before .before .before .before .fit-counts .ensures) ∙ not-false _ (c .before .before .before .before .before .before .before .if1 .left), sym (rw (c .before .before .before .before .before .before .wide .ensures, c .before .before .before .before .before .wide2 .ensures) at (c .before .before .before .before .all-good .ensures) ∙ terms-alone (c .before .before .before .before .before .before .before .before .before .before .before .before .args .rows .now) (c .before .before .before .before .before .before .before .before .before .before .before .before .args .row-count) (c .before .before .before .before .before .before .before .before .before .before .before .before .args .terms .now) (c .before .before .before .before .before .before .before .before .before .before .before .before .args .term-count) (c .before .before .before .before .before .before .before .before .before .before .before .before .args .store .now) (c .before .before .before .before .before .before .before .before .before .before .before .before .args .store-count)) ∙ not-false _ (c .before .before .before .if2 .left)) (rw (c .before .before .wide3 .ensures, c .before .wide4 .ensures) at (c .all-good2 .ensures) ∙ rows-alone (c .before .before .before .before .before .before .before .before .before .before .before .before .args .rows .now) (c .before .before .before .before .before .before .before .before .before .before .before .before .args .row-count) (c .before .before .before .before .before .before .before .before .before .before .before .before .args .terms .now) (c .before .before .before .before .before .before .before .before .before .before .before .before .args .term-count) (c .before .before .before .before .before .before .before .before .before .before .before .before .args .store .now) (c .before .before .before .before .before .before .before .before .before .before .before .before .args .store-count))
+returns-3 c =
+    let entry = c .before .before .before .before .before .before .before .before .before .before .before .before in
+    let fit = sym (c .before .before .before .before .before .before .before .before .fit-counts .ensures) ∙ not-false _ (c .before .before .before .before .before .before .before .if1 .left) in
+    let terms = rw (c .before .before .before .before .before .before .wide .ensures, c .before .before .before .before .before .wide2 .ensures) at (c .before .before .before .before .all-good .ensures) ∙ terms-alone (entry .args .rows .now) (entry .args .row-count) (entry .args .terms .now) (entry .args .term-count) (entry .args .store .now) (entry .args .store-count) in
+    simp (fit, sym terms ∙ not-false _ (c .before .before .before .if2 .left)) (rw (c .before .before .wide3 .ensures, c .before .wide4 .ensures) at (c .all-good2 .ensures) ∙ rows-alone (entry .args .rows .now) (entry .args .row-count) (entry .args .terms .now) (entry .args .term-count) (entry .args .store .now) (entry .args .store-count))
 
 pub is-usable-spec : {M : Type 1} → statement M
 is-usable-spec =

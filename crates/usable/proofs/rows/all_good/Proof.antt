@@ -1,9 +1,6 @@
 -- The invariant: all rows are good where those that are left are.
-use mathlib.Core.Bool.{Bool}
-use mathlib.Core.List.{List, []}
-use Rattle.table.specs.Layout.{row-at}
-use Rattle.table.specs.Usable.{each, good-row}
-use Rattle.usable.specs.Lent.{lent, row-test}
+use Rattle.table.specs.Usable.{each}
+use Rattle.usable.specs.Lent.{row-test}
 use Rattle.usable.proofs.Each.{left, each-start, each-done, each-next, each-fails}
 use borrow.Author.Needs.{needs}
 use native.Mathlib.Omega.{arith}
@@ -20,13 +17,19 @@ abbrev μ-loop : tie.MeasureT-loop
 μ-loop rows row-count terms count i₀ i = row-count - i
 
 loop-holds : tie.Need-loop-holds Inv-loop μ-loop
-loop-holds c = (omega arith, each-start (row-test (c .before .before .args .rows .now) (c .before .before .args .terms .now) (c .before .before .args .count)) 0 (c .before .before .args .row-count))
+loop-holds c =
+    let entry = c .before .before in
+    let test = row-test (entry .args .rows .now) (entry .args .terms .now) (entry .args .count) in
+    (omega arith, each-start test 0 (entry .args .row-count))
 
 is-good-requires : tie.Need-is-good-requires Inv-loop μ-loop
 is-good-requires c κs = search needs
 
 returns : tie.Need-returns Inv-loop μ-loop
-returns c = each-fails (row-test (c .before .before .before .before .before .before .args .rows .now) (c .before .before .before .before .before .before .args .terms .now) (c .before .before .before .before .before .before .args .count)) 0 (c .before .before .before .before .before .before .args .row-count) (c .before .before .before .loop .i) (c .before .before .before .loop .i) (c .before .before .loop-test .taken) (omega arith) (sym (c .before .is-good .ensures) ∙ not-true _ (c .if1 .taken)) ∙ sym (c .before .before .before .loop .inv .1)
+returns c =
+    let entry = c .before .before .before .before .before .before in
+    let test = row-test (entry .args .rows .now) (entry .args .terms .now) (entry .args .count) in
+    each-fails test 0 (entry .args .row-count) (c .before .before .before .loop .i) (c .before .before .before .loop .i) (c .before .before .loop-test .taken) (omega arith) (sym (c .before .is-good .ensures) ∙ not-true _ (c .if1 .taken)) ∙ sym (c .before .before .before .loop .inv .1)
 
 add-i : tie.Need-add-i Inv-loop μ-loop
 add-i c = search needs
@@ -35,10 +38,16 @@ loop-less : tie.Need-loop-less Inv-loop μ-loop
 loop-less c = search needs
 
 loop-again : tie.Need-loop-again Inv-loop μ-loop
-loop-again c = (omega arith, c .before .before .before .loop .inv .1 ∙ each-next (row-test (c .before .before .before .before .before .before .args .rows .now) (c .before .before .before .before .before .before .args .terms .now) (c .before .before .before .before .before .before .args .count)) 0 (c .before .before .before .before .before .before .args .row-count) (c .before .before .before .loop .i) (c .before .before .before .loop .i) (c .before .before .loop-test .taken) (omega arith) (sym (c .before .is-good .ensures) ∙ not-false _ (c .if1 .left)))
+loop-again c =
+    let entry = c .before .before .before .before .before .before in
+    let test = row-test (entry .args .rows .now) (entry .args .terms .now) (entry .args .count) in
+    (omega arith, c .before .before .before .loop .inv .1 ∙ each-next test 0 (entry .args .row-count) (c .before .before .before .loop .i) (c .before .before .before .loop .i) (c .before .before .loop-test .taken) (omega arith) (sym (c .before .is-good .ensures) ∙ not-false _ (c .if1 .left)))
 
 returns-2 : tie.Need-returns-2 Inv-loop μ-loop
-returns-2 c = each-done (row-test (c .before .before .before .before .args .rows .now) (c .before .before .before .before .args .terms .now) (c .before .before .before .before .args .count)) 0 (c .before .before .before .before .args .row-count) (c .before .loop .i) (c .loop-test .left) ∙ sym (c .before .loop .inv .1)
+returns-2 c =
+    let entry = c .before .before .before .before in
+    let test = row-test (entry .args .rows .now) (entry .args .terms .now) (entry .args .count) in
+    each-done test 0 (entry .args .row-count) (c .before .loop .i) (c .loop-test .left) ∙ sym (c .before .loop .inv .1)
 
 pub all-good-spec : {M : Type 1} → statement M
 all-good-spec =

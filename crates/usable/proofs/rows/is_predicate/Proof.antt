@@ -14,10 +14,15 @@ returns : tie.Need-returns
 returns c = simp (sym (c .before .is-present .ensures) ∙ not-true _ (c .if1 .taken))
 
 word-requires : tie.Need-word-requires
-word-requires c κs = let h = between-true 1 (c .before .before .before .args .count) (c .before .before .before .args .n) (sym (c .before .is-present .ensures) ∙ not-false _ (c .if1 .left)) in ((h .0, omega (arith, h .1)), omega arith)
+word-requires c κs =
+    let entry = c .before .before .before in
+    let h = between-true 1 (entry .args .count) (entry .args .n) (sym (c .before .is-present .ensures) ∙ not-false _ (c .if1 .left)) in ((h .0, omega (arith, h .1)), omega arith)
 
 returns-2 : tie.Need-returns-2
-returns-2 c = simp (sym (c .before .before .is-present .ensures) ∙ not-false _ (c .before .if1 .left), ← kind-word (c .before .before .before .before .args .terms .now) (c .before .before .before .before .args .n) (c .word .result) (c .word .ensures .0))
+returns-2 c =
+    let entry = c .before .before .before .before in
+    let kind = kind-word (entry .args .terms .now) (entry .args .n) (c .word .result) (c .word .ensures .0) in
+    simp (sym (c .before .before .is-present .ensures) ∙ not-false _ (c .before .if1 .left), ← kind)
 
 pub is-predicate-spec : {M : Type 1} → statement M
 is-predicate-spec = tie.close (tie.spec is-present-requires returns word-requires returns-2)

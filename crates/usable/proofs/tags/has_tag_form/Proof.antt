@@ -1,6 +1,6 @@
 -- The invariant: what is left leads to an end from the place reached, where the whole does from the start.
 use Rattle.usable.specs.declared.tags.Place.the-variants.{Start}
-use Rattle.usable.specs.Places.{walks, ends}
+use Rattle.usable.specs.Places.{walks}
 use Rattle.usable.proofs.TagForms.{walks-on, walks-end}
 use borrow.Author.Needs.{needs}
 use native.Mathlib.Omega.{arith}

@@ -17,7 +17,10 @@ abbrev μ-loop : tie.MeasureT-loop
 μ-loop terms count store used i₀ i = count - i
 
 loop-holds : tie.Need-loop-holds Inv-loop μ-loop
-loop-holds c = (omega arith, each-start (good-term (lent (c .before .before .args .terms .now) 0 (c .before .before .args .store .now) (c .before .before .args .used))) 1 (c .before .before .args .count))
+loop-holds c =
+    let entry = c .before .before in
+    let test = good-term (lent (entry .args .terms .now) 0 (entry .args .store .now) (entry .args .used)) in
+    (omega arith, each-start test 1 (entry .args .count))
 
 add-is-good : tie.Need-add-is-good Inv-loop μ-loop
 add-is-good c = search needs
@@ -26,7 +29,10 @@ is-good-requires : tie.Need-is-good-requires Inv-loop μ-loop
 is-good-requires c κs = search needs
 
 returns : tie.Need-returns Inv-loop μ-loop
-returns c = each-fails (good-term (lent (c .before .before .before .before .before .before .args .terms .now) 0 (c .before .before .before .before .before .before .args .store .now) (c .before .before .before .before .before .before .args .used))) 1 (c .before .before .before .before .before .before .args .count) (c .before .before .before .loop .i) (c .before .before .before .loop .i + 1) (c .before .before .loop-test .taken) (omega arith) (sym (c .before .is-good .ensures) ∙ not-true _ (c .if1 .taken)) ∙ sym (c .before .before .before .loop .inv .1)
+returns c =
+    let entry = c .before .before .before .before .before .before in
+    let test = good-term (lent (entry .args .terms .now) 0 (entry .args .store .now) (entry .args .used)) in
+    each-fails test 1 (entry .args .count) (c .before .before .before .loop .i) (c .before .before .before .loop .i + 1) (c .before .before .loop-test .taken) (omega arith) (sym (c .before .is-good .ensures) ∙ not-true _ (c .if1 .taken)) ∙ sym (c .before .before .before .loop .inv .1)
 
 add-i : tie.Need-add-i Inv-loop μ-loop
 add-i c = search needs
@@ -35,10 +41,16 @@ loop-less : tie.Need-loop-less Inv-loop μ-loop
 loop-less c = search needs
 
 loop-again : tie.Need-loop-again Inv-loop μ-loop
-loop-again c = (omega arith, c .before .before .before .loop .inv .1 ∙ each-next (good-term (lent (c .before .before .before .before .before .before .args .terms .now) 0 (c .before .before .before .before .before .before .args .store .now) (c .before .before .before .before .before .before .args .used))) 1 (c .before .before .before .before .before .before .args .count) (c .before .before .before .loop .i) (c .before .before .before .loop .i + 1) (c .before .before .loop-test .taken) (omega arith) (sym (c .before .is-good .ensures) ∙ not-false _ (c .if1 .left)))
+loop-again c =
+    let entry = c .before .before .before .before .before .before in
+    let test = good-term (lent (entry .args .terms .now) 0 (entry .args .store .now) (entry .args .used)) in
+    (omega arith, c .before .before .before .loop .inv .1 ∙ each-next test 1 (entry .args .count) (c .before .before .before .loop .i) (c .before .before .before .loop .i + 1) (c .before .before .loop-test .taken) (omega arith) (sym (c .before .is-good .ensures) ∙ not-false _ (c .if1 .left)))
 
 returns-2 : tie.Need-returns-2 Inv-loop μ-loop
-returns-2 c = each-done (good-term (lent (c .before .before .before .before .args .terms .now) 0 (c .before .before .before .before .args .store .now) (c .before .before .before .before .args .used))) 1 (c .before .before .before .before .args .count) (c .before .loop .i) (c .loop-test .left) ∙ sym (c .before .loop .inv .1)
+returns-2 c =
+    let entry = c .before .before .before .before in
+    let test = good-term (lent (entry .args .terms .now) 0 (entry .args .store .now) (entry .args .used)) in
+    each-done test 1 (entry .args .count) (c .before .loop .i) (c .loop-test .left) ∙ sym (c .before .loop .inv .1)
 
 pub all-good-spec : {M : Type 1} → statement M
 all-good-spec =

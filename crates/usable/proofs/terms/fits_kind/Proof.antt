@@ -1,4 +1,4 @@
-use Rattle.usable.proofs.Words.{kind-word, of-iri, of-blank, of-literal, of-tagged, of-none}
+use Rattle.usable.proofs.Words.{kind-word, of-iri, of-blank, of-literal, of-tagged}
 use borrow.Author.Needs.{needs}
 use borrow.Author.Tests.{ne-eqb}
 use mathlib.Core.Path.{sym, _∙_}
@@ -12,25 +12,40 @@ is-iri-requires : tie.Need-is-iri-requires
 is-iri-requires c κs = search needs
 
 returns : tie.Need-returns
-returns c = c .is-iri .ensures ∙ of-iri _ _ _ _ (sym (kind-word (c .before .before .before .before .before .args .terms .now) (c .before .before .before .before .before .args .n) (c .before .before .word .result) (c .before .before .word .ensures .0)) ∙ c .before .if1 .taken)
+returns c =
+    let entry = c .before .before .before .before .before in
+    let kind = kind-word (entry .args .terms .now) (entry .args .n) (c .before .before .word .result) (c .before .before .word .ensures .0) in
+    c .is-iri .ensures ∙ of-iri _ _ _ _ (sym kind ∙ c .before .if1 .taken)
 
 returns-2 : tie.Need-returns-2
-returns-2 c = of-blank _ _ _ _ (sym (kind-word (c .before .before .before .before .before .args .terms .now) (c .before .before .before .before .before .args .n) (c .before .before .word .result) (c .before .before .word .ensures .0)) ∙ c .if2 .taken)
+returns-2 c =
+    let entry = c .before .before .before .before .before in
+    let kind = kind-word (entry .args .terms .now) (entry .args .n) (c .before .before .word .result) (c .before .before .word .ensures .0) in
+    of-blank _ _ _ _ (sym kind ∙ c .if2 .taken)
 
 has-datatype-requires : tie.Need-has-datatype-requires
 has-datatype-requires c κs = search needs
 
 returns-3 : tie.Need-returns-3
-returns-3 c = c .has-datatype .ensures ∙ of-literal _ _ _ _ (sym (kind-word (c .before .before .before .before .before .before .before .args .terms .now) (c .before .before .before .before .before .before .before .args .n) (c .before .before .before .before .word .result) (c .before .before .before .before .word .ensures .0)) ∙ c .before .if3 .taken)
+returns-3 c =
+    let entry = c .before .before .before .before .before .before .before in
+    let kind = kind-word (entry .args .terms .now) (entry .args .n) (c .before .before .before .before .word .result) (c .before .before .before .before .word .ensures .0) in
+    c .has-datatype .ensures ∙ of-literal _ _ _ _ (sym kind ∙ c .before .if3 .taken)
 
 has-tag-requires : tie.Need-has-tag-requires
 has-tag-requires c κs = search needs
 
 returns-4 : tie.Need-returns-4
-returns-4 c = c .has-tag .ensures ∙ of-tagged _ _ _ _ (sym (kind-word (c .before .before .before .before .before .before .before .before .args .terms .now) (c .before .before .before .before .before .before .before .before .args .n) (c .before .before .before .before .before .word .result) (c .before .before .before .before .before .word .ensures .0)) ∙ c .before .if4 .taken)
+returns-4 c =
+    let entry = c .before .before .before .before .before .before .before .before in
+    let kind = kind-word (entry .args .terms .now) (entry .args .n) (c .before .before .before .before .before .word .result) (c .before .before .before .before .before .word .ensures .0) in
+    c .has-tag .ensures ∙ of-tagged _ _ _ _ (sym kind ∙ c .before .if4 .taken)
 
 returns-5 : tie.Need-returns-5
-returns-5 c = simp (← kind-word (c .before .before .before .before .before .before .before .args .terms .now) (c .before .before .before .before .before .before .before .args .n) (c .before .before .before .before .word .result) (c .before .before .before .before .word .ensures .0), ne-eqb _ _ (c .before .before .before .if1 .left), ne-eqb _ _ (c .before .before .if2 .left), ne-eqb _ _ (c .before .if3 .left), ne-eqb _ _ (c .if4 .left))
+returns-5 c =
+    let entry = c .before .before .before .before .before .before .before in
+    let kind = kind-word (entry .args .terms .now) (entry .args .n) (c .before .before .before .before .word .result) (c .before .before .before .before .word .ensures .0) in
+    simp (← kind, ne-eqb _ _ (c .before .before .before .if1 .left), ne-eqb _ _ (c .before .before .if2 .left), ne-eqb _ _ (c .before .if3 .left), ne-eqb _ _ (c .if4 .left))
 
 pub fits-kind-spec : {M : Type 1} → statement M
 fits-kind-spec =

@@ -14,7 +14,11 @@ add-if1 : tie.Need-add-if1
 add-if1 c = search needs
 
 returns : tie.Need-returns
-returns c = simp (← fourth-word (c .before .before .before .before .before .args .terms .now) (c .before .before .before .before .before .args .n) (c .before .before .word .result) (c .before .before .word .ensures .0), ← fifth-word (c .before .before .before .before .before .args .terms .now) (c .before .before .before .before .before .args .n) (c .before .word2 .result) (c .before .word2 .ensures .0), lt-leb _ _ (c .if1 .taken))
+returns c =
+    let entry = c .before .before .before .before .before in
+    let fourth = fourth-word (entry .args .terms .now) (entry .args .n) (c .before .before .word .result) (c .before .before .word .ensures .0) in
+    let fifth = fifth-word (entry .args .terms .now) (entry .args .n) (c .before .word2 .result) (c .before .word2 .ensures .0) in
+    simp (← fourth, ← fifth, lt-leb _ _ (c .if1 .taken))
 
 part-requires : tie.Need-part-requires
 part-requires c κs = search needs
@@ -23,7 +27,11 @@ is-tag-requires : tie.Need-is-tag-requires
 is-tag-requires c κs = search needs
 
 returns-2 : tie.Need-returns-2
-returns-2 c = simp (← fourth-word (c .before .before .before .before .before .before .before .args .terms .now) (c .before .before .before .before .before .before .before .args .n) (c .before .before .before .before .word .result) (c .before .before .before .before .word .ensures .0), ← fifth-word (c .before .before .before .before .before .before .before .args .terms .now) (c .before .before .before .before .before .before .before .args .n) (c .before .before .before .word2 .result) (c .before .before .before .word2 .ensures .0), le-leb _ _ (c .before .before .if1 .left)) (rw (c .before .part .ensures) at (c .is-tag .ensures))
+returns-2 c =
+    let entry = c .before .before .before .before .before .before .before in
+    let fourth = fourth-word (entry .args .terms .now) (entry .args .n) (c .before .before .before .before .word .result) (c .before .before .before .before .word .ensures .0) in
+    let fifth = fifth-word (entry .args .terms .now) (entry .args .n) (c .before .before .before .word2 .result) (c .before .before .before .word2 .ensures .0) in
+    simp (← fourth, ← fifth, le-leb _ _ (c .before .before .if1 .left)) (rw (c .before .part .ensures) at (c .is-tag .ensures))
 
 pub has-tag-spec : {M : Type 1} → statement M
 has-tag-spec =

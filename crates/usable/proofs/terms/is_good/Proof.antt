@@ -1,4 +1,3 @@
-use mathlib.Core.List.{[]}
 use Rattle.table.specs.Usable.{good-term}
 use Rattle.usable.specs.Lent.{lent}
 use Rattle.usable.proofs.Words.{text-in}
@@ -11,7 +10,9 @@ has-text-requires : tie.Need-has-text-requires
 has-text-requires c κs = search needs
 
 fits-kind-requires : tie.Need-fits-kind-requires
-fits-kind-requires c κs = (c .before .before .before .before .pre .0, (c .before .before .before .before .pre .1, text-in (lent (c .before .before .before .before .args .terms .now) 0 (c .before .before .before .before .args .store .now) (c .before .before .before .before .args .used)) (c .before .before .before .before .args .n) (c .before .before .before .before .pre .1) (sym (c .before .has-text .ensures) ∙ c .if1 .taken)))
+fits-kind-requires c κs =
+    let entry = c .before .before .before .before in
+    (entry .pre .0, (entry .pre .1, text-in (lent (entry .args .terms .now) 0 (entry .args .store .now) (entry .args .used)) (entry .args .n) (entry .pre .1) (sym (c .before .has-text .ensures) ∙ c .if1 .taken)))
 
 returns : tie.Need-returns
 unfolding good-term

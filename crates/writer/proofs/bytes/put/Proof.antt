@@ -15,10 +15,16 @@ add-result : tie.Need-add-result
 add-result c = search needs
 
 same-length : tie.Need-same-length
-same-length c = wrote-length (⊎-elim (λ w. subst (λ l. Wrote (c .before .args .at) ((c .before .args .c) ∷ []) (c .before .args .out .now) l (c .before .args .at + 1)) (sym (w .1)) (wrote-byte (c .before .args .at) (c .before .args .c) (c .before .args .out .now))) (λ w. subst (λ l. Wrote (c .before .args .at) ((c .before .args .c) ∷ []) (c .before .args .out .now) l (c .before .args .at + 1)) (sym (w .1)) (wrote-past (c .before .args .at) (c .before .args .c) (c .before .args .out .now) (w .0 .left))) (c .if1 .came))
+same-length c =
+    let out = c .before .args .out .now in
+    let wrote = ⊎-elim (λ w. subst (λ l. Wrote (c .before .args .at) ((c .before .args .c) ∷ []) out l (c .before .args .at + 1)) (sym (w .1)) (wrote-byte (c .before .args .at) (c .before .args .c) out)) (λ w. subst (λ l. Wrote (c .before .args .at) ((c .before .args .c) ∷ []) out l (c .before .args .at + 1)) (sym (w .1)) (wrote-past (c .before .args .at) (c .before .args .c) out (w .0 .left))) (c .if1 .came) in
+    wrote-length wrote
 
 returns : tie.Need-returns
-returns c = (⊎-elim (λ w. subst (λ l. Wrote (c .before .args .at) ((c .before .args .c) ∷ []) (c .before .args .out .now) l (c .before .args .at + 1)) (sym (w .1)) (wrote-byte (c .before .args .at) (c .before .args .c) (c .before .args .out .now))) (λ w. subst (λ l. Wrote (c .before .args .at) ((c .before .args .c) ∷ []) (c .before .args .out .now) l (c .before .args .at + 1)) (sym (w .1)) (wrote-past (c .before .args .at) (c .before .args .c) (c .before .args .out .now) (w .0 .left))) (c .if1 .came))
+returns c =
+    let out = c .before .args .out .now in
+    let wrote = ⊎-elim (λ w. subst (λ l. Wrote (c .before .args .at) ((c .before .args .c) ∷ []) out l (c .before .args .at + 1)) (sym (w .1)) (wrote-byte (c .before .args .at) (c .before .args .c) out)) (λ w. subst (λ l. Wrote (c .before .args .at) ((c .before .args .c) ∷ []) out l (c .before .args .at + 1)) (sym (w .1)) (wrote-past (c .before .args .at) (c .before .args .c) out (w .0 .left))) (c .if1 .came) in
+    wrote
 
 pub put-spec : {M : Type 1} → statement M
 put-spec = tie.close (tie.spec slice-write-out add-result same-length returns)

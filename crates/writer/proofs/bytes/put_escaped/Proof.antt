@@ -17,13 +17,19 @@ abbrev μ-loop : tie.MeasureT-loop
 μ-loop rule s out₀ at end₀ i₀ out end i = length s - i
 
 loop-holds : tie.Need-loop-holds Inv-loop μ-loop
-loop-holds c = (omega arith, escaped-none (byte-form (c .before .before .args .rule)) (c .before .before .args .at) (c .before .before .args .s .now) (c .before .before .args .out .now))
+loop-holds c =
+    let entry = c .before .before in
+    let rule = byte-form (entry .args .rule) in
+    (omega arith, escaped-none rule (entry .args .at) (entry .args .s .now) (entry .args .out .now))
 
 shared-slice-read-put-byte : tie.Need-shared-slice-read-put-byte Inv-loop μ-loop
 shared-slice-read-put-byte c = search needs
 
 put-byte-requires : tie.Need-put-byte-requires Inv-loop μ-loop
-put-byte-requires c κs = room-next (byte-form (c .before .before .before .before .before .before .args .rule)) (c .before .before .before .before .before .before .args .s .now) (c .before .before .before .loop .i) (c .before .before .loop-test .taken) (c .before .before .before .loop .inv .1) (c .before .before .before .before .before .before .pre)
+put-byte-requires c κs =
+    let entry = c .before .before .before .before .before .before in
+    let rule = byte-form (entry .args .rule) in
+    room-next rule (entry .args .s .now) (c .before .before .before .loop .i) (c .before .before .loop-test .taken) (c .before .before .before .loop .inv .1) (entry .pre)
 
 add-i : tie.Need-add-i Inv-loop μ-loop
 add-i c = search needs
@@ -32,13 +38,19 @@ loop-less : tie.Need-loop-less Inv-loop μ-loop
 loop-less c = search needs
 
 loop-again : tie.Need-loop-again Inv-loop μ-loop
-loop-again c = (omega arith, wrote-next (byte-form (c .before .before .before .before .before .before .before .before .before .args .rule)) (c .before .before .before .before .before .before .before .before .before .args .s .now) (c .before .before .before .before .before .before .loop .i) (c .before .before .before .before .before .loop-test .taken) (c .before .before .before .before .before .before .loop .inv .1) (c .before .before .put-byte .ensures))
+loop-again c =
+    let entry = c .before .before .before .before .before .before .before .before .before in
+    let rule = byte-form (entry .args .rule) in
+    (omega arith, wrote-next rule (entry .args .s .now) (c .before .before .before .before .before .before .loop .i) (c .before .before .before .before .before .loop-test .taken) (c .before .before .before .before .before .before .loop .inv .1) (c .before .before .put-byte .ensures))
 
 same-length : tie.Need-same-length Inv-loop μ-loop
 same-length c = wrote-length (c .before .loop .inv .1)
 
 returns : tie.Need-returns Inv-loop μ-loop
-returns c = rw (escaped-all (byte-form (c .before .before .before .before .args .rule)) (c .before .before .before .before .args .s .now) (c .before .loop .i) (c .loop-test .left)) at (c .before .loop .inv .1)
+returns c =
+    let entry = c .before .before .before .before in
+    let rule = byte-form (entry .args .rule) in
+    rw (escaped-all rule (entry .args .s .now) (c .before .loop .i) (c .loop-test .left)) at (c .before .loop .inv .1)
 
 pub put-escaped-spec : {M : Type 1} → statement M
 put-escaped-spec =

@@ -1,4 +1,3 @@
-use Rattle.writer.specs.Writing.{Room, Wrote}
 use Rattle.writer.proofs.Escapes.{iri-escaped, iri-plain}
 use borrow.Author.Needs.{needs}
 use mathlib.Core.Path.{sym, _∙_}
@@ -9,22 +8,34 @@ is-forbidden-requires : tie.Need-is-forbidden-requires
 is-forbidden-requires c κs = search needs
 
 put-code-requires : tie.Need-put-code-requires
-put-code-requires c κs = rw (iri-escaped (c .before .before .before .before .args .c) (sym (c .before .before .is-forbidden .ensures) ∙ c .before .if1 .taken)) at (c .before .before .before .before .pre)
+put-code-requires c κs =
+    let entry = c .before .before .before .before in
+    let form = iri-escaped (entry .args .c) (sym (c .before .before .is-forbidden .ensures) ∙ c .before .if1 .taken) in
+    rw form at (entry .pre)
 
 same-length : tie.Need-same-length
 same-length c = search needs
 
 returns : tie.Need-returns
-returns c = rw (iri-escaped (c .before .before .before .before .before .before .before .args .c) (sym (c .before .before .before .before .before .is-forbidden .ensures) ∙ c .before .before .before .before .if1 .taken)) (c .before .before .put-code .ensures)
+returns c =
+    let entry = c .before .before .before .before .before .before .before in
+    let form = iri-escaped (entry .args .c) (sym (c .before .before .before .before .before .is-forbidden .ensures) ∙ c .before .before .before .before .if1 .taken) in
+    rw form (c .before .before .put-code .ensures)
 
 put-requires : tie.Need-put-requires
-put-requires c κs = rw (iri-plain (c .before .before .before .before .args .c) (sym (c .before .before .is-forbidden .ensures) ∙ c .before .if1 .left)) at (c .before .before .before .before .pre)
+put-requires c κs =
+    let entry = c .before .before .before .before in
+    let form = iri-plain (entry .args .c) (sym (c .before .before .is-forbidden .ensures) ∙ c .before .if1 .left) in
+    rw form at (entry .pre)
 
 same-length-2 : tie.Need-same-length-2
 same-length-2 c = search needs
 
 returns-2 : tie.Need-returns-2
-returns-2 c = rw (iri-plain (c .before .before .before .before .before .before .before .args .c) (sym (c .before .before .before .before .before .is-forbidden .ensures) ∙ c .before .before .before .before .if1 .left)) (c .before .before .put .ensures)
+returns-2 c =
+    let entry = c .before .before .before .before .before .before .before in
+    let form = iri-plain (entry .args .c) (sym (c .before .before .before .before .before .is-forbidden .ensures) ∙ c .before .before .before .before .if1 .left) in
+    rw form (c .before .before .put .ensures)
 
 pub put-iri-byte-spec : {M : Type 1} → statement M
 put-iri-byte-spec =

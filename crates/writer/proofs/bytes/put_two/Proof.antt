@@ -1,4 +1,4 @@
-use Rattle.writer.proofs.Chains.{both, room-before, room-after}
+use Rattle.writer.proofs.Chains.{both}
 use borrow.Author.Needs.{needs}
 use Rattle.writer.proofs.bytes.put_two.Statement.{statement}
 use Rattle.writer.proofs.bytes.put_two.Tie as tie

@@ -18,19 +18,27 @@ abbrev μ-loop : tie.MeasureT-loop
 μ-loop rows count terms store limit nowhere₀ total₀ i₀ nowhere total i = count - i
 
 loop-holds : tie.Need-loop-holds Inv-loop μ-loop
-loop-holds c = (omega arith, none-length (drawn (c .before .before .before .args .rows .now) (c .before .before .before .args .terms .now) (c .before .before .before .args .store .now)), omega arith, refl)
+loop-holds c =
+    let entry = c .before .before .before in
+    let tables = drawn (entry .args .rows .now) (entry .args .terms .now) (entry .args .store .now) in
+    (omega arith, none-length tables, omega arith, refl)
 
 slice-aggregate-put-line : tie.Need-slice-aggregate-put-line Inv-loop μ-loop
 slice-aggregate-put-line c = sym (c .before .before .loop .inv .3)
 
 put-line-requires : tie.Need-put-line-requires Inv-loop μ-loop
-put-line-requires c κs = (c .before .before .before .before .before .before .pre .0 (c .before .before .loop .i) (c .before .loop-test .taken), c .before .before .before .before .before .before .pre .1 (c .before .before .loop .i) (c .before .loop-test .taken))
+put-line-requires c κs =
+    let entry = c .before .before .before .before .before .before in
+    (entry .pre .0 (c .before .before .loop .i) (c .before .loop-test .taken), entry .pre .1 (c .before .before .loop .i) (c .before .loop-test .taken))
 
 sub-if1 : tie.Need-sub-if1 Inv-loop μ-loop
 sub-if1 c = search needs
 
 returns : tie.Need-returns Inv-loop μ-loop
-returns c = too-long (drawn (c .before .before .before .before .before .before .before .before .before .args .rows .now) (c .before .before .before .before .before .before .before .before .before .args .terms .now) (c .before .before .before .before .before .before .before .before .before .args .store .now)) (c .before .before .before .before .before .loop .i) (c .before .before .before .before .before .before .before .before .before .args .count) (c .before .before .before .before .loop-test .taken) (c .before .before .before .before .before .loop .total) (c .before .before .before .before .before .before .before .before .before .args .limit) (c .before .before .put-line .result) (c .before .before .before .before .before .loop .inv .1) (c .before .before .put-line .ensures .end) (c .if1 .taken)
+returns c =
+    let entry = c .before .before .before .before .before .before .before .before .before in
+    let tables = drawn (entry .args .rows .now) (entry .args .terms .now) (entry .args .store .now) in
+    too-long tables (c .before .before .before .before .before .loop .i) (entry .args .count) (c .before .before .before .before .loop-test .taken) (c .before .before .before .before .before .loop .total) (entry .args .limit) (c .before .before .put-line .result) (c .before .before .before .before .before .loop .inv .1) (c .before .before .put-line .ensures .end) (c .if1 .taken)
 
 add-total : tie.Need-add-total Inv-loop μ-loop
 add-total c = search needs
@@ -42,10 +50,16 @@ loop-less : tie.Need-loop-less Inv-loop μ-loop
 loop-less c = search needs
 
 loop-again : tie.Need-loop-again Inv-loop μ-loop
-loop-again c = (omega arith, more-length (drawn (c .before .before .before .before .before .before .before .before .before .args .rows .now) (c .before .before .before .before .before .before .before .before .before .args .terms .now) (c .before .before .before .before .before .before .before .before .before .args .store .now)) (c .before .before .before .before .before .loop .i) (c .before .before .before .before .before .loop .total) (c .before .before .put-line .result) (c .before .before .before .before .before .loop .inv .1) (c .before .before .put-line .ensures .end), omega arith, wrote-length (c .before .before .put-line .ensures) ∙ c .before .before .before .before .before .loop .inv .3)
+loop-again c =
+    let entry = c .before .before .before .before .before .before .before .before .before in
+    let tables = drawn (entry .args .rows .now) (entry .args .terms .now) (entry .args .store .now) in
+    (omega arith, more-length tables (c .before .before .before .before .before .loop .i) (c .before .before .before .before .before .loop .total) (c .before .before .put-line .result) (c .before .before .before .before .before .loop .inv .1) (c .before .before .put-line .ensures .end), omega arith, wrote-length (c .before .before .put-line .ensures) ∙ c .before .before .before .before .before .loop .inv .3)
 
 returns-2 : tie.Need-returns-2 Inv-loop μ-loop
-returns-2 c = all-fit (drawn (c .before .before .before .before .before .args .rows .now) (c .before .before .before .before .before .args .terms .now) (c .before .before .before .before .before .args .store .now)) (c .before .loop .i) (c .before .before .before .before .before .args .count) (c .before .loop .total) (c .before .before .before .before .before .args .limit) (c .loop-test .left) (c .before .loop .inv .0) (c .before .loop .inv .1) (c .before .loop .inv .2)
+returns-2 c =
+    let entry = c .before .before .before .before .before in
+    let tables = drawn (entry .args .rows .now) (entry .args .terms .now) (entry .args .store .now) in
+    all-fit tables (c .before .loop .i) (entry .args .count) (c .before .loop .total) (entry .args .limit) (c .loop-test .left) (c .before .loop .inv .0) (c .before .loop .inv .1) (c .before .loop .inv .2)
 
 pub fit-lines-spec : {M : Type 1} → statement M
 fit-lines-spec =

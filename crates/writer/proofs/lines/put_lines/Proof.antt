@@ -18,10 +18,16 @@ abbrev μ-loop : tie.MeasureT-loop
 μ-loop rows count terms store out₀ at₀ i₀ out at i = count - i
 
 loop-holds : tie.Need-loop-holds Inv-loop μ-loop
-loop-holds c = (omega arith, lines-none (drawn (c .before .before .before .before .args .rows .now) (c .before .before .before .before .args .terms .now) (c .before .before .before .before .args .store .now)) (c .before .before .before .before .args .out .now))
+loop-holds c =
+    let entry = c .before .before .before .before in
+    let tables = drawn (entry .args .rows .now) (entry .args .terms .now) (entry .args .store .now) in
+    (omega arith, lines-none tables (entry .args .out .now))
 
 put-line-requires : tie.Need-put-line-requires Inv-loop μ-loop
-put-line-requires c κs = (c .before .before .before .before .before .before .before .pre .0 (c .before .before .loop .i) (c .before .loop-test .taken), line-room (drawn (c .before .before .before .before .before .before .before .args .rows .now) (c .before .before .before .before .before .before .before .args .terms .now) (c .before .before .before .before .before .before .before .args .store .now)) (c .before .before .loop .i) (c .before .before .before .before .before .before .before .args .count) (c .before .loop-test .taken) (c .before .before .loop .inv .1) (c .before .before .before .before .before .before .before .pre .1))
+put-line-requires c κs =
+    let entry = c .before .before .before .before .before .before .before in
+    let tables = drawn (entry .args .rows .now) (entry .args .terms .now) (entry .args .store .now) in
+    (entry .pre .0 (c .before .before .loop .i) (c .before .loop-test .taken), line-room tables (c .before .before .loop .i) (entry .args .count) (c .before .loop-test .taken) (c .before .before .loop .inv .1) (entry .pre .1))
 
 add-i : tie.Need-add-i Inv-loop μ-loop
 add-i c = search needs
@@ -30,13 +36,18 @@ loop-less : tie.Need-loop-less Inv-loop μ-loop
 loop-less c = search needs
 
 loop-again : tie.Need-loop-again Inv-loop μ-loop
-loop-again c = (omega arith, line-next (drawn (c .before .before .before .before .before .before .before .before .before .before .args .rows .now) (c .before .before .before .before .before .before .before .before .before .before .args .terms .now) (c .before .before .before .before .before .before .before .before .before .before .args .store .now)) (c .before .before .before .before .before .loop .i) (c .before .before .before .before .before .loop .inv .1) (c .before .before .put-line .ensures))
+loop-again c =
+    let entry = c .before .before .before .before .before .before .before .before .before .before in
+    let tables = drawn (entry .args .rows .now) (entry .args .terms .now) (entry .args .store .now) in
+    (omega arith, line-next tables (c .before .before .before .before .before .loop .i) (c .before .before .before .before .before .loop .inv .1) (c .before .before .put-line .ensures))
 
 same-length : tie.Need-same-length Inv-loop μ-loop
 same-length c = wrote-length (c .before .loop .inv .1)
 
 returns : tie.Need-returns Inv-loop μ-loop
-returns c = let e : c .before .loop .i ≡ c .before .before .before .before .before .before .args .count = omega arith in rw e at (c .before .loop .inv .1)
+returns c =
+    let entry = c .before .before .before .before .before .before in
+    let e : c .before .loop .i ≡ entry .args .count = omega arith in rw e at (c .before .loop .inv .1)
 
 pub put-lines-spec : {M : Type 1} → statement M
 put-lines-spec =

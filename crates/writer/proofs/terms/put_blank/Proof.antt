@@ -1,4 +1,4 @@
-use Rattle.writer.proofs.Chains.{both, room-after}
+use Rattle.writer.proofs.Chains.{both}
 use borrow.Author.Needs.{needs}
 use Rattle.writer.proofs.terms.put_blank.Statement.{statement}
 use Rattle.writer.proofs.terms.put_blank.Tie as tie

@@ -1,4 +1,3 @@
-use Rattle.writer.specs.Writing.{Room, Wrote}
 use Rattle.writer.proofs.Chains.{both, room-after}
 use Rattle.writer.proofs.Escapes.{escaped-plain}
 use borrow.Author.Needs.{needs}

@@ -9,19 +9,31 @@ is-xsd-string-requires : tie.Need-is-xsd-string-requires
 is-xsd-string-requires c κs = search needs
 
 returns : tie.Need-returns
-returns c = rw (type-none (c .before .before .before .before .args .datatype .now) (sym (c .before .is-xsd-string .ensures) ∙ c .if1 .taken)) (wrote-nothing (c .before .before .before .before .args .at) (c .before .before .before .before .args .out .now))
+returns c =
+    let entry = c .before .before .before .before in
+    let form = type-none (entry .args .datatype .now) (sym (c .before .is-xsd-string .ensures) ∙ c .if1 .taken) in
+    rw form (wrote-nothing (entry .args .at) (entry .args .out .now))
 
 put-two-requires : tie.Need-put-two-requires
-put-two-requires c κs = room-before _ _ (rw (type-some (c .before .before .before .before .before .args .datatype .now) (sym (c .before .before .is-xsd-string .ensures) ∙ c .before .if1 .left)) at (c .before .before .before .before .before .pre))
+put-two-requires c κs =
+    let entry = c .before .before .before .before .before in
+    let form = type-some (entry .args .datatype .now) (sym (c .before .before .is-xsd-string .ensures) ∙ c .before .if1 .left) in
+    room-before _ _ (rw form at (entry .pre))
 
 put-iri-requires : tie.Need-put-iri-requires
-put-iri-requires c κs = room-after (c .before .before .before .put-two .ensures) (rw (type-some (c .before .before .before .before .before .before .before .before .before .args .datatype .now) (sym (c .before .before .before .before .before .before .is-xsd-string .ensures) ∙ c .before .before .before .before .before .if1 .left)) at (c .before .before .before .before .before .before .before .before .before .pre))
+put-iri-requires c κs =
+    let entry = c .before .before .before .before .before .before .before .before .before in
+    let form = type-some (entry .args .datatype .now) (sym (c .before .before .before .before .before .before .is-xsd-string .ensures) ∙ c .before .before .before .before .before .if1 .left) in
+    room-after (c .before .before .before .put-two .ensures) (rw form at (entry .pre))
 
 same-length : tie.Need-same-length
 same-length c = search needs
 
 returns-2 : tie.Need-returns-2
-returns-2 c = rw (type-some (c .before .before .before .before .before .before .before .before .before .before .before .before .args .datatype .now) (sym (c .before .before .before .before .before .before .before .before .before .is-xsd-string .ensures) ∙ c .before .before .before .before .before .before .before .before .if1 .left)) (both (c .before .before .before .before .before .before .put-two .ensures) (c .before .before .put-iri .ensures))
+returns-2 c =
+    let entry = c .before .before .before .before .before .before .before .before .before .before .before .before in
+    let form = type-some (entry .args .datatype .now) (sym (c .before .before .before .before .before .before .before .before .before .is-xsd-string .ensures) ∙ c .before .before .before .before .before .before .before .before .if1 .left) in
+    rw form (both (c .before .before .before .before .before .before .put-two .ensures) (c .before .before .put-iri .ensures))
 
 pub put-type-spec : {M : Type 1} → statement M
 put-type-spec =
