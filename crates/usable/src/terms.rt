@@ -3,8 +3,6 @@ ghost use mathlib.Core.Path.{_≡_};
 ghost use mathlib.Core.List.{[]};
 ghost use Prim.Native.Nat.{_+_, _*_, _≤_, _<_};
 ghost use lib.ListN.{length};
-ghost use Rattle.text.specs.Text.{is-none};
-ghost use Rattle.utf8.specs.Utf8.{first-bad};
 ghost use Rattle.table.specs.Usable.{each, good-iri, good-datatype, good-tag, good-term};
 ghost use Rattle.usable.specs.Lent.{Stands, SpanIn, lent, readable, right-kind};
 use crate::fields::Kind;

@@ -1,0 +1,2 @@
+-- What a base is refused for.
+pub mod Base
