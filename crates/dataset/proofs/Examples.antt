@@ -1,7 +1,6 @@
 -- What tokens stand for, and what is in force after directives, by computing.
 use mathlib.Core.Path.{refl}
 use mathlib.Core.List.{List, [], _∷_}
-use mathlib.Core.Option.{none, some}
 use Prim.Native.String.{String}
 use Rattle.text.specs.Text.{Text, ascii}
 use Rattle.text.proofs.Table.{_⇒_, Gives}

@@ -3,7 +3,6 @@ use mathlib.Core.Path.{_≡_, refl, subst, sym, ap, ap₂, _∙_}
 use mathlib.Core.Logic.{_⊎_, inl, inr}
 use mathlib.Core.Bool.{Bool, true, false, not, _&&_, _||_}
 use mathlib.Core.List.{List, [], _∷_}
-use mathlib.Core.Option.{none}
 use Prim.Native.Nat.{ℕ, _-_, _≤_, _<_}
 use native.Mathlib.Omega.{arith}
 use borrow.Author.Tests.{eq-eqb, ne-eqb, le-leb}
@@ -15,7 +14,7 @@ use Rattle.utf8.proofs.Tests.{by, below, below-at, and-true}
 use Rattle.token.specs.Regular.{in-ranges, step}
 use Rattle.automaton.specs.Levels.{intervals}
 use Rattle.automaton.specs.States.{start, dead, after-sign, in-integer, after-dot, after-at, after-underscore, after-colon, after-caret, after-carets, open-states}
-use Rattle.automaton.specs.Run.{tok, answer, At, TokenAt}
+use Rattle.automaton.specs.Run.{tok, At, TokenAt}
 use Rattle.automaton.specs.declared.Next.{Next}
 use Rattle.automaton.specs.declared.Token.{Token}
 use Rattle.automaton.proofs.Steps.{only, always, never, sends, high-sends, Sent, Ends, begin, pass, gain, done, stop, at-end}

@@ -1,4 +1,7 @@
 // The reader's limits, named once. Sizes are in bytes.
+ghost use mathlib.Core.Path.{_≡_};
+ghost use Rattle.limits.specs.Limits.{work-size};
+
 pub struct Limits {}
 
 impl Limits {
@@ -13,4 +16,11 @@ impl Limits {
     pub const DEPTH: usize = 64;
     // The least work slice: the prefixes with their namespaces, and the base.
     pub const WORK: usize = Self::PREFIXES * (Self::PREFIX + Self::IRI) + Self::IRI;
+
+    // The same, as the definitions have it.
+    pub fn work_size() -> usize
+        ensures { λ r. ⌜ r ≡ work-size ⌝ }
+    {
+        Limits::WORK
+    }
 }

@@ -41,7 +41,7 @@ harmless-iri at s g = record {
   character = ap bad-escape (iri-bytes s (g .utf8)) ∙ good-escaped iri-rule 60 62 s refl refl;
   declared = refl;
   based = let e = ap has-scheme (iri-reference at s (g .utf8)) ∙ g .scheme in simp e;
-  short = let e = iri-reference at s (g .utf8) in let l = le-ltb iri-limit (length s) (g .short) in simp (e, l);
+  short = let e = iri-reference at s (g .utf8) in let l = le-ltb iri-limit (length s) (g .short) in simp (e, l, g .scheme);
   shallow = λ d. refl;
   plain = refl;
 }

@@ -3,7 +3,7 @@ ghost use mathlib.Core.Path.{_≡_};
 ghost use Prim.Native.Nat.{_+_, _≤_, _<_};
 ghost use lib.ListN.{length, replicate};
 ghost use Rattle.limits.specs.Limits.{prefixes-limit, work-size};
-ghost use Rattle.scope.specs.Code.{words-size, at-most, binding, count, listed, place, in-force, base-cell, Usable, FoundIn, WroteBinding, Declares, SetsBase};
+ghost use Rattle.scope.specs.Code.{words-size, at-most, binding, count, listed, place, in-force, Usable, FoundIn, WroteBinding, Declares, SetsBase};
 use limits::Limits;
 
 // Where things stand: in the work slice a cell for each prefix and its namespace, and one for the base; in the array the
