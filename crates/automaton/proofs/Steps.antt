@@ -14,7 +14,7 @@ use lib.Seq.{drop-at, drop-drop, getD-drop}
 use Rattle.text.specs.Text.{Text, cond}
 use Rattle.utf8.specs.Utf8.{encode, encodes, width}
 use Rattle.utf8.specs.Scalar.{Scalar, Scalars, Highs}
-use Rattle.utf8.proofs.Tests.{by, split, below, below-at, and-true, and-left, and-right}
+use Rattle.utf8.proofs.Tests.{split, below, below-at, and-true, and-left, and-right}
 use Rattle.utf8.proofs.Encoding.{head, length-encode, width-pos, highs-encode}
 use Rattle.token.specs.Regular.{Match, nothing, hit, step, now-at}
 use Rattle.token.specs.Terminals.{terminals, long-terminals, tripled, token-at}

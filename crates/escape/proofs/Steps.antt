@@ -10,7 +10,7 @@ use borrow.Author.Tests.{eq-eqb, ne-eqb, eqb-true, eqb-false, le-ltb, ltb-true, 
 use Rattle.text.specs.Text.{Text}
 use Rattle.text.proofs.Compare.{by}
 use Rattle.utf8.specs.Utf8.{encode, width}
-use Rattle.escape.specs.Escape.{Piece, plain, numeric, letter, outside, behind, digits, hex-value, letter-value, pieces-from, pieces, unescape-piece, unescape-pieces, bad-pieces, no-character, unreserve}
+use Rattle.escape.specs.Escape.{Piece, plain, numeric, letter, outside, behind, digits, hex-value, letter-value, pieces-from, unescape-piece, unescape-pieces, bad-pieces, no-character, unreserve}
 use Rattle.escape.specs.Escape as escape
 use Rattle.escape.specs.Code.{inside, gives, step-outside, step-behind, step-name, step-digit, step, four, piece, bad, place, undone, most, Fair}
 use Rattle.escape.specs.declared.Scan.{Scan}

@@ -1,14 +1,13 @@
 // Escapes: numeric and string escapes in references and strings, reserved character escapes in local names.
 ghost use mathlib.Core.Path.{_≡_};
 ghost use mathlib.Core.Bool.{true, false};
-ghost use mathlib.Core.List.{_++_};
 ghost use Prim.Native.Nat.{_+_, _≤_, _<_};
 ghost use lib.ListN.{length, drop};
 ghost use Rattle.text.specs.Text.{is, same-text, begins, some-byte};
 ghost use Rattle.text.specs.Slice.{over, over-at};
 ghost use Rattle.utf8.specs.Utf8.{width};
 ghost use Rattle.escape.specs.Escape.{hex-value, letter-value, no-character, bad-escape, unescape, unreserve};
-ghost use Rattle.escape.specs.Code.{step-outside, step-behind, step-name, step-digit, step, four, bad, undone, low, Fair, Starts, Written};
+ghost use Rattle.escape.specs.Code.{step-outside, step-behind, step-name, step-digit, step, four, bad, undone, low, Starts, Written};
 
 // A place in an escaped text. left: 0 outside an escape, 9 behind a backslash, 1 to 8 where so many hex digits
 // are to come, 10 in a local name. n: how many bytes the piece that has just ended stands for; value: its
@@ -407,26 +406,4 @@ pub fn write_unreserved(s: &[u8], out: &mut [u8]) -> usize
     ensures { λ r. ⌜ (r ≡ length (unreserve (now (s .entry)))) × (now (out .exit) ≡ over (unreserve (now (s .entry))) (now (out .entry))) ⌝ }
 {
     write_from(Scan::name(), s, out)
-}
-
-// Whether t is the namespace joined to the local name with its escapes undone.
-pub fn same_joined(namespace: &[u8], local: &[u8], t: &[u8]) -> bool
-    ensures { λ r. ⌜ r ≡ same-text (now (namespace .entry) ++ unreserve (now (local .entry))) (now (t .entry)) ⌝ }
-{
-    let n = namespace.len();
-    if text::begins(namespace, t) {
-        return same_unreserved(local, &t[n..]);
-    }
-    false
-}
-
-// Writes the namespace joined to the local name with its escapes undone over the front of out, as far as out goes.
-pub fn write_joined(namespace: &[u8], local: &[u8], out: &mut [u8])
-    ensures { λ r. ⌜ now (out .exit) ≡ over (now (namespace .entry) ++ unreserve (now (local .entry))) (now (out .entry)) ⌝ }
-{
-    let n = namespace.len();
-    text::copy(namespace, out);
-    if n <= out.len() {
-        write_unreserved(local, &mut out[n..]);
-    }
 }

@@ -12,7 +12,7 @@ use Rattle.text.specs.Text.{Text, ascii, cond, empty, begins}
 use Rattle.text.proofs.Compare.{by, contrary}
 use Rattle.iri.specs.Iri.{scheme}
 use Rattle.iri.specs.Dots.{remove-dot-segments, turns}
-use Rattle.iri.specs.Resolve.{Parts, defined, parts, up-to-last-slash, merge, transform, recompose, resolve-by, resolve, resolve-with-dots}
+use Rattle.iri.specs.Resolve.{Parts, defined, up-to-last-slash, merge, transform, recompose, resolve-by, resolve, resolve-with-dots}
 use Rattle.iri.specs.Code.{before, stop, slash-end, scheme-end, authority-length, path-end, query-end, ends-of, plan-by, plan-of, Planned}
 use Rattle.iri.specs.declared.Part.the-variants.{Colon}
 use Rattle.iri.specs.declared.Ends.{Ends}

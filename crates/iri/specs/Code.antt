@@ -1,4 +1,4 @@
--- What the helper functions of the code promise.
+-- What the routines promise each other.
 use Prim.Native.Nat.{ℕ, zero, suc, _+_, _-_, _≤_}
 use mathlib.Core.Path.{_≡_}
 use mathlib.Core.List.{[], _∷_, _++_}

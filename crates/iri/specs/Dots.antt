@@ -1,6 +1,6 @@
 -- RFC 3986, section 5.2.4: Remove Dot Segments.
-use mathlib.Core.List.{List, [], _∷_, _++_}
-use mathlib.Core.Bool.{Bool, true, false, _||_}
+use mathlib.Core.List.{[], _∷_, _++_}
+use mathlib.Core.Bool.{_||_}
 use Prim.Native.Nat.{ℕ, zero, suc}
 use lib.ListN.{length, drop}
 use Rattle.text.specs.Text.{Text, ascii, cond, is, same-text, begins, until, from, some-byte}

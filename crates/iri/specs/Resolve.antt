@@ -1,6 +1,6 @@
 -- RFC 3986, section 5.2: relative resolution.
-use mathlib.Core.List.{List, [], _∷_, _++_}
-use mathlib.Core.Bool.{Bool, true, false, not, _&&_}
+use mathlib.Core.List.{[], _∷_, _++_}
+use mathlib.Core.Bool.{Bool, not, _&&_}
 use Prim.Native.Nat.{ℕ}
 use lib.ListN.{drop}
 use Rattle.text.specs.Text.{Text, ascii, cond, is, one-of, empty, begins, until, from, some-byte, computing as text-computing}

@@ -19,7 +19,7 @@ use Rattle.automaton.specs.States.{State, after-colon, first-local, in-local, l
 use Rattle.automaton.specs.Run.{tok, At, TokenAt}
 use Rattle.automaton.proofs.Steps.{only, never, sends, high-sends, mimics, Sent, Ends, Alias, pass, done, at-end, as-other}
 use Rattle.characters.specs.Bytes.{hex, name, local, local-first, label-first, reserved}
-use Rattle.characters.specs.Names.{base, inner, passes, CharAt}
+use Rattle.characters.specs.Names.{base, inner, CharAt}
 use Rattle.characters.specs.Runs.{hex-run}
 use Rattle.characters.proofs.Sets.{take-pass, take-gain}
 use Rattle.characters.proofs.Points.{CharSent, CharEnds, char-on, char-off}

@@ -1,6 +1,5 @@
 // Numbers. Each routine goes on where the part before it has been read.
 ghost use Prim.Native.Nat.{_+_, _<_};
-ghost use lib.ListN.{length};
 ghost use Rattle.token.specs.Kind.{kind-code, INTEGER, DECIMAL, DOUBLE, dot};
 ghost use Rattle.automaton.specs.States.{after-sign, in-integer, integer-dot, after-dot, in-fraction, after-e, in-exponent};
 ghost use Rattle.automaton.specs.Run.{At, TokenAt};

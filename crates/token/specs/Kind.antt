@@ -1,6 +1,6 @@
 -- The kinds of token (TriG, section 4.5). ANON and NIL are two tokens each.
 use mathlib.Core.List.{List, [], _∷_}
-use mathlib.Core.Bool.{Bool, true, false, _||_}
+use mathlib.Core.Bool.{Bool, false, _||_}
 use Prim.Native.Nat.{ℕ, pred}
 use lib.Dec.{eqb}
 use lib.ListN.{getD}

@@ -2,11 +2,11 @@
 use mathlib.Core.List.{List, [], _∷_}
 use mathlib.Core.Bool.{Bool, true, false, _||_}
 use Prim.Native.Nat.{ℕ, zero, suc, _+_, _-_}
-use lib.ListN.{take, drop, length}
+use lib.ListN.{take, drop}
 use Rattle.text.specs.Text.{Text, cond, is, one-of}
 use Rattle.utf8.specs.Utf8.{width, decode, computing as utf8-computing}
 use Rattle.token.specs.Kind.{Kind, kind-of-code, among}
-use Rattle.token.specs.Regular.{Match, nothing, hit}
+use Rattle.token.specs.Regular.{nothing, hit}
 use Rattle.token.specs.Terminals.{token-at}
 
 -- A token: its kind, the place of its first byte, and its bytes.

@@ -13,7 +13,6 @@ use lib.Seq.{take-at, take-all, drop-at, drop-drop, drop-cons}
 use Rattle.text.specs.Text.{Text, cond}
 use Rattle.utf8.specs.Utf8.{sequence-size, lead-bits, more-bits, code-point, decode-from, decode, bad-from, first-bad, encode, encodes}
 use Rattle.utf8.specs.Scalar.{Scalar, Scalars, Encodes}
-use Rattle.utf8.proofs.Tests.{by}
 use Rattle.utf8.proofs.Encoding.{by-width, length-encode, width-pos, width-most, size-encode, size-one, size-reads}
 
 -- ---- Decoding what was encoded

@@ -1,6 +1,5 @@
 // UTF-8: the sequence at the front of some bytes, its code point, and the first bad sequence of a text.
 ghost use mathlib.Core.Path.{_≡_};
-ghost use mathlib.Core.Bool.{Bool};
 ghost use lib.ListN.{take};
 ghost use Rattle.text.specs.Text.{is-none, between};
 ghost use Rattle.utf8.specs.Utf8.{sequence-size, code-point, first-bad};
