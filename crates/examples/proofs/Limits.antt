@@ -19,7 +19,7 @@ limits : Gives verdict (
     -- 10 before 11
     ∷ trig (S "<" ++ times 1025 "a" ++ utf8 "> .") ⇒ 10 at 12
     -- before its dot segments go
-    ∷ trig (utf8 "@base <x:/> . " ++ S "<" ++ times 510 "./" ++ utf8 "> .") ⇒ 0 at 1050
+    ∷ trig (utf8 "@base <x:/> . " ++ S "<" ++ times 510 "./" ++ utf8 "a> .") ⇒ 0 at 1051
     ∷ trig (utf8 "@base <x:/> . " ++ S "<" ++ times 511 "./" ++ utf8 "> .") ⇒ 11 at 26
     -- as joined
     ∷ trig (utf8 "@prefix p: <x:> . " ++ S "p:" ++ times 1022 "\\-" ++ utf8 " .") ⇒ 0 at 2078

@@ -1,131 +1,78 @@
 -- More computed tests on the frames: none may be empty, and the optional part of a string is decided by the next token.
 use mathlib.Core.List.{[]}
-use mathlib.Core.Bool.{true, false}
+use mathlib.Core.Bool.{Bool, true, false, _&&_}
 use lib.Dec.{T}
 use Rattle.grammar.proofs.Recogniser.{isSome, gate, nullE, nullN, null, nullS, afterE, afterN, after, step}
 use Rattle.token.proofs.KindCodes.{same, all-kinds}
 use Rattle.token.specs.Kind.{Kind, kinds}
 use Rattle.grammar.specs.Productions.{Mode, trig, turtle, production}
 use Rattle.grammar.proofs.Modes.{levels}
-use Rattle.text.proofs.Booleans.{all}
+use Rattle.text.proofs.Booleans.{all, and-0, and-1}
 use Rattle.machine.specs.Frame.{full-stop, brace, bracket-end, top, subject-before, object-of, element-of, Frame, graph-label, closing-label, graph-body, label-or-subject, triples-or-end, verb, verb-or-end, object, after-object, after-semicolon, bracket, list, suffix, datatype, Directive, prefix-name, namespace-of, new-base, last-dot, directive, statement}
 use Rattle.machine.proofs.Stands.{stands, stands-open}
 use Rattle.machine.proofs.Beneath.{solid}
 use Rattle.machine.proofs.Decide.{tame, tame-all, is-nil}
 
-tame-test : (mode : Mode) (f : Frame) → T (all (λ k. tame-all mode (step same (production mode) levels (stands f) k)) kinds)
+-- After any token the frame's stacks are tame.
+abbrev all-tame : Mode → Frame → Bool
+all-tame mode f = all (λ k. tame-all mode (step same (production mode) levels (stands f) k)) kinds
+
+-- One test of each frame.
+frame-test : (mode : Mode) (f : Frame) → T (all-tame mode f && (solid same (production mode) levels (stands f) && isSome (stands f)))
 unfolding tame-all tame is-nil solid all isSome step same production gate nullE nullN null nullS afterE afterN after
-tame-test mode graph-label = tt
-tame-test mode (closing-label g) = tt
-tame-test mode (graph-body g) = tt
-tame-test mode (label-or-subject n) = tt
-tame-test trig triples-or-end = tt
-tame-test turtle triples-or-end = tt
-tame-test mode (verb s full-stop) = tt
-tame-test mode (verb-or-end s full-stop) = tt
-tame-test trig (object s p full-stop) = tt
-tame-test turtle (object s p full-stop) = tt
-tame-test mode (after-object s p full-stop) = tt
-tame-test mode (after-semicolon s full-stop) = tt
-tame-test mode (verb s brace) = tt
-tame-test mode (verb-or-end s brace) = tt
-tame-test trig (object s p brace) = tt
-tame-test turtle (object s p brace) = tt
-tame-test mode (after-object s p brace) = tt
-tame-test mode (after-semicolon s brace) = tt
-tame-test mode (verb s bracket-end) = tt
-tame-test mode (verb-or-end s bracket-end) = tt
-tame-test trig (object s p bracket-end) = tt
-tame-test turtle (object s p bracket-end) = tt
-tame-test mode (after-object s p bracket-end) = tt
-tame-test mode (after-semicolon s bracket-end) = tt
-tame-test mode (bracket top n) = tt
-tame-test mode (bracket (subject-before full-stop) n) = tt
-tame-test mode (bracket (subject-before brace) n) = tt
-tame-test mode (bracket (subject-before bracket-end) n) = tt
-tame-test mode (bracket (object-of a b) n) = tt
-tame-test mode (bracket (element-of a) n) = tt
-tame-test trig (list top at cs) = tt
-tame-test turtle (list top at cs) = tt
-tame-test trig (list (subject-before full-stop) at cs) = tt
-tame-test turtle (list (subject-before full-stop) at cs) = tt
-tame-test trig (list (subject-before brace) at cs) = tt
-tame-test turtle (list (subject-before brace) at cs) = tt
-tame-test trig (list (subject-before bracket-end) at cs) = tt
-tame-test turtle (list (subject-before bracket-end) at cs) = tt
-tame-test trig (list (object-of a b) at cs) = tt
-tame-test turtle (list (object-of a b) at cs) = tt
-tame-test trig (list (element-of a) at cs) = tt
-tame-test turtle (list (element-of a) at cs) = tt
-tame-test mode (suffix place at x) = tt
-tame-test mode (datatype place at x) = tt
+frame-test mode graph-label = tt
+frame-test mode (closing-label g) = tt
+frame-test mode (graph-body g) = tt
+frame-test mode (label-or-subject n) = tt
+frame-test trig triples-or-end = tt
+frame-test turtle triples-or-end = tt
+frame-test mode (verb s full-stop) = tt
+frame-test mode (verb-or-end s full-stop) = tt
+frame-test trig (object s p full-stop) = tt
+frame-test turtle (object s p full-stop) = tt
+frame-test mode (after-object s p full-stop) = tt
+frame-test mode (after-semicolon s full-stop) = tt
+frame-test mode (verb s brace) = tt
+frame-test mode (verb-or-end s brace) = tt
+frame-test trig (object s p brace) = tt
+frame-test turtle (object s p brace) = tt
+frame-test mode (after-object s p brace) = tt
+frame-test mode (after-semicolon s brace) = tt
+frame-test mode (verb s bracket-end) = tt
+frame-test mode (verb-or-end s bracket-end) = tt
+frame-test trig (object s p bracket-end) = tt
+frame-test turtle (object s p bracket-end) = tt
+frame-test mode (after-object s p bracket-end) = tt
+frame-test mode (after-semicolon s bracket-end) = tt
+frame-test mode (bracket top n) = tt
+frame-test mode (bracket (subject-before full-stop) n) = tt
+frame-test mode (bracket (subject-before brace) n) = tt
+frame-test mode (bracket (subject-before bracket-end) n) = tt
+frame-test mode (bracket (object-of a b) n) = tt
+frame-test mode (bracket (element-of a) n) = tt
+frame-test trig (list top at cs) = tt
+frame-test turtle (list top at cs) = tt
+frame-test trig (list (subject-before full-stop) at cs) = tt
+frame-test turtle (list (subject-before full-stop) at cs) = tt
+frame-test trig (list (subject-before brace) at cs) = tt
+frame-test turtle (list (subject-before brace) at cs) = tt
+frame-test trig (list (subject-before bracket-end) at cs) = tt
+frame-test turtle (list (subject-before bracket-end) at cs) = tt
+frame-test trig (list (object-of a b) at cs) = tt
+frame-test turtle (list (object-of a b) at cs) = tt
+frame-test trig (list (element-of a) at cs) = tt
+frame-test turtle (list (element-of a) at cs) = tt
+frame-test mode (suffix place at x) = tt
+frame-test mode (datatype place at x) = tt
 
 pub frame-tame : (mode : Mode) (f : Frame) (k : Kind) → T (tame-all mode (step same (production mode) levels (stands f) k))
-frame-tame mode f k = all-kinds (λ j. tame-all mode (step same (production mode) levels (stands f) j)) (tame-test mode f) k
+frame-tame mode f k = all-kinds (λ j. tame-all mode (step same (production mode) levels (stands f) j)) (and-0 (all-tame mode f) _ (frame-test mode f)) k
 
 pub frame-solid : (mode : Mode) (f : Frame) → T (solid same (production mode) levels (stands f))
-unfolding tame-all tame is-nil solid all isSome step same production gate nullE nullN null nullS afterE afterN after
-frame-solid mode graph-label = tt
-frame-solid mode (closing-label g) = tt
-frame-solid mode (graph-body g) = tt
-frame-solid mode (label-or-subject n) = tt
-frame-solid trig triples-or-end = tt
-frame-solid turtle triples-or-end = tt
-frame-solid mode (verb s full-stop) = tt
-frame-solid mode (verb-or-end s full-stop) = tt
-frame-solid trig (object s p full-stop) = tt
-frame-solid turtle (object s p full-stop) = tt
-frame-solid mode (after-object s p full-stop) = tt
-frame-solid mode (after-semicolon s full-stop) = tt
-frame-solid mode (verb s brace) = tt
-frame-solid mode (verb-or-end s brace) = tt
-frame-solid trig (object s p brace) = tt
-frame-solid turtle (object s p brace) = tt
-frame-solid mode (after-object s p brace) = tt
-frame-solid mode (after-semicolon s brace) = tt
-frame-solid mode (verb s bracket-end) = tt
-frame-solid mode (verb-or-end s bracket-end) = tt
-frame-solid trig (object s p bracket-end) = tt
-frame-solid turtle (object s p bracket-end) = tt
-frame-solid mode (after-object s p bracket-end) = tt
-frame-solid mode (after-semicolon s bracket-end) = tt
-frame-solid mode (bracket top n) = tt
-frame-solid mode (bracket (subject-before full-stop) n) = tt
-frame-solid mode (bracket (subject-before brace) n) = tt
-frame-solid mode (bracket (subject-before bracket-end) n) = tt
-frame-solid mode (bracket (object-of a b) n) = tt
-frame-solid mode (bracket (element-of a) n) = tt
-frame-solid trig (list top at cs) = tt
-frame-solid turtle (list top at cs) = tt
-frame-solid trig (list (subject-before full-stop) at cs) = tt
-frame-solid turtle (list (subject-before full-stop) at cs) = tt
-frame-solid trig (list (subject-before brace) at cs) = tt
-frame-solid turtle (list (subject-before brace) at cs) = tt
-frame-solid trig (list (subject-before bracket-end) at cs) = tt
-frame-solid turtle (list (subject-before bracket-end) at cs) = tt
-frame-solid trig (list (object-of a b) at cs) = tt
-frame-solid turtle (list (object-of a b) at cs) = tt
-frame-solid trig (list (element-of a) at cs) = tt
-frame-solid turtle (list (element-of a) at cs) = tt
-frame-solid mode (suffix place at x) = tt
-frame-solid mode (datatype place at x) = tt
+frame-solid mode f = and-0 (solid same (production mode) levels (stands f)) (isSome (stands f)) (and-1 (all-tame mode f) _ (frame-test mode f))
 
 pub frame-some : (f : Frame) → T (isSome (stands f))
-unfolding isSome
-frame-some graph-label = tt
-frame-some (closing-label g) = tt
-frame-some (graph-body g) = tt
-frame-some (label-or-subject n) = tt
-frame-some triples-or-end = tt
-frame-some (verb s e) = tt
-frame-some (verb-or-end s e) = tt
-frame-some (object s p e) = tt
-frame-some (after-object s p e) = tt
-frame-some (after-semicolon s e) = tt
-frame-some (bracket q n) = tt
-frame-some (list q at cs) = tt
-frame-some (suffix q at x) = tt
-frame-some (datatype q at x) = tt
+frame-some f = and-1 (solid same (production trig) levels (stands f)) (isSome (stands f)) (and-1 (all-tame trig f) _ (frame-test trig f))
 
 tame-directive-test : (mode : Mode) (d : Directive) → T (all (λ k. tame-all mode (step same (production mode) levels (stands-open mode (directive d)) k)) kinds)
 unfolding tame-all tame is-nil solid all isSome step same production gate nullE nullN null nullS afterE afterN after
