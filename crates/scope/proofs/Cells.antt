@@ -8,7 +8,7 @@ use mathlib.Core.Logic.{⊎-elim, _⊎_, inl, inr}
 use native.Mathlib.Nat.{zero-add, suc-add}
 use native.Mathlib.Omega.{arith}
 use lib.ListN.{length, getD, take, drop, set, length-drop, length-set}
-use lib.Seq.{take-nil, getD-set-same, getD-set-other}
+use lib.Seq.{take-nil, take-take, getD-set-same, getD-set-other}
 use lib.Dec.{leb, ltb}
 use borrow.Author.Tests.{leb-true, le-leb, ltb-true, ltb-false}
 use Rattle.text.specs.Text.{Text, same-text}
@@ -16,7 +16,7 @@ use Rattle.text.specs.Slice.{over-at}
 use Rattle.text.proofs.Compare.{by}
 use Rattle.text.proofs.Over.{over-front, over-at-length, over-at-before, over-at-back, over-at-from}
 use Rattle.scope.specs.Environment.{bind}
-use Rattle.scope.specs.Code.{at-most, cell, binding, count, listed, place, base-cell, in-force, FoundIn, Usable, WroteBinding}
+use Rattle.scope.specs.Code.{at-most, cell, binding, count, listed, place, base-cell, in-force, FoundIn, Usable, WroteBinding, Beside}
 use Rattle.scope.specs.declared.Found.the-variants.{At, Missing}
 use Rattle.scope.proofs.Bindings.{lookup-at, lookup-none}
 
@@ -74,6 +74,14 @@ module _ (x s : Text) (at start size n : ℕ) where
   unfolding cell
   kept-behind h = rw (over-at-back at s x start h)
 
+-- A cell in the front part of two texts that agree there.
+pub front-cell : (x y : Text) (start size n : ℕ) → take 35840 y ≡ take 35840 x → start + size ≤ 35840 → cell y start size n ≡ cell x start size n
+unfolding cell
+front-cell x y start size n e h =
+    let m : ℕ = at-most n size in
+    let l : start + m ≤ 35840 = omega (arith, most-at n size) in
+    take-drop m start y ∙ ap (drop start) (sym (take-take (start + m) 35840 y l) ∙ ap (take (start + m)) e ∙ take-take (start + m) 35840 x l) ∙ sym (take-drop m start x)
+
 -- A text that is written into a cell is read from it.
 pub cell-new : (x s : Text) (at size n : ℕ) → n ≡ length s → length s ≤ size → at + length s ≤ length x → cell (over-at at s x) at size n ≡ s
 unfolding cell
@@ -100,6 +108,15 @@ module _ (work work' : Text) (lens lens' : List ℕ) (i : ℕ) (p ns : Text) (w 
   other-length k h g =
       ap (λ (l : List ℕ). getD l k 0) (w .lengths)
       ∙ (getD-set-other (set lens i (length p)) (32 + i) k (length ns) 0 g ∙ getD-set-other lens i k (length p) 0 h)
+
+  pub written-beside : Beside work work' lens lens'
+  written-beside = record {
+    own = λ k h. other-length k (λ e. omega arith) (λ e. omega arith);
+    behind =
+        ap (drop 35840) (w .texts)
+        ∙ (over-at-back (i * 1088 + 64) ns middle 35840 (omega arith) ∙ over-at-back (i * 1088) p work 35840 (omega arith));
+    long = written-length;
+  }
 
   prefix-length : getD lens' i 0 ≡ length p
   prefix-length =

@@ -10,12 +10,12 @@ use lib.Dec.{leb}
 use borrow.Author.Tests.{lt-ltb, le-ltb, le-leb, lt-leb}
 use Rattle.text.specs.Text.{Text, cond}
 use Rattle.text.specs.Slice.{over, over-at}
-use Rattle.text.proofs.Over.{over-at-length, over-part}
+use Rattle.text.proofs.Over.{over-at-length, over-at-back, over-part}
 use Rattle.scope.specs.Environment.{Binding, bind, bound, start-environment}
-use Rattle.scope.specs.Code.{is-declared, declare-answer, after-declare, at-most, cell, binding, count, listed, place, base-cell, in-force, Usable, WroteBinding, Declares, SetsBase}
+use Rattle.scope.specs.Code.{is-declared, declare-answer, after-declare, at-most, cell, binding, count, listed, place, base-cell, in-force, Usable, WroteBinding, Beside, Declares, SetsBase}
 use Rattle.scope.specs.declared.Declared.the-variants.{Done, TooLong, TooMany}
 use Rattle.scope.proofs.Bindings.{not-declared, declared-at, listed-length, listed-same, declare-again, declare-new}
-use Rattle.scope.proofs.Cells.{cell-read, most-at, most-small, cell-new, kept-before, binding-new, binding-other, base-stays, count-stays, written-usable}
+use Rattle.scope.proofs.Cells.{cell-read, most-at, most-small, cell-new, kept-before, front-cell, binding-new, binding-other, base-stays, count-stays, written-usable, written-beside}
 
 -- The whole slice, lent as a part of itself.
 pub whole : (x : Text) → take (length x - 0) (drop 0 x) ≡ x
@@ -39,15 +39,18 @@ base-by : (work : Text) (lens lens' : List ℕ) → ((k : ℕ) → (k ≡ 64 →
 unfolding base-cell
 base-by work lens lens' same = rw (same 65 (λ e. omega arith))
 
+beside-same : (work : Text) (lens : List ℕ) → Beside work work lens lens
+beside-same work lens = record { own = λ k h. refl; behind = refl; long = refl }
+
 module _ (work : Text) (lens : List ℕ) (p ns : Text) (u : Usable work lens) where
   pub prefix-too-long : 64 < length p → Declares work work lens lens p ns TooLong
   unfolding declare-answer after-declare
-  prefix-too-long h = record { answer = rw (lt-ltb 64 (length p) h); after = refl; usable = u }
+  prefix-too-long h = record { answer = rw (lt-ltb 64 (length p) h); after = refl; usable = u; beside = beside-same work lens }
 
   module _ (hp : length p ≤ 64) where
     pub namespace-too-long : 1024 < length ns → Declares work work lens lens p ns TooLong
     unfolding declare-answer after-declare
-    namespace-too-long h = record { answer = rw (le-ltb 64 (length p) hp, lt-ltb 1024 (length ns) h); after = refl; usable = u }
+    namespace-too-long h = record { answer = rw (le-ltb 64 (length p) hp, lt-ltb 1024 (length ns) h); after = refl; usable = u; beside = beside-same work lens }
 
     module _ (hn : length ns ≤ 1024) (n i : ℕ) (en : n ≡ count lens) (ei : i ≡ place p (listed (binding work lens) 0 n)) (hi : i ≤ n) where
       abbrev f : ℕ → Binding
@@ -67,6 +70,7 @@ module _ (work : Text) (lens : List ℕ) (p ns : Text) (u : Usable work lens) wh
         answer = sym (answer-by false (not-declared p f 0 n (omega arith)) ∙ rw (le-leb 32 n (omega arith)));
         after = refl;
         usable = u;
+        beside = beside-same work lens;
       }
 
       -- The binding is written at the prefix's place.
@@ -83,13 +87,14 @@ module _ (work : Text) (lens : List ℕ) (p ns : Text) (u : Usable work lens) wh
               answer = sym (answer-by true (declared-at p f 0 n (omega arith)));
               after = rw (c, bs, base-stays work work' lens lens' i p ns w u small hp hn, ← en);
               usable = written-usable work work' lens lens' i p ns w u small hp hn;
+              beside = written-beside work work' lens lens' i p ns w u small hp hn;
             }
 
         pub declared-first : (lens'' : List ℕ) → n ≤ i → lens'' ≡ set lens' 64 (n + 1) → Declares work work' lens lens'' p ns Done
         unfolding after-declare in-force
         declared-first lens'' h e'' =
-            let words : length lens' ≡ 66 = written-usable work work' lens lens' i p ns w u small hp hn .words in
-            let words'' : length lens'' ≡ 66 = ap length e'' ∙ (length-set lens' 64 (n + 1) ∙ words) in
+            let words : length lens' ≡ 90 = written-usable work work' lens lens' i p ns w u small hp hn .words in
+            let words'' : length lens'' ≡ 90 = ap length e'' ∙ (length-set lens' 64 (n + 1) ∙ words) in
             let total : getD lens'' 64 0 ≡ n + 1 = ap (λ (l : List ℕ). getD l 64 0) e'' ∙ getD-set-same lens' 64 (n + 1) 0 (omega arith) in
             let c : count lens'' ≡ suc n = rw total (most-small (n + 1) 32 (omega arith) ∙ omega arith) in
             let same : (k : ℕ) → (k ≡ 64 → ⊥) → getD lens'' k 0 ≡ getD lens' k 0 = λ k q. ap (λ (l : List ℕ). getD l k 0) e'' ∙ getD-set-other lens' 64 k (n + 1) 0 q in
@@ -103,6 +108,9 @@ module _ (work : Text) (lens : List ℕ) (p ns : Text) (u : Usable work lens) wh
               answer = sym (answer-by false (not-declared p f 0 n (omega arith)) ∙ rw (lt-leb 32 n (omega arith)));
               after = rw (c, bs, b, ← en);
               usable = record { room = written-usable work work' lens lens' i p ns w u small hp hn .room; words = words'' };
+              beside =
+                  let o = written-beside work work' lens lens' i p ns w u small hp hn in
+                  record { own = λ k h. same k (λ e. omega arith) ∙ o .own k h; behind = o .behind; long = o .long };
             }
 
 -- Setting the base leaves the bindings.
@@ -123,7 +131,7 @@ new-base work work' lens' iri ew el h room = rw ew (cell-new work iri 34816 1024
 
 module _ (work : Text) (lens : List ℕ) (iri : Text) (u : Usable work lens) where
   pub base-too-long : 1024 < length iri → SetsBase work work lens lens iri false
-  base-too-long h = record { answer = sym (lt-leb (length iri) 1024 h); after = refl; usable = u }
+  base-too-long h = record { answer = sym (lt-leb (length iri) 1024 h); after = refl; usable = u; beside = beside-same work lens }
 
   pub base-set : (work' : Text) (lens' : List ℕ) → length iri ≤ 1024 → work' ≡ over-at 34816 iri work → lens' ≡ set lens 65 (length iri) → SetsBase work work' lens lens' iri true
   unfolding in-force
@@ -140,6 +148,12 @@ module _ (work : Text) (lens : List ℕ) (iri : Text) (u : Usable work lens) whe
           room = omega (arith, ap length ew, over-at-length 34816 iri work, u .room);
           words = ap length el ∙ (length-set lens 65 (length iri) ∙ u .words);
         };
+        beside =
+            record {
+              own = λ k q. same k (λ e. omega arith);
+              behind = ap (drop 35840) ew ∙ over-at-back 34816 iri work 35840 (omega arith);
+              long = ap length ew ∙ over-at-length 34816 iri work;
+            };
       }
 
 -- The base is read from its cell.
@@ -155,3 +169,30 @@ count-is work lens = listed-length work (binding work lens) 0 (count lens)
 pub fresh-is : (work : Text) → in-force work (replicate 66 0) ≡ start-environment []
 unfolding in-force listed base-cell cell
 fresh-is work = refl
+
+bound-words : (work : Text) (lens lens' : List ℕ) (j : ℕ) → getD lens' j 0 ≡ getD lens j 0 → getD lens' (32 + j) 0 ≡ getD lens (32 + j) 0 → binding work lens' j ≡ binding work lens j
+unfolding binding
+bound-words work lens lens' j e f = rw (e, f)
+
+front-binding : (work work' : Text) (lens : List ℕ) (j : ℕ) → take 35840 work' ≡ take 35840 work → j < 32 → binding work' lens j ≡ binding work lens j
+unfolding binding
+front-binding work work' lens j e h = rw (front-cell work work' (j * 1088) 64 (getD lens j 0) e (omega arith), front-cell work work' (j * 1088 + 64) 1024 (getD lens (32 + j) 0) e (omega arith))
+
+-- The environment depends on the words before the caller's own, and on the front of the work slice.
+pub in-force-words : (work : Text) (lens lens' : List ℕ) → ((k : ℕ) → k < 66 → getD lens' k 0 ≡ getD lens k 0) → in-force work lens' ≡ in-force work lens
+unfolding in-force base-cell
+in-force-words work lens lens' same =
+    let c : count lens' ≡ count lens = rw (same 64 (omega arith)) in
+    let bs : listed (binding work lens') 0 (count lens) ≡ listed (binding work lens) 0 (count lens) =
+    listed-same [] (binding work lens) [] (binding work lens') 0 (count lens) (λ j l m. by-words work lens lens' same j (omega (arith, most-at (getD lens 64 0) 32))) in
+    rw (c, bs, same 65 (omega arith))
+  where
+    by-words : (work : Text) (lens lens' : List ℕ) → ((k : ℕ) → k < 66 → getD lens' k 0 ≡ getD lens k 0) → (j : ℕ) → j < 32 → binding work lens' j ≡ binding work lens j
+    by-words work lens lens' same j h = bound-words work lens lens' j (same j (omega arith)) (same (32 + j) (omega arith))
+
+pub in-force-front : (work work' : Text) (lens : List ℕ) → take 35840 work' ≡ take 35840 work → in-force work' lens ≡ in-force work lens
+unfolding in-force base-cell
+in-force-front work work' lens e =
+    let bs : listed (binding work' lens) 0 (count lens) ≡ listed (binding work lens) 0 (count lens) =
+    listed-same [] (binding work lens) [] (binding work' lens) 0 (count lens) (λ j l m. front-binding work work' lens j e (omega (arith, most-at (getD lens 64 0) 32))) in
+    rw (bs, front-cell work work' 34816 1024 (getD lens 65 0) e (omega arith))

@@ -29,15 +29,18 @@ cell-size = prefix-limit + iri-limit
 abbrev pub base-place : ℕ
 base-place = prefixes-limit * cell-size
 
--- The array has the prefixes' lengths, the namespaces', the count and the base's length.
+-- The array has the prefixes' lengths, the namespaces', the count and the base's length; the words behind them are the caller's own.
 abbrev pub count-word : ℕ
 count-word = prefixes-limit + prefixes-limit
 
 abbrev pub base-word : ℕ
 base-word = suc count-word
 
+abbrev pub own-word : ℕ
+own-word = suc base-word
+
 abbrev pub words-size : ℕ
-words-size = suc base-word
+words-size = own-word + 24
 
 unfoldable pub binding : Text → List ℕ → ℕ → Binding
 binding work lens i = record {
@@ -95,14 +98,22 @@ after-declare Done e p ns = declare p ns e
 after-declare TooLong e p ns = e
 after-declare TooMany e p ns = e
 
+-- The caller's words, and what lies in the work slice behind the environment, are left alone.
+pub record Beside (work work' : Text) (lens lens' : List ℕ) : Type 0 where
+  pub own : (k : ℕ) → own-word ≤ k → getD lens' k 0 ≡ getD lens k 0
+  pub behind : drop work-size work' ≡ drop work-size work
+  pub long : length work' ≡ length work
+
 -- What a declaration answers and leaves.
 pub record Declares (work work' : Text) (lens lens' : List ℕ) (p ns : Text) (r : Declared) : Type 0 where
   pub answer : r ≡ declare-answer (in-force work lens) p ns
   pub after : in-force work' lens' ≡ after-declare r (in-force work lens) p ns
   pub usable : Usable work' lens'
+  pub beside : Beside work work' lens lens'
 
 -- What setting the base answers and leaves.
 pub record SetsBase (work work' : Text) (lens lens' : List ℕ) (iri : Text) (r : Bool) : Type 0 where
   pub answer : r ≡ leb (length iri) iri-limit
   pub after : in-force work' lens' ≡ cond r (set-base iri (in-force work lens)) (in-force work lens)
   pub usable : Usable work' lens'
+  pub beside : Beside work work' lens lens'

@@ -7,7 +7,8 @@ ghost use Rattle.scope.specs.Code.{words-size, at-most, binding, count, 
 use limits::Limits;
 
 // Where things stand: in the work slice a cell for each prefix and its namespace, and one for the base; in the array the
-// lengths of the prefixes, those of their namespaces, how many prefixes there are, the base's length.
+// lengths of the prefixes, those of their namespaces, how many prefixes there are, the base's length; from OWN on its words
+// are the caller's.
 pub struct Layout {}
 
 impl Layout {
@@ -19,7 +20,9 @@ impl Layout {
 
     pub const BASE_LENGTH: usize = Self::COUNT + 1;
 
-    pub const WORDS: usize = Self::COUNT + 2;
+    pub const OWN: usize = Self::COUNT + 2;
+
+    pub const WORDS: usize = Self::OWN + 24;
 
     // Nothing is declared, and there is no base.
     pub fn fresh() -> [usize; Layout::WORDS]

@@ -1,0 +1,45 @@
+-- The token at the cursor.
+use mathlib.Core.Path.{_≡_}
+use mathlib.Core.List.{List, [], _∷_}
+use mathlib.Core.Option.{none}
+use Prim.Native.Nat.{ℕ, _+_, _≤_, _<_}
+use lib.Dec.{eqb}
+use lib.ListN.{length, getD, take, drop}
+use Rattle.text.specs.Text.{Text, cond}
+use Rattle.limits.specs.Limits.{document-limit}
+use Rattle.utf8.specs.Utf8.{first-bad}
+use Rattle.token.specs.Kind.{kind-of-code}
+use Rattle.token.specs.Tokens.{Token, Lexeme, token, unreadable}
+use Rattle.lexer.specs.Rest.{rest}
+use Rattle.lexer_words.specs.Ahead.{Clear}
+use Rattle.state.specs.Words.{kind-word, at-word, len-word, clear-word}
+
+-- The document's token of this kind, place and length.
+abbrev pub token-of : Text → ℕ → ℕ → ℕ → Token
+token-of doc kind at len = record { kind = kind-of-code kind; start = at; text = take len (drop at doc) }
+
+abbrev pub end-kind : ℕ
+end-kind = 0
+
+abbrev pub unreadable-kind : ℕ
+unreadable-kind = 31
+
+-- The tokens from the cursor on, where it holds a token of this kind, or the end, or a place where none can be read.
+unfoldable pub ahead : Text → ℕ → ℕ → ℕ → List Lexeme
+ahead doc kind at len =
+    cond (eqb kind end-kind) []
+    (cond (eqb kind unreadable-kind) (unreadable at ∷ []) (token (token-of doc kind at len) ∷ rest doc (at + len)))
+
+-- The words hold the token at the cursor.
+pub record Cursor (doc : Text) (st : List ℕ) : Type 0 where
+  pub size : length doc ≤ document-limit
+  pub inside : getD st at-word 0 + getD st len-word 0 ≤ length doc
+  pub known : getD st kind-word 0 ≤ unreadable-kind
+  pub some-byte : (getD st kind-word 0 ≡ end-kind → ⊥) → (getD st kind-word 0 ≡ unreadable-kind → ⊥) → 0 < getD st len-word 0
+  pub at-end : getD st kind-word 0 ≡ end-kind → getD st at-word 0 ≡ length doc
+  pub valid : first-bad (drop (getD st at-word 0 + getD st len-word 0) doc) ≡ none
+  pub clear : Clear (drop (getD st at-word 0 + getD st len-word 0) doc) (getD st clear-word 0)
+
+-- The tokens from the cursor on.
+abbrev pub left : Text → List ℕ → List Lexeme
+left doc st = ahead doc (getD st kind-word 0) (getD st at-word 0) (getD st len-word 0)

@@ -1,0 +1,4 @@
+pub mod Words
+pub mod Cursor
+pub mod Represents
+pub mod Writes
