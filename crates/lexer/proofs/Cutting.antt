@@ -8,8 +8,8 @@ use mathlib.Core.Option.{none}
 use Prim.Native.Nat.{ℕ, zero, suc, _+_, _-_, _≤_, _<_}
 use native.Mathlib.Omega.{arith}
 use native.Mathlib.Nat.{add-zero, add-assoc}
-use borrow.Author.Tests.{lt-ltb}
-use lib.Dec.{T, ltb}
+use borrow.Author.Tests.{lt-ltb, leb-true}
+use lib.Dec.{T, ltb, leb}
 use lib.ListN.{length, take, drop, length-drop, drop-of-length-le}
 use lib.Seq.{drop-at, drop-drop}
 use Rattle.text.specs.Text.{Text, cond, is}
@@ -190,6 +190,18 @@ some-kind cs n e =
     fin (hit zero x) u e = subst T (sym u) tt
     fin (hit (suc k) x) u e = let z : suc k ≡ 0 = cc in omega arith
 
+-- The kinds have the numbers up to 30.
+few-kinds : (cs : List ℕ) (k n : ℕ) → token-at cs ≡ hit k n → k ≤ 30
+unfolding token-at
+few-kinds cs k n e =
+    by (tripled cs)
+    (λ f. fin (best width long-terminals cs) (best-passes (λ j. leb j 30) cs long-terminals tt) (rw f at e))
+    (λ f. fin (best width terminals cs) (best-passes (λ j. leb j 30) cs terminals tt) (rw f at e))
+  where
+    fin : (m : Match) → Passes (λ j. leb j 30) m → m ≡ hit k n → k ≤ 30
+    fin nothing u e = let z : _≡_ {A = ℕ} 0 1 = cc in absurd (omega arith)
+    fin (hit j x) u e = let z : j ≡ k = cc in subst (λ i. i ≤ 30) z (leb-true j 30 u)
+
 empty-none : (k n : ℕ) → token-at [] ≡ hit k n → ⊥
 unfolding token-at
 empty-none k n e = let z : _≡_ {A = ℕ} 0 1 = cc in omega arith
@@ -265,7 +277,7 @@ module _ (doc : Text) (at b : ℕ) (v : first-bad (drop at doc) ≡ none) (e : b
     abbrev CutToken : Type 0
     CutToken =
         (rest doc at ≡ token (record { kind = kind-of-code k; start = at + b; text = take n (drop (at + b) doc) }) ∷ rest doc (at + b + n))
-        × (first-bad (drop (at + b + n) doc) ≡ none)
+        × ((first-bad (drop (at + b + n) doc) ≡ none) × ((k ≤ 30) × (0 < n)))
 
     cut-some : (c : ℕ) (cs : List ℕ) → after-blanks false text ≡ c ∷ cs → token-at (c ∷ cs) ≡ hit k n → CutToken
     unfolding rest encodes
@@ -285,7 +297,7 @@ module _ (doc : Text) (at b : ℕ) (v : first-bad (drop at doc) ≡ none) (e : b
         ∙ ap₂ (λ (i : ℕ) (x : List ℕ). lexemes-from doc between i x) z (sym (q .1)) in (
           rest-blanks ∙ ap (lexemes-from doc between (at + b)) g ∙ cut-hit doc (at + b) c cs (no-blank false text c cs g) k n u
               ∙ ap (λ (x : List Lexeme). token (record { kind = kind-of-code k; start = at + b; text = take n (drop (at + b) doc) }) ∷ x) l,
-          q .0,
+          (q .0, (few-kinds (c ∷ cs) k n u, let w = width-pos c in omega arith)),
         )
 
     cut-token : (k ≡ 0 → ⊥) → CutToken
@@ -308,6 +320,8 @@ module _ (doc : Text) (at b : ℕ) (v : first-bad (drop at doc) ≡ none) (e : b
 pub record Cut (doc : Text) (at b : ℕ) (r : Next) : Type 0 where
   pub tokens : rest doc at ≡ token (record { kind = kind-of-code (r .kind); start = at + b; text = take (r .len) (drop (at + b) doc) }) ∷ rest doc (at + b + r .len)
   pub valid : first-bad (drop (at + b + r .len) doc) ≡ none
+  pub known : r .kind ≤ 30
+  pub some-byte : 0 < r .len
   pub clear : Clear (drop (at + b + r .len) doc) (r .clear)
 
 module _ (doc : Text) (at b clear : ℕ) (r : Next) (v : first-bad (drop at doc) ≡ none) (c : Clear (drop at doc) clear) (g : BlanksAt (drop at doc) b) (m : NextAt (drop (at + b) doc) (clear - b) r) where
@@ -319,7 +333,9 @@ module _ (doc : Text) (at b clear : ℕ) (r : Next) (v : first-bad (drop at doc)
       let t = cut-token doc at b v (g .right v) (r .kind) (r .len) right z in
       record {
         tokens = t .0;
-        valid = t .1;
+        valid = t .1 .0;
+        known = t .1 .1 .0;
+        some-byte = t .1 .1 .1;
         clear =
             subst (λ (x : Text). Clear x (r .clear)) (drop-drop (r .len) (at + b) doc)
             (m .ahead (blanks-valid doc at b v (g .right v)) (blanks-clear doc at b v (g .right v) clear c));

@@ -1,6 +1,7 @@
 -- The token at the cursor.
 use mathlib.Core.Path.{_≡_}
 use mathlib.Core.List.{List, [], _∷_}
+use mathlib.Core.Logic.{_⊎_}
 use mathlib.Core.Option.{none}
 use Prim.Native.Nat.{ℕ, _+_, _≤_, _<_}
 use lib.Dec.{eqb}
@@ -30,16 +31,32 @@ ahead doc kind at len =
     cond (eqb kind end-kind) []
     (cond (eqb kind unreadable-kind) (unreadable at ∷ []) (token (token-of doc kind at len) ∷ rest doc (at + len)))
 
--- The words hold the token at the cursor.
+-- There is a token at the cursor.
+pub record TokenHere (doc : Text) (st : List ℕ) : Type 0 where
+  pub known : getD st kind-word 0 ≤ 30
+  pub some-byte : 0 < getD st len-word 0
+  pub valid : first-bad (drop (getD st at-word 0 + getD st len-word 0) doc) ≡ none
+  pub clear : Clear (drop (getD st at-word 0 + getD st len-word 0) doc) (getD st clear-word 0)
+
+-- The words hold the token at the cursor. What comes behind it can be read in the same way.
 pub record Cursor (doc : Text) (st : List ℕ) : Type 0 where
   pub size : length doc ≤ document-limit
   pub inside : getD st at-word 0 + getD st len-word 0 ≤ length doc
-  pub known : getD st kind-word 0 ≤ unreadable-kind
-  pub some-byte : (getD st kind-word 0 ≡ end-kind → ⊥) → (getD st kind-word 0 ≡ unreadable-kind → ⊥) → 0 < getD st len-word 0
   pub at-end : getD st kind-word 0 ≡ end-kind → getD st at-word 0 ≡ length doc
-  pub valid : first-bad (drop (getD st at-word 0 + getD st len-word 0) doc) ≡ none
-  pub clear : Clear (drop (getD st at-word 0 + getD st len-word 0) doc) (getD st clear-word 0)
+  pub token : (getD st kind-word 0 ≡ end-kind → ⊥) → (getD st kind-word 0 ≡ unreadable-kind → ⊥) → TokenHere doc st
 
 -- The tokens from the cursor on.
 abbrev pub left : Text → List ℕ → List Lexeme
 left doc st = ahead doc (getD st kind-word 0) (getD st at-word 0) (getD st len-word 0)
+
+-- What moving the cursor leaves alone.
+abbrev pub StaysBeside : List ℕ → List ℕ → Type 0
+StaysBeside st st' = (k : ℕ) → (k < kind-word) ⊎ (clear-word < k) → getD st' k 0 ≡ getD st k 0
+
+-- The cursor has gone to the first token from a place on.
+pub record Sought (doc : Text) (at : ℕ) (st st' : List ℕ) : Type 0 where
+  pub cursor : Cursor doc st'
+  pub tokens : rest doc at ≡ left doc st'
+  pub later : at ≤ getD st' at-word 0
+  pub beside : StaysBeside st st'
+  pub words : length st' ≡ length st
