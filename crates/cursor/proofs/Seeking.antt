@@ -71,15 +71,15 @@ module _ (st : List ℕ) (kind at len clear : ℕ) (n : length st ≡ 90) where
   }
 
 -- The tokens ahead, by what the cursor holds.
-ahead-token : (doc : Text) (kind at len : ℕ) → (kind ≡ 0 → ⊥) → kind ≤ 30 → ahead doc kind at len ≡ token (token-of doc kind at len) ∷ rest doc (at + len)
+pub ahead-token : (doc : Text) (kind at len : ℕ) → (kind ≡ 0 → ⊥) → kind ≤ 30 → ahead doc kind at len ≡ token (token-of doc kind at len) ∷ rest doc (at + len)
 unfolding ahead
 ahead-token doc kind at len z h = rw (ne-eqb kind 0 z, ne-eqb kind 31 (λ e. omega arith))
 
-ahead-none : (doc : Text) (at len : ℕ) → ahead doc 31 at len ≡ unreadable at ∷ []
+pub ahead-none : (doc : Text) (at len : ℕ) → ahead doc 31 at len ≡ unreadable at ∷ []
 unfolding ahead
 ahead-none doc at len = refl
 
-ahead-end : (doc : Text) (at len : ℕ) → ahead doc 0 at len ≡ []
+pub ahead-end : (doc : Text) (at len : ℕ) → ahead doc 0 at len ≡ []
 unfolding ahead
 ahead-end doc at len = refl
 

@@ -1,0 +1,3 @@
+pub mod Tests
+pub mod Compose
+pub mod Steps
