@@ -116,8 +116,6 @@ pub record Done (doc : Text) (w : Write ℕ) (a b : Held) : Type 0 where
   pub depth : getD (b .st) depth-word 0 ≡ new-depth (getD (a .st) depth-word 0) (here doc a)
   pub spot : (k : ℕ) → list-word ≤ k → getD (b .st) k 0 ≡ getD (a .st) k 0
   pub holding : (old : Tables) (m : Memory) → Holding old m a → Holding old (w m .1) b
-  pub node : (old : Tables) (m : Memory) → Holding old m a → getD (b .st) node-word 0 ≡ w m .0
-  pub small : getD (b .st) node-word 0 < 4294967296
 
 -- At the token of the cursor w was done, and the cursor is behind it; or it was refused.
 pub record Does (doc : Text) (w : Write ℕ) (a b : Held) (r : ℕ) : Type 0 where
@@ -125,6 +123,12 @@ pub record Does (doc : Text) (w : Write ℕ) (a b : Held) (r : ℕ) : Type 0 whe
   pub refusal : (old : Tables) (m : Memory) → Holding old m a → r ≡ token-refusal (room-in (tables-of a)) (getD (a .st) depth-word 0) (m .environment) (here doc a) (w m .1)
   pub place : (r ≡ 0 → ⊥) → getD (b .st) at-word 0 ≡ getD (a .st) at-word 0
   pub done : r ≡ 0 → Done doc w a b
+
+-- The same, and the result of w is in the array.
+pub record Gives (doc : Text) (w : Write ℕ) (a b : Held) (r : ℕ) : Type 0 where
+  pub does : Does doc w a b r
+  pub node : r ≡ 0 → (old : Tables) (m : Memory) → Holding old m a → getD (b .st) node-word 0 ≡ w m .0
+  pub small : r ≡ 0 → getD (b .st) node-word 0 < 4294967296
 
 -- Is this the number of a kind whose tokens may hold numeric escapes?
 abbrev pub escaped-kind : ℕ → Bool

@@ -1,0 +1,127 @@
+-- The array's words after the cursor has moved, and after a place was put into it.
+use mathlib.Core.Path.{_≡_, refl, sym, ap, _∙_, subst}
+use mathlib.Core.Logic.{_⊎_, inl, inr}
+use mathlib.Core.List.{List, [], _∷_}
+use Prim.Native.Nat.{ℕ, _+_, _-_, _≤_, _<_}
+use native.Mathlib.Omega.{arith}
+use lib.ListN.{length, getD, set, length-set}
+use lib.Seq.{getD-set-same, getD-set-other}
+use Rattle.text.specs.Text.{Text}
+use Rattle.lexer.specs.Rest.{rest}
+use Rattle.state.specs.Words.{kind-word, at-word, len-word, clear-word}
+use Rattle.state.specs.Cursor.{ahead, left, Cursor, TokenHere, Sought}
+use Rattle.nodes.specs.Nodes.{Aimed, Passed}
+
+-- The cursor is in four words.
+module _ (doc : Text) (st st' : List ℕ) (same : (k : ℕ) → kind-word ≤ k → k ≤ clear-word → getD st' k 0 ≡ getD st k 0) where
+  pub token-words : TokenHere doc st → TokenHere doc st'
+  token-words t =
+      record {
+        known = rw (same 71 (omega arith) (omega arith)) (t .known);
+        some-byte = rw (same 73 (omega arith) (omega arith)) (t .some-byte);
+        valid = rw (same 72 (omega arith) (omega arith), same 73 (omega arith) (omega arith)) (t .valid);
+        clear = rw (same 72 (omega arith) (omega arith), same 73 (omega arith) (omega arith), same 74 (omega arith) (omega arith)) (t .clear);
+      }
+
+  pub cursor-words : Cursor doc st → Cursor doc st'
+  cursor-words c =
+      record {
+        size = c .size;
+        inside = rw (same 72 (omega arith) (omega arith), same 73 (omega arith) (omega arith)) (c .inside);
+        at-end = λ e. same 72 (omega arith) (omega arith) ∙ c .at-end (sym (same 71 (omega arith) (omega arith)) ∙ e);
+        token = λ x y. token-words (c .token (λ e. x (same 71 (omega arith) (omega arith) ∙ e)) (λ e. y (same 71 (omega arith) (omega arith) ∙ e)));
+      }
+
+  pub left-words : left doc st' ≡ left doc st
+  left-words = rw (same 71 (omega arith) (omega arith), same 72 (omega arith) (omega arith), same 73 (omega arith) (omega arith))
+
+module _ (doc : Text) (st st' : List ℕ) (t : TokenHere doc st) (s : Sought doc (getD st 72 0 + getD st 73 0) st st') where
+  pub passed : Passed doc st st' (getD st 75 0) (getD st 76 0)
+  passed =
+      record {
+        cursor = s .cursor;
+        tokens = s .tokens;
+        later = omega (arith, s .later, t .some-byte);
+        depth-is = s .beside 75 (inr (omega arith));
+        graph-is = s .beside 76 (inr (omega arith));
+        before = λ k h. s .beside k (inl h);
+        spot = λ k h. s .beside k (inr (omega arith));
+        words = s .words;
+      }
+
+  -- One word more was put, behind the cursor's and before the place's.
+  module _ (st'' : List ℕ) (i v : ℕ) (low : 74 < i) (high : i < 77) (n : length st ≡ 90) (e : st'' ≡ set st' i v) where
+    other : (k : ℕ) → (k ≡ i → ⊥) → getD st'' k 0 ≡ getD st' k 0
+    other k h = ap (λ (l : List ℕ). getD l k 0) e ∙ getD-set-other st' i k v 0 h
+
+    put-same : getD st'' i 0 ≡ v
+    put-same = ap (λ (l : List ℕ). getD l i 0) e ∙ getD-set-same st' i v 0 (omega (arith, s .words))
+
+    passed-put : (d g : ℕ) → getD st'' 75 0 ≡ d → getD st'' 76 0 ≡ g → Passed doc st st'' d g
+    passed-put d g ed eg =
+        record {
+          cursor = cursor-words doc st' st'' (λ k x y. other k (λ z. omega arith)) (s .cursor);
+          tokens = s .tokens ∙ sym (left-words doc st' st'' (λ k x y. other k (λ z. omega arith)));
+          later = rw (other 72 (λ z. omega arith)) (omega (arith, s .later, t .some-byte));
+          depth-is = ed;
+          graph-is = eg;
+          before = λ k h. other k (λ z. omega arith) ∙ s .beside k (inl h);
+          spot = λ k h. other k (λ z. omega arith) ∙ s .beside k (inr (omega arith));
+          words = ap length e ∙ (length-set st' i v ∙ s .words);
+        }
+
+  pub passed-leave : (st'' : List ℕ) → length st ≡ 90 → st'' ≡ set st' 75 (getD st' 75 0 - 1) → Passed doc st st'' (getD st 75 0 - 1) (getD st 76 0)
+  passed-leave st'' n e =
+      passed-put st'' 75 (getD st' 75 0 - 1) (omega arith) (omega arith) n e (getD st 75 0 - 1) (getD st 76 0)
+      (put-same st'' 75 (getD st' 75 0 - 1) (omega arith) (omega arith) n e ∙ ap (λ (x : ℕ). x - 1) (s .beside 75 (inr (omega arith))))
+      (other st'' 75 (getD st' 75 0 - 1) (omega arith) (omega arith) n e 76 (λ z. omega arith) ∙ s .beside 76 (inr (omega arith)))
+
+  pub passed-enter : (g : ℕ) (st'' : List ℕ) → length st ≡ 90 → st'' ≡ set st' 76 g → Passed doc st st'' (getD st 75 0) g
+  passed-enter g st'' n e =
+      passed-put st'' 76 g (omega arith) (omega arith) n e (getD st 75 0) g
+      (other st'' 76 g (omega arith) (omega arith) n e 75 (λ z. omega arith) ∙ s .beside 75 (inr (omega arith)))
+      (put-same st'' 76 g (omega arith) (omega arith) n e)
+
+-- The five words of a place.
+module _ (st : List ℕ) (list x y opened last : ℕ) (n : length st ≡ 90) where
+  abbrev s1 : List ℕ
+  s1 = set st 77 list
+
+  abbrev s2 : List ℕ
+  s2 = set s1 78 x
+
+  abbrev s3 : List ℕ
+  s3 = set s2 79 y
+
+  abbrev s4 : List ℕ
+  s4 = set s3 80 opened
+
+  l1 : length s1 ≡ 90
+  l1 = length-set st 77 list ∙ n
+
+  l2 : length s2 ≡ 90
+  l2 = length-set s1 78 x ∙ l1
+
+  l3 : length s3 ≡ 90
+  l3 = length-set s2 79 y ∙ l2
+
+  l4 : length s4 ≡ 90
+  l4 = length-set s3 80 opened ∙ l3
+
+  aimed-there : Aimed st (set s4 81 last) list x y opened last
+  aimed-there =
+      record {
+        list-is = past 81 last 77 s4 (λ e. omega arith) ∙ (past 80 opened 77 s3 (λ e. omega arith) ∙ (past 79 y 77 s2 (λ e. omega arith) ∙ (past 78 x 77 s1 (λ e. omega arith) ∙ getD-set-same st 77 list 0 (omega arith))));
+        x-is = past 81 last 78 s4 (λ e. omega arith) ∙ (past 80 opened 78 s3 (λ e. omega arith) ∙ (past 79 y 78 s2 (λ e. omega arith) ∙ getD-set-same s1 78 x 0 (omega (arith, l1))));
+        y-is = past 81 last 79 s4 (λ e. omega arith) ∙ (past 80 opened 79 s3 (λ e. omega arith) ∙ getD-set-same s2 79 y 0 (omega (arith, l2)));
+        opened-is = past 81 last 80 s4 (λ e. omega arith) ∙ getD-set-same s3 80 opened 0 (omega (arith, l3));
+        last-is = getD-set-same s4 81 last 0 (omega (arith, l4));
+        before = λ k h. past 81 last k s4 (λ e. omega arith) ∙ (past 80 opened k s3 (λ e. omega arith) ∙ (past 79 y k s2 (λ e. omega arith) ∙ (past 78 x k s1 (λ e. omega arith) ∙ getD-set-other st 77 k list 0 (λ e. omega arith))));
+        words = length-set s4 81 last ∙ (l4 ∙ sym n);
+      }
+    where
+      past : (i v k : ℕ) (l : List ℕ) → (k ≡ i → ⊥) → getD (set l i v) k 0 ≡ getD l k 0
+      past i v k l h = getD-set-other l i k v 0 h
+
+  pub aimed : (st' : List ℕ) → st' ≡ set s4 81 last → Aimed st st' list x y opened last
+  aimed st' e = subst (λ (l : List ℕ). Aimed st l list x y opened last) (sym e) aimed-there

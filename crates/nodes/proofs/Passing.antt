@@ -1,0 +1,125 @@
+-- Tokens that write nothing: what is open after them.
+use mathlib.Core.Path.{_≡_, refl, sym, ap, _∙_, subst}
+use mathlib.Core.Logic.{_⊎_, inl, inr}
+use mathlib.Core.List.{List, [], _∷_, _++_}
+use mathlib.Core.Bool.{Bool, true, false, _&&_, _||_}
+use mathlib.Core.Option.{Option, none, some}
+use Prim.Native.Nat.{ℕ, _+_, _-_, _≤_, _<_}
+use native.Mathlib.Omega.{arith}
+use borrow.Author.Tests.{le-ltb}
+use lib.Dec.{ltb}
+use lib.ListN.{length, getD, drop}
+use denote.Ref.{RefT}
+use Rattle.text.specs.Text.{Text, cond}
+use Rattle.limits.specs.Limits.{work-size}
+use Rattle.token.specs.Kind.{kind-of-code, among, names, strings, IRIREF, open-bracket, open-paren, close-bracket, close-paren}
+use Rattle.token.specs.Tokens.{Token}
+use Rattle.grammar.specs.Productions.{Mode}
+use Rattle.scope.specs.Code.{in-force}
+use Rattle.scope.proofs.Directives.{in-force-words}
+use Rattle.dataset.specs.Constructors.{nothing, awaiting}
+use Rattle.machine.specs.Memory.{Memory, Write, enter}
+use Rattle.machine.specs.Frame.{Frame, Open, statement}
+use Rattle.machine.specs.Rules.{find-rule, rules}
+use Rattle.machine.specs.Refusals.{no-character, undeclared, no-base, too-long, too-deep, new-depth}
+use Rattle.machine.specs.Step.{awaited-by}
+use Rattle.machine.specs.Demand.{Fits}
+use Rattle.state.specs.Words.{kind-word, at-word, len-word, depth-word, graph-word}
+use Rattle.state.specs.Cursor.{TokenHere}
+use Rattle.state.specs.Represents.{Tables, tables, room-in, Represents}
+use Rattle.reading.specs.Reading.{Held, held, tables-of, here, Holding, Ready, Same, Comes, token-refusal, Done, Does}
+use Rattle.reading.proofs.Compose.{same-all}
+use Rattle.reading.proofs.Steps.{does-comes, tied-here}
+use Rattle.nodes.specs.Nodes.{Passed}
+
+-- Representation depends on the words before the cursor's, and on the graph's.
+pub represents-words : (old : Tables) (m : Memory) (work : Text) (t : Tables) (st st' : List ℕ) → ((k : ℕ) → k < kind-word → getD st' k 0 ≡ getD st k 0) → getD st' graph-word 0 ≡ getD st graph-word 0 → length st' ≡ length st
+    → Represents old m work t st → Represents old m work t st'
+represents-words old m work t st st' same eg n r =
+    let e : in-force work st' ≡ in-force work st = in-force-words work st st' (λ k h. same k (omega arith)) in
+    record {
+      usable = record { room = r .usable .room; words = n ∙ r .usable .words };
+      environment = e ∙ r .environment;
+      base = r .base;
+      terms-held = rw (same 67 (omega arith), same 68 (omega arith), same 69 (omega arith)) (r .terms-held);
+      rows-held = rw (same 66 (omega arith)) (r .rows-held);
+      graph = eg ∙ r .graph;
+      graph-small = r .graph-small;
+      fits = r .fits;
+      same-rows = rw (same 66 (omega arith)) (r .same-rows);
+      same-terms = rw (same 67 (omega arith)) (r .same-terms);
+      same-store = rw (same 68 (omega arith)) (r .same-store);
+    }
+
+-- Another graph.
+represents-graph : (old : Tables) (m : Memory) (work : Text) (t : Tables) (st st' : List ℕ) (g : ℕ) → ((k : ℕ) → k < kind-word → getD st' k 0 ≡ getD st k 0) → getD st' graph-word 0 ≡ g → g < 4294967296 → length st' ≡ length st
+    → Represents old m work t st → Represents old (enter g m .1) work t st'
+represents-graph old m work t st st' g same eg small n r =
+    let e : in-force work st' ≡ in-force work st = in-force-words work st st' (λ k h. same k (omega arith)) in
+    record {
+      usable = record { room = r .usable .room; words = n ∙ r .usable .words };
+      environment = e ∙ r .environment;
+      base = r .base;
+      terms-held = rw (same 67 (omega arith), same 68 (omega arith), same 69 (omega arith)) (r .terms-held);
+      rows-held = rw (same 66 (omega arith)) (r .rows-held);
+      graph = eg;
+      graph-small = small;
+      fits = record { rows = r .fits .rows; terms = r .fits .terms; store = r .fits .store };
+      same-rows = rw (same 66 (omega arith)) (r .same-rows);
+      same-terms = rw (same 67 (omega arith)) (r .same-terms);
+      same-store = rw (same 68 (omega arith)) (r .same-store);
+    }
+
+-- A kind whose tokens meet no refusal of their own.
+pub record Quiet (k : ℕ) : Type 0 where
+  pub escapes : among (IRIREF ∷ strings) (kind-of-code k) ≡ false
+  pub reference : among (IRIREF ∷ []) (kind-of-code k) ≡ false
+  pub name : among names (kind-of-code k) ≡ false
+  pub opening : among (open-bracket ∷ open-paren ∷ []) (kind-of-code k) ≡ false
+
+quiet-refusal : (t : Token) (k : ℕ) → t .kind ≡ kind-of-code k → Quiet k → (old : Tables) (m : Memory) (work : Text) (ts : Tables) (st : List ℕ) (g depth : ℕ) → Represents old m work ts st → 0 ≡ token-refusal (room-in ts) depth (m .environment) t (enter g m .1)
+unfolding token-refusal no-character undeclared no-base too-long too-deep
+quiet-refusal t k e q old m work ts st g depth r =
+    rw (e, q .escapes, q .reference, q .name, q .opening, le-ltb (room-in ts .rows) (length (m .rows)) (r .fits .rows), le-ltb (room-in ts .terms) (length (m .terms)) (r .fits .terms), le-ltb (room-in ts .store) _ (r .fits .store))
+
+module _ (doc : Text) (work rows terms store : RefT (List ℕ)) (st st' : List ℕ) (k d g : ℕ) (e : getD st kind-word 0 ≡ k) (q : Quiet k) where
+  abbrev a : Held
+  a = held work rows terms store st
+
+  abbrev b : Held
+  b = held work rows terms store st'
+
+  pub passed-does : Passed doc st st' d g → d ≡ new-depth (getD st depth-word 0) (here doc a) → g < 4294967296 → Does doc (λ m. (0, enter g m .1)) a b 0
+  passed-does p ed small =
+      record {
+        same = record { work = refl; rows = refl; terms = refl; store = refl; work-length = refl; rows-length = refl; terms-length = refl; store-length = refl; words = p .words };
+        refusal = λ old m h. quiet-refusal (here doc a) k (ap kind-of-code e) q old m (work .now) (tables-of a) st g (getD st depth-word 0) h;
+        place = λ z. absurd (z refl);
+        done = λ z.
+            record {
+              cursor = p .cursor;
+              tokens = p .tokens;
+              later = p .later;
+              depth = p .depth-is ∙ ed;
+              spot = p .spot;
+              holding = λ old m h. represents-graph old m (work .now) (tables-of a) st st' g (p .before) (p .graph-is) small (p .words) h;
+            };
+      }
+
+  -- The graph stays.
+  pub passed-same : Passed doc st st' d (getD st graph-word 0) → d ≡ new-depth (getD st depth-word 0) (here doc a) → Does doc (λ m. (0, m)) a b 0
+  passed-same p ed =
+      record {
+        same = record { work = refl; rows = refl; terms = refl; store = refl; work-length = refl; rows-length = refl; terms-length = refl; store-length = refl; words = p .words };
+        refusal = λ old m h. quiet-refusal (here doc a) k (ap kind-of-code e) q old m (work .now) (tables-of a) st (m .graph) (getD st depth-word 0) h;
+        place = λ z. absurd (z refl);
+        done = λ z.
+            record {
+              cursor = p .cursor;
+              tokens = p .tokens;
+              later = p .later;
+              depth = p .depth-is ∙ ed;
+              spot = p .spot;
+              holding = λ old m h. represents-words old m (work .now) (tables-of a) st st' (p .before) (p .graph-is) (p .words) h;
+            };
+      }

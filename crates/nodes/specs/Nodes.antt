@@ -1,0 +1,123 @@
+-- Nodes at their places: what one token of a term, a bracket or a list writes there.
+use mathlib.Core.Path.{_≡_}
+use mathlib.Core.List.{List, [], _∷_, _++_}
+use mathlib.Core.Bool.{Bool, true, false, not, _||_}
+use mathlib.Core.Option.{Option, none, some}
+use Prim.Native.Nat.{ℕ, suc, _+_, _≤_, _<_}
+use lib.Dec.{eqb}
+use lib.ListN.{length, getD}
+use Rattle.text.specs.Text.{Text, cond}
+use Rattle.token.specs.Kind.{Kind, kind-code, kind-of-code, among, iris, strings, «BLANK_NODE_LABEL», INTEGER, DECIMAL, DOUBLE, kw-a, kw-true, kw-false, open-bracket, close-bracket, open-paren, close-paren}
+use Rattle.token.specs.Tokens.{Token}
+use Rattle.dataset.specs.Terms.{iri, rdf-type, xsd-integer, xsd-decimal, xsd-double, xsd-boolean}
+use Rattle.machine.specs.Memory.{Memory, Write, term, typed, iri-term}
+use Rattle.machine.specs.Frame.{Ending, Place, element-of, Frame, object}
+use Rattle.machine.specs.Rules.{Rule, _⇒_, find-rule, after-node, after-properties, Opening, label-term, end-rules, verb-rules, object-rules, frame-rules}
+use Rattle.state.specs.Words.{terms-word, kind-word, at-word, len-word, depth-word, graph-word, list-word, x-word, y-word, opened-word, last-word}
+use Rattle.lexer.specs.Rest.{rest}
+use Rattle.state.specs.Cursor.{Cursor, left}
+use Rattle.state.specs.Represents.{Tables}
+use Rattle.state.specs.Writes.{place-of, begin}
+use Rattle.state.specs.declared.Spot.{Spot}
+use Rattle.reading.specs.Reading.{Held, here, Holding, Reads, Gives}
+
+-- The terms that one token stands for.
+abbrev pub term-rules : Token → List (Rule ℕ)
+term-rules t =
+    (iris ⇒ iri-term t)
+    ∷ («BLANK_NODE_LABEL» ∷ [] ⇒ label-term t false)
+    ∷ (INTEGER ∷ [] ⇒ typed (t .text) xsd-integer)
+    ∷ (DECIMAL ∷ [] ⇒ typed (t .text) xsd-decimal)
+    ∷ (DOUBLE ∷ [] ⇒ typed (t .text) xsd-double)
+    ∷ (kw-true ∷ kw-false ∷ [] ⇒ typed (t .text) xsd-boolean)
+    ∷ (kw-a ∷ [] ⇒ term (iri rdf-type)) ∷ []
+
+-- Where the array says that the next node belongs.
+abbrev pub spot-of : Held → Spot
+spot-of h =
+    record {
+      list = not (eqb (getD (h .st) list-word 0) 0);
+      x = getD (h .st) x-word 0;
+      y = getD (h .st) y-word 0;
+      opened = getD (h .st) opened-word 0;
+      last = getD (h .st) last-word 0;
+      at = getD (h .st) at-word 0;
+    }
+
+-- Its numbers fit the tables' words.
+pub record Spotted (h : Held) : Type 0 where
+  pub x : getD (h .st) x-word 0 < 4294967296
+  pub y : getD (h .st) y-word 0 < 4294967296
+  pub opened : getD (h .st) opened-word 0 < 4294967296
+  pub last : getD (h .st) last-word 0 < 4294967296
+
+-- The place that it gets: an element's is its new cell.
+unfoldable pub slot-place : Held → Place
+slot-place h = cond (not (eqb (getD (h .st) list-word 0) 0)) (element-of (suc (getD (h .st) terms-word 0))) (place-of (getD (h .st) x-word 0) (getD (h .st) y-word 0))
+
+-- The kinds that begin an object.
+abbrev pub object-kinds : List Kind
+object-kinds = iris ++ («BLANK_NODE_LABEL» ∷ INTEGER ∷ DECIMAL ∷ DOUBLE ∷ kw-true ∷ kw-false ∷ strings ++ open-bracket ∷ open-paren ∷ [])
+
+-- An object or element is awaited by the frame f, at this place, and g is open after it.
+pub record Slot (doc : Text) (h : Held) (f g : Frame) : Type 0 where
+  pub opening : Write Opening
+  pub rules : (k : Kind) (tied : Bool) → among object-kinds k ≡ true → find-rule k (frame-rules (here doc h) tied f) ≡ find-rule k (object-rules (here doc h) tied opening)
+  pub others : (tied : Bool) → among object-kinds (here doc h .kind) ≡ false → find-rule (here doc h .kind) (frame-rules (here doc h) tied f) ≡ none
+  pub opens : (old : Tables) (m : Memory) → Holding old m h → opening m ≡ (record { place = slot-place h; after = g ∷ [] }, begin (spot-of h) m .1)
+  pub begins : (old : Tables) (m : Memory) → Holding old m h → begin (spot-of h) m .0 ≡ slot-place h
+  pub no-node : (n : ℕ) → after-node (slot-place h) n ≡ []
+  pub no-properties : (n : ℕ) → after-properties (slot-place h) n ≡ []
+
+-- A node was read where one was awaited.
+abbrev pub Fills : Text → Held → Held → ℕ → Type 0
+Fills doc a b r = (f g : Frame) → Slot doc a f g → Reads doc (f ∷ []) (g ∷ []) a b r
+
+-- ---- Predicates
+
+abbrev pub verb-kinds : List Kind
+verb-kinds = iris ++ kw-a ∷ []
+
+-- The frame f awaits a predicate of s; behind its objects the frames `after` are open.
+pub record Verbs (f : Frame) (s : ℕ) (e : Ending) (after : List Frame) : Type 0 where
+  pub rules : (t : Token) (tied : Bool) (k : Kind) → among verb-kinds k ≡ true → find-rule k (frame-rules t tied f) ≡ find-rule k (verb-rules t tied (λ p. object s p e ∷ after))
+
+-- Behind predicates and objects nothing but their end may come.
+abbrev pub Ends : Frame → Ending → ℕ → Type 0
+Ends f e k = (t : Token) (tied : Bool) → find-rule (kind-of-code k) (frame-rules t tied f) ≡ find-rule (kind-of-code k) (end-rules t tied e)
+
+-- ---- Words
+
+-- The place of the next node is put into the array.
+pub record Aimed (st st' : List ℕ) (list x y opened last : ℕ) : Type 0 where
+  pub list-is : getD st' list-word 0 ≡ list
+  pub x-is : getD st' x-word 0 ≡ x
+  pub y-is : getD st' y-word 0 ≡ y
+  pub opened-is : getD st' opened-word 0 ≡ opened
+  pub last-is : getD st' last-word 0 ≡ last
+  pub before : (k : ℕ) → k < list-word → getD st' k 0 ≡ getD st k 0
+  pub words : length st' ≡ length st
+
+-- The cursor is behind a token that writes nothing; so many brackets are open then, in this graph.
+pub record Passed (doc : Text) (st st' : List ℕ) (depth graph : ℕ) : Type 0 where
+  pub cursor : Cursor doc st'
+  pub tokens : rest doc (getD st at-word 0 + getD st len-word 0) ≡ left doc st'
+  pub later : getD st at-word 0 < getD st' at-word 0
+  pub depth-is : getD st' depth-word 0 ≡ depth
+  pub graph-is : getD st' graph-word 0 ≡ graph
+  pub before : (k : ℕ) → k < kind-word → getD st' k 0 ≡ getD st k 0
+  pub spot : (k : ℕ) → list-word ≤ k → getD st' k 0 ≡ getD st k 0
+  pub words : length st' ≡ length st
+
+-- Is the number that of one of these kinds?
+abbrev pub code-among : List Kind → ℕ → Bool
+code-among [] n = false
+code-among (j ∷ js) n = eqb n (kind-code j) || code-among js n
+
+abbrev pub term-kinds : List Kind
+term-kinds = iris ++ («BLANK_NODE_LABEL» ∷ INTEGER ∷ DECIMAL ∷ DOUBLE ∷ kw-true ∷ kw-false ∷ [])
+
+-- What stays beside where a node was read.
+pub record Steady (a b : Held) (r : ℕ) : Type 0 where
+  pub depth : r ≡ 0 → getD (b .st) depth-word 0 ≡ getD (a .st) depth-word 0
+  pub later : r ≡ 0 → getD (a .st) at-word 0 < getD (b .st) at-word 0
