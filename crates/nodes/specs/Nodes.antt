@@ -11,26 +11,28 @@ use Rattle.token.specs.Kind.{Kind, kind-code, kind-of-code, among, iris, string
 use Rattle.token.specs.Tokens.{Token}
 use Rattle.dataset.specs.Terms.{iri, rdf-type, xsd-integer, xsd-decimal, xsd-double, xsd-boolean}
 use Rattle.machine.specs.Memory.{Memory, Write, term, typed, iri-term}
-use Rattle.machine.specs.Frame.{Ending, Place, element-of, Frame, object}
+use Rattle.machine.specs.Frame.{Ending, Place, top, subject-before, object-of, element-of, Cells, no-cell, cells, Frame, object}
 use Rattle.machine.specs.Rules.{Rule, _⇒_, find-rule, after-node, after-properties, Opening, label-term, end-rules, verb-rules, object-rules, frame-rules}
-use Rattle.state.specs.Words.{terms-word, kind-word, at-word, len-word, depth-word, graph-word, list-word, x-word, y-word, opened-word, last-word}
+use Rattle.state.specs.Words.{terms-word, node-word, kind-word, at-word, len-word, depth-word, graph-word, list-word, x-word, y-word, opened-word, last-word}
 use Rattle.lexer.specs.Rest.{rest}
 use Rattle.state.specs.Cursor.{Cursor, left}
 use Rattle.state.specs.Represents.{Tables}
-use Rattle.state.specs.Writes.{place-of, begin}
+use Rattle.state.specs.Writes.{place-of, begin, placed, closed}
 use Rattle.state.specs.declared.Spot.{Spot}
 use Rattle.reading.specs.Reading.{Held, here, Holding, Reads, Gives}
 
--- The terms that one token stands for.
-abbrev pub term-rules : Token → List (Rule ℕ)
-term-rules t =
+-- The terms that one token stands for: objects, and predicates.
+abbrev pub node-rules : Token → List (Rule ℕ)
+node-rules t =
     (iris ⇒ iri-term t)
     ∷ («BLANK_NODE_LABEL» ∷ [] ⇒ label-term t false)
     ∷ (INTEGER ∷ [] ⇒ typed (t .text) xsd-integer)
     ∷ (DECIMAL ∷ [] ⇒ typed (t .text) xsd-decimal)
     ∷ (DOUBLE ∷ [] ⇒ typed (t .text) xsd-double)
-    ∷ (kw-true ∷ kw-false ∷ [] ⇒ typed (t .text) xsd-boolean)
-    ∷ (kw-a ∷ [] ⇒ term (iri rdf-type)) ∷ []
+    ∷ (kw-true ∷ kw-false ∷ [] ⇒ typed (t .text) xsd-boolean) ∷ []
+
+abbrev pub term-rules : Token → List (Rule ℕ)
+term-rules t = node-rules t ++ (kw-a ∷ [] ⇒ term (iri rdf-type)) ∷ []
 
 -- Where the array says that the next node belongs.
 abbrev pub spot-of : Held → Spot
@@ -69,9 +71,35 @@ pub record Slot (doc : Text) (h : Held) (f g : Frame) : Type 0 where
   pub no-node : (n : ℕ) → after-node (slot-place h) n ≡ []
   pub no-properties : (n : ℕ) → after-properties (slot-place h) n ≡ []
 
+-- The place of a list, as far as the array knows it: a subject's is none.
+abbrev pub Belongs : Place → ℕ → ℕ → Type 0
+Belongs top x y = ⊥
+Belongs (subject-before e) x y = x ≡ 0
+Belongs (object-of s p) x y = (x ≡ s) × ((y ≡ p) × ((0 < s) × (0 < p)))
+Belongs (element-of c) x y = (x ≡ c) × ((y ≡ 0) × (0 < c))
+
+-- Its last cell, 0 where there is none.
+abbrev pub LastCell : Cells → ℕ → Type 0
+LastCell no-cell last = last ≡ 0
+LastCell (cells head c) last = (last ≡ c) × (0 < c)
+
 -- A node was read where one was awaited.
 abbrev pub Fills : Text → Held → Held → ℕ → Type 0
 Fills doc a b r = (f g : Frame) → Slot doc a f g → Reads doc (f ∷ []) (g ∷ []) a b r
+
+-- A node was written; it has a number.
+pub record Numbers (doc : Text) (w : Write ℕ) (a b : Held) (r : ℕ) : Type 0 where
+  pub gives : Gives doc w a b r
+  pub positive : r ≡ 0 → 0 < getD (b .st) node-word 0
+
+-- The token of a term was read: its node is at its place.
+abbrev pub PutsTerm : Text → Held → Held → ℕ → Type 0
+PutsTerm doc a b r = (v : Write ℕ) → find-rule (here doc a .kind) (term-rules (here doc a)) ≡ some v → Numbers doc (placed (spot-of a) v) a b r
+
+-- A list was closed; the node of an empty one has a number.
+pub record Closes (doc : Text) (a b : Held) (r : ℕ) : Type 0 where
+  pub gives : Gives doc (closed (spot-of a)) a b r
+  pub positive : r ≡ 0 → getD (a .st) last-word 0 ≡ 0 → 0 < getD (b .st) node-word 0
 
 -- ---- Predicates
 

@@ -1,3 +1,4 @@
 pub mod Tests
 pub mod Compose
 pub mod Steps
+pub mod Frames

@@ -83,7 +83,7 @@ module _ (doc : Text) (a : Held) (h : TokenHere doc (a .st)) (z : getD (a .st) k
 -- A routine that does what the rule at the token says.
 module _ {I : Type 0} (doc : Text) (w : Write ℕ) (F G : I → Open) (a b : Held) (r : ℕ) (ready : Ready doc a) (h : TokenHere doc (a .st)) (z : getD (a .st) kind-word 0 ≡ 0 → ⊥) (D : Does doc w a b r) (f : (i : I) → awaited-by (F i) ≡ nothing) where
   abbrev pub RuleDoes : Type 0
-  RuleDoes = (mode : Mode) (i : I) → (v : Write Open) × ((find-rule (here doc a .kind) (rules (here doc a) (tied-here doc a h z) mode (F i)) ≡ some v) × ((old : Tables) (m : Memory) → Holding old m a → v m ≡ (G i, w m .1)))
+  RuleDoes = (mode : Mode) (i : I) → (v : Write Open) × ((find-rule (here doc a .kind) (rules (here doc a) (tied-here doc a h z) mode (F i)) ≡ some v) × ((old : Tables) (m : Memory) → Holding old m a → (v m .1 ≡ w m .1) × (r ≡ 0 → v m .0 ≡ G i)))
 
   depth-kept : r ≡ 0 → (m : Memory) (old : Tables) → Holding old m a → getD (b .st) depth-word 0 ≤ 64
   unfolding new-depth token-refusal too-deep
@@ -120,24 +120,24 @@ module _ {I : Type 0} (doc : Text) (w : Write ℕ) (F G : I → Open) (a b : Hel
   }
     where
       on-one : r ≡ 0 → (mode : Mode) (old : Tables) (m : Memory) → Holding old m a → (i : I)
-          → (v : Write Open) × ((find-rule (here doc a .kind) (rules (here doc a) (tied-here doc a h z) mode (F i)) ≡ some v) × ((old : Tables) (m : Memory) → Holding old m a → v m ≡ (G i, w m .1)))
+          → (v : Write Open) × ((find-rule (here doc a .kind) (rules (here doc a) (tied-here doc a h z) mode (F i)) ≡ some v) × ((old : Tables) (m : Memory) → Holding old m a → (v m .1 ≡ w m .1) × (r ≡ 0 → v m .0 ≡ G i)))
           → goes mode doc a (F i) m ≡ goes mode doc b (G i) (w m .1)
       on-one e mode old m x i (v, (p, q)) =
           goes-step doc a h z mode (F i) m
-          ∙ ap (onward _) (step-on mode (room-in (tables-of a)) (F i) (getD (a .st) depth-word 0) m (here doc a) (tied-here doc a h z) v p (f i) (rw (q old m x) (sym (D .refusal old m x) ∙ e)))
-          ∙ gone (q old m x)
+          ∙ ap (onward _) (step-on mode (room-in (tables-of a)) (F i) (getD (a .st) depth-word 0) m (here doc a) (tied-here doc a h z) v p (f i) (rw (q old m x .0) (sym (D .refusal old m x) ∙ e)))
+          ∙ gone (q old m x .1 e) (q old m x .0)
         where
-          gone : (v m ≡ (G i, w m .1)) → run mode (room-in (tables-of a)) (length doc) (rest doc (getD (a .st) at-word 0 + getD (a .st) len-word 0)) (record { open-now = v m .0; depth = new-depth (getD (a .st) depth-word 0) (here doc a); memory = v m .1 }) ≡ goes mode doc b (G i) (w m .1)
-          gone y =
+          gone : v m .0 ≡ G i → v m .1 ≡ w m .1 → run mode (room-in (tables-of a)) (length doc) (rest doc (getD (a .st) at-word 0 + getD (a .st) len-word 0)) (record { open-now = v m .0; depth = new-depth (getD (a .st) depth-word 0) (here doc a); memory = v m .1 }) ≡ goes mode doc b (G i) (w m .1)
+          gone y y' =
               ap₂ (λ (x : List Lexeme) (s : State). run mode (room-in (tables-of a)) (length doc) x s) (D .done e .tokens)
-              (ap (λ (p : Open × Memory). record { open-now = p .0; depth = new-depth (getD (a .st) depth-word 0) (here doc a); memory = p .1 }) y)
+              (ap₂ (λ (o : Open) (m′ : Memory). record { open-now = o; depth = new-depth (getD (a .st) depth-word 0) (here doc a); memory = m′ }) y y')
               ∙ sym (goes-now mode (G i) (w m .1) e)
 
       stop-one : (r ≡ 0 → ⊥) → (mode : Mode) (old : Tables) (m : Memory) → Holding old m a → (i : I)
-          → (v : Write Open) × ((find-rule (here doc a .kind) (rules (here doc a) (tied-here doc a h z) mode (F i)) ≡ some v) × ((old : Tables) (m : Memory) → Holding old m a → v m ≡ (G i, w m .1)))
+          → (v : Write Open) × ((find-rule (here doc a .kind) (rules (here doc a) (tied-here doc a h z) mode (F i)) ≡ some v) × ((old : Tables) (m : Memory) → Holding old m a → (v m .1 ≡ w m .1) × (r ≡ 0 → v m .0 ≡ G i)))
           → goes mode doc a (F i) m ≡ refused r (getD (b .st) at-word 0)
       stop-one e mode old m x i (v, (p, q)) =
-          let same : r ≡ token-refusal (room-in (tables-of a)) (getD (a .st) depth-word 0) (m .environment) (here doc a) (v m .1) = D .refusal old m x ∙ rw (q old m x) in
+          let same : r ≡ token-refusal (room-in (tables-of a)) (getD (a .st) depth-word 0) (m .environment) (here doc a) (v m .1) = D .refusal old m x ∙ rw (q old m x .0) in
           goes-step doc a h z mode (F i) m
           ∙ ap (onward _) (step-stop mode (room-in (tables-of a)) (F i) (getD (a .st) depth-word 0) m (here doc a) (tied-here doc a h z) v p (f i) (λ y. e (same ∙ y)))
           ∙ ap₂ refused (sym same) (sym (D .place e))

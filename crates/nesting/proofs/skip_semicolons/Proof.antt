@@ -1,0 +1,54 @@
+use borrow.Author.Needs.{needs}
+use Rattle.nesting.proofs.skip_semicolons.Statement.{statement}
+use Rattle.nesting.proofs.skip_semicolons.Tie as tie
+use Rattle.nesting.proofs.skip_semicolons.Reads as reads
+use Rattle.nesting.proofs.skip_semicolons.Lts as lts
+use Rattle.nodes.proofs.pass.Reads as pass-reads
+
+abbrev Inv-loop : tie.InvT-loop
+Inv-loop doc st₀ st = ?
+
+abbrev μ-loop : tie.MeasureT-loop
+μ-loop doc st₀ st = ?
+
+-- src/lib.rt:96:5
+pass-requires : tie.Need-pass-requires Inv-loop μ-loop
+pass-requires c κs = search needs
+
+-- src/lib.rt:97:5
+loop-holds : tie.Need-loop-holds Inv-loop μ-loop
+loop-holds c = search needs
+
+-- src/lib.rt:97:11
+element-copy-out-if1 : tie.Need-element-copy-out-if1 Inv-loop μ-loop
+element-copy-out-if1 c = search needs
+
+-- src/lib.rt:98:9
+pass-requires-2 : tie.Need-pass-requires-2 Inv-loop μ-loop
+pass-requires-2 c κs = search needs
+
+-- src/lib.rt:97:5
+loop-less : tie.Need-loop-less Inv-loop μ-loop
+loop-less c = search needs
+
+-- src/lib.rt:97:5
+loop-again : tie.Need-loop-again Inv-loop μ-loop
+loop-again c = search needs
+
+-- src/lib.rt:92:1
+returns : tie.Need-returns Inv-loop μ-loop
+returns c = search needs
+
+pub skip-semicolons-spec : {M : Type 1} → statement M
+skip-semicolons-spec =
+    tie.close
+    (tie.spec
+    Inv-loop
+    μ-loop
+    pass-requires
+    loop-holds
+    element-copy-out-if1
+    pass-requires-2
+    loop-less
+    loop-again
+    returns)

@@ -1,0 +1,275 @@
+// Brackets in lists and lists in brackets: the readers of nodes, properties, objects and lists, which call each other. The
+// measure is how many brackets may still be opened. What a token writes is done outside this cycle.
+ghost use mathlib.Core.Path.{_≡_};
+ghost use mathlib.Core.List.{_∷_};
+ghost use mathlib.Core.Bool.{true};
+ghost use Prim.Native.Nat.{_<_};
+ghost use lib.ListN.{length, getD};
+ghost use Rattle.dataset.specs.Terms.{blank, bracket};
+ghost use Rattle.machine.specs.Memory.{new-term};
+ghost use Rattle.state.specs.Words.{node-word, kind-word, at-word, depth-word};
+ghost use Rattle.scope.specs.Code.{words-size};
+ghost use Rattle.state.specs.Cursor.{Cursor};
+ghost use Rattle.state.specs.Writes.{placed, opened-at};
+ghost use Rattle.reading.specs.Reading.{held, Ready, Does};
+ghost use Rattle.nodes.specs.Nodes.{spot-of, Spotted, Fills, Numbers, PutsTerm, Closes, Steady, code-among, term-kinds, verb-kinds};
+ghost use Rattle.token.specs.Kind.{strings, kw-a};
+ghost use Rattle.nesting.specs.Nesting.{Skips, Inside, Lists, Objects, Properties, Entered};
+use scope::Layout;
+use state::Words;
+
+pub fn put_term(
+    doc: &&[u8],
+    work: &mut &mut [u8],
+    rows: &mut &mut [u32],
+    terms: &mut &mut [u32],
+    store: &mut &mut [u8],
+    st: &mut [usize; Layout::WORDS],
+) -> u8
+    requires { ⌜ (Ready (now (now doc)) (held (now work) (now rows) (now terms) (now store) (now st)) × Spotted (held (now work) (now rows) (now terms) (now store) (now st))) × (code-among (kw-a ∷ term-kinds) (getD (now st) kind-word 0) ≡ true) ⌝ }
+    ensures { λ r. ⌜ PutsTerm (now (now (doc .entry))) (held (now (work .entry)) (now (rows .entry)) (now (terms .entry)) (now (store .entry)) (now (st .entry))) (held (now (work .exit)) (now (rows .exit)) (now (terms .exit)) (now (store .exit)) (now (st .exit))) r ⌝ }
+{
+    0
+}
+
+pub fn put_string(
+    doc: &&[u8],
+    work: &mut &mut [u8],
+    rows: &mut &mut [u32],
+    terms: &mut &mut [u32],
+    store: &mut &mut [u8],
+    st: &mut [usize; Layout::WORDS],
+) -> u8
+    requires { ⌜ (Ready (now (now doc)) (held (now work) (now rows) (now terms) (now store) (now st)) × Spotted (held (now work) (now rows) (now terms) (now store) (now st))) × (code-among strings (getD (now st) kind-word 0) ≡ true) ⌝ }
+    ensures { λ r. ⌜ Fills (now (now (doc .entry))) (held (now (work .entry)) (now (rows .entry)) (now (terms .entry)) (now (store .entry)) (now (st .entry))) (held (now (work .exit)) (now (rows .exit)) (now (terms .exit)) (now (store .exit)) (now (st .exit))) r × Steady (held (now (work .entry)) (now (rows .entry)) (now (terms .entry)) (now (store .entry)) (now (st .entry))) (held (now (work .exit)) (now (rows .exit)) (now (terms .exit)) (now (store .exit)) (now (st .exit))) r ⌝ }
+{
+    0
+}
+
+pub fn put_bracket(
+    doc: &&[u8],
+    work: &mut &mut [u8],
+    rows: &mut &mut [u32],
+    terms: &mut &mut [u32],
+    store: &mut &mut [u8],
+    st: &mut [usize; Layout::WORDS],
+) -> u8
+    requires { ⌜ (Ready (now (now doc)) (held (now work) (now rows) (now terms) (now store) (now st)) × Spotted (held (now work) (now rows) (now terms) (now store) (now st))) × (getD (now st) kind-word 0 ≡ 22) ⌝ }
+    ensures { λ r. ⌜ Numbers (now (now (doc .entry))) (placed (spot-of (held (now (work .entry)) (now (rows .entry)) (now (terms .entry)) (now (store .entry)) (now (st .entry)))) (new-term (blank (bracket (getD (now (st .entry)) at-word 0))))) (held (now (work .entry)) (now (rows .entry)) (now (terms .entry)) (now (store .entry)) (now (st .entry))) (held (now (work .exit)) (now (rows .exit)) (now (terms .exit)) (now (store .exit)) (now (st .exit))) r ⌝ }
+{
+    0
+}
+
+pub fn put_paren(
+    doc: &&[u8],
+    work: &mut &mut [u8],
+    rows: &mut &mut [u32],
+    terms: &mut &mut [u32],
+    store: &mut &mut [u8],
+    st: &mut [usize; Layout::WORDS],
+) -> u8
+    requires { ⌜ (Ready (now (now doc)) (held (now work) (now rows) (now terms) (now store) (now st)) × Spotted (held (now work) (now rows) (now terms) (now store) (now st))) × (getD (now st) kind-word 0 ≡ 24) ⌝ }
+    ensures { λ r. ⌜ Does (now (now (doc .entry))) (opened-at (spot-of (held (now (work .entry)) (now (rows .entry)) (now (terms .entry)) (now (store .entry)) (now (st .entry))))) (held (now (work .entry)) (now (rows .entry)) (now (terms .entry)) (now (store .entry)) (now (st .entry))) (held (now (work .exit)) (now (rows .exit)) (now (terms .exit)) (now (store .exit)) (now (st .exit))) r ⌝ }
+{
+    0
+}
+
+pub fn close_list(
+    doc: &&[u8],
+    work: &mut &mut [u8],
+    rows: &mut &mut [u32],
+    terms: &mut &mut [u32],
+    store: &mut &mut [u8],
+    st: &mut [usize; Layout::WORDS],
+) -> u8
+    requires { ⌜ (Ready (now (now doc)) (held (now work) (now rows) (now terms) (now store) (now st)) × Spotted (held (now work) (now rows) (now terms) (now store) (now st))) × ((getD (now st) kind-word 0 ≡ 25) × (0 < getD (now st) depth-word 0)) ⌝ }
+    ensures { λ r. ⌜ Closes (now (now (doc .entry))) (held (now (work .entry)) (now (rows .entry)) (now (terms .entry)) (now (store .entry)) (now (st .entry))) (held (now (work .exit)) (now (rows .exit)) (now (terms .exit)) (now (store .exit)) (now (st .exit))) r ⌝ }
+{
+    0
+}
+
+// Goes behind the semicolons at the cursor.
+fn skip_semicolons(doc: &&[u8], st: &mut [usize; Layout::WORDS])
+    requires { ⌜ (Cursor (now (now doc)) (now st) × (length (now st) ≡ words-size)) × (getD (now st) kind-word 0 ≡ 21) ⌝ }
+    ensures { λ _. ⌜ Skips (now (now (doc .entry))) (now (st .entry)) (now (st .exit)) ⌝ }
+{
+    nodes::pass(doc, st);
+    while st[Words::KIND] == 21 {
+        nodes::pass(doc, st);
+    }
+}
+
+// A node where one is awaited.
+fn node(
+    doc: &&[u8],
+    work: &mut &mut [u8],
+    rows: &mut &mut [u32],
+    terms: &mut &mut [u32],
+    store: &mut &mut [u8],
+    st: &mut [usize; Layout::WORDS],
+) -> u8
+    requires { ⌜ Ready (now (now doc)) (held (now work) (now rows) (now terms) (now store) (now st)) × Spotted (held (now work) (now rows) (now terms) (now store) (now st)) ⌝ }
+    ensures { λ r. ⌜ Fills (now (now (doc .entry))) (held (now (work .entry)) (now (rows .entry)) (now (terms .entry)) (now (store .entry)) (now (st .entry))) (held (now (work .exit)) (now (rows .exit)) (now (terms .exit)) (now (store .exit)) (now (st .exit))) r × Steady (held (now (work .entry)) (now (rows .entry)) (now (terms .entry)) (now (store .entry)) (now (st .entry))) (held (now (work .exit)) (now (rows .exit)) (now (terms .exit)) (now (store .exit)) (now (st .exit))) r ⌝ }
+{
+    let kind = st[Words::KIND];
+    if nodes::is_term(kind) {
+        return put_term(doc, work, rows, terms, store, st);
+    }
+    if nodes::is_string(kind) {
+        return put_string(doc, work, rows, terms, store, st);
+    }
+    if kind == 22 {
+        let c = put_bracket(doc, work, rows, terms, store, st);
+        if c != 0 {
+            return c;
+        }
+        return inside(doc, work, rows, terms, store, st);
+    }
+    if kind == 24 {
+        let at = st[Words::AT];
+        let cell = st[Words::TERMS] + 1;
+        let c = put_paren(doc, work, rows, terms, store, st);
+        if c != 0 {
+            return c;
+        }
+        enter_list(st, at, cell);
+        return elements(doc, work, rows, terms, store, st);
+    }
+    reading::unexpected(*doc, st)
+}
+
+// What is in a bracket, behind it, and its end.
+fn inside(
+    doc: &&[u8],
+    work: &mut &mut [u8],
+    rows: &mut &mut [u32],
+    terms: &mut &mut [u32],
+    store: &mut &mut [u8],
+    st: &mut [usize; Layout::WORDS],
+) -> u8
+    requires { ⌜ (Ready (now (now doc)) (held (now work) (now rows) (now terms) (now store) (now st)) × (getD (now st) node-word 0 < 4294967296)) × (0 < getD (now st) depth-word 0) ⌝ }
+    ensures { λ r. ⌜ Inside (now (now (doc .entry))) (held (now (work .entry)) (now (rows .entry)) (now (terms .entry)) (now (store .entry)) (now (st .entry))) (held (now (work .exit)) (now (rows .exit)) (now (terms .exit)) (now (store .exit)) (now (st .exit))) r ⌝ }
+{
+    let n = st[Words::NODE];
+    if st[Words::KIND] == 23 {
+        nodes::leave(doc, st);
+        return 0;
+    }
+    if !nodes::is_verb(st[Words::KIND]) {
+        return reading::unexpected(*doc, st);
+    }
+    let c = properties(doc, work, rows, terms, store, st, n);
+    if c != 0 {
+        return c;
+    }
+    if st[Words::KIND] != 23 {
+        return reading::unexpected(*doc, st);
+    }
+    nodes::leave(doc, st);
+    0
+}
+
+// Predicates of s and their objects, from a predicate on to what cannot go on with them.
+pub fn properties(
+    doc: &&[u8],
+    work: &mut &mut [u8],
+    rows: &mut &mut [u32],
+    terms: &mut &mut [u32],
+    store: &mut &mut [u8],
+    st: &mut [usize; Layout::WORDS],
+    s: usize,
+) -> u8
+    requires { ⌜ (Ready (now (now doc)) (held (now work) (now rows) (now terms) (now store) (now st)) × (s < 4294967296)) × ((0 < s) × (code-among verb-kinds (getD (now st) kind-word 0) ≡ true)) ⌝ }
+    ensures { λ r. ⌜ Properties (now (now (doc .entry))) (held (now (work .entry)) (now (rows .entry)) (now (terms .entry)) (now (store .entry)) (now (st .entry))) (held (now (work .exit)) (now (rows .exit)) (now (terms .exit)) (now (store .exit)) (now (st .exit))) s r ⌝ }
+{
+    loop {
+        nodes::aim(st, 0, 0, 0, 0, 0);
+        let c = put_term(doc, work, rows, terms, store, st);
+        if c != 0 {
+            return c;
+        }
+        let p = st[Words::NODE];
+        let d = objects(doc, work, rows, terms, store, st, s, p);
+        if d != 0 {
+            return d;
+        }
+        if st[Words::KIND] != 21 {
+            return 0;
+        }
+        skip_semicolons(doc, st);
+        if !nodes::is_verb(st[Words::KIND]) {
+            return 0;
+        }
+    }
+}
+
+// The objects of s and p.
+fn objects(
+    doc: &&[u8],
+    work: &mut &mut [u8],
+    rows: &mut &mut [u32],
+    terms: &mut &mut [u32],
+    store: &mut &mut [u8],
+    st: &mut [usize; Layout::WORDS],
+    s: usize,
+    p: usize,
+) -> u8
+    requires { ⌜ (Ready (now (now doc)) (held (now work) (now rows) (now terms) (now store) (now st)) × ((s < 4294967296) × (p < 4294967296))) × ((0 < s) × (0 < p)) ⌝ }
+    ensures { λ r. ⌜ Objects (now (now (doc .entry))) (held (now (work .entry)) (now (rows .entry)) (now (terms .entry)) (now (store .entry)) (now (st .entry))) (held (now (work .exit)) (now (rows .exit)) (now (terms .exit)) (now (store .exit)) (now (st .exit))) s p r ⌝ }
+{
+    loop {
+        nodes::aim(st, 0, s, p, 0, 0);
+        let c = node(doc, work, rows, terms, store, st);
+        if c != 0 {
+            return c;
+        }
+        if st[Words::KIND] != 20 {
+            return 0;
+        }
+        nodes::pass(doc, st);
+    }
+}
+
+// The elements of a list, behind its bracket, and its end.
+pub fn elements(
+    doc: &&[u8],
+    work: &mut &mut [u8],
+    rows: &mut &mut [u32],
+    terms: &mut &mut [u32],
+    store: &mut &mut [u8],
+    st: &mut [usize; Layout::WORDS],
+) -> u8
+    requires { ⌜ (Ready (now (now doc)) (held (now work) (now rows) (now terms) (now store) (now st)) × Spotted (held (now work) (now rows) (now terms) (now store) (now st))) × (0 < getD (now st) depth-word 0) ⌝ }
+    ensures { λ r. ⌜ Lists (now (now (doc .entry))) (held (now (work .entry)) (now (rows .entry)) (now (terms .entry)) (now (store .entry)) (now (st .entry))) (held (now (work .exit)) (now (rows .exit)) (now (terms .exit)) (now (store .exit)) (now (st .exit))) r ⌝ }
+{
+    let x = st[Words::X];
+    let y = st[Words::Y];
+    let opened = st[Words::OPENED];
+    let mut last: usize = 0;
+    loop {
+        nodes::aim(st, 1, x, y, opened, last);
+        if st[Words::KIND] == 25 {
+            return close_list(doc, work, rows, terms, store, st);
+        }
+        let cell = st[Words::TERMS] + 1;
+        let c = node(doc, work, rows, terms, store, st);
+        if c != 0 {
+            return c;
+        }
+        last = cell;
+    }
+}
+
+// The list at the cursor's back was opened at a place; what it belongs to itself is put where its elements look for it.
+fn enter_list(st: &mut [usize; Layout::WORDS], at: usize, cell: usize)
+    requires { ⌜ length (now st) ≡ words-size ⌝ }
+    ensures { λ _. ⌜ Entered (now (st .entry)) (now (st .exit)) at cell ⌝ }
+{
+    if st[Words::LIST] == 0 {
+        let x = st[Words::X];
+        let y = st[Words::Y];
+        nodes::aim(st, 0, x, y, at, 0);
+        return;
+    }
+    nodes::aim(st, 0, cell, 0, at, 0);
+}
