@@ -77,7 +77,7 @@ object-slot doc a (suc s) (suc p) e el ex ey hs hp =
     record {
       opening = return (record { place = object-of (suc s) (suc p); after = after-object (suc s) (suc p) e ∷ [] });
       rules = λ k tied h. refl;
-      others = λ tied h. no-object (here doc a) tied _ (here doc a .kind) h;
+      others = λ z y tied h. no-object (here doc a) tied _ (here doc a .kind) h;
       opens = λ old m h. rw (there, starts m);
       begins = λ old m h. rw (there, starts m);
       no-node = λ n. rw there;
@@ -142,12 +142,12 @@ module _ (doc : Text) (a : Held) (place : Place) (cs : Cells) (z : getD (a .st) 
   number-next : (old : Tables) (m : Memory) → Holding old m a → new-cell place opened-at-word cs (getD (a .st) at-word 0) m .0 ≡ cell-next
   number-next old m h = cell-number place opened-at-word cs (getD (a .st) at-word 0) m ∙ ap suc (sym (count-of old m a h))
 
-  pub element-slot : (getD (a .st) kind-word 0 ≡ 25 → ⊥) → (getD (a .st) kind-word 0 ≡ 0 → ⊥) → getD (a .st) kind-word 0 ≤ 30 → Slot doc a (list place opened-at-word cs) (list place opened-at-word (extended cs cell-next))
-  element-slot k25 k0 k30 =
+  pub element-slot : (getD (a .st) kind-word 0 ≡ 25 → ⊥) → Slot doc a (list place opened-at-word cs) (list place opened-at-word (extended cs cell-next))
+  element-slot k25 =
       record {
         opening = begins-list;
         rules = λ k tied h. rw (object-not-close k h);
-        others = λ tied h. rw (close-not (getD (a .st) kind-word 0) k25 k0 k30) (no-object (here doc a) tied begins-list (here doc a .kind) h);
+        others = λ x y tied h. rw (close-not (getD (a .st) kind-word 0) k25 x (y .known)) (no-object (here doc a) tied begins-list (here doc a .kind) h);
         opens = λ old m h.
             let n = number-next old m h in
             rw (slot-list a z, begin-list a z m, ← same-cell m) (ap (λ (c : ℕ). (record { place = element-of c; after = list place opened-at-word (extended cs c) ∷ [] }, new-cell place opened-at-word cs (getD (a .st) at-word 0) m .1)) n);
@@ -157,7 +157,7 @@ module _ (doc : Text) (a : Held) (place : Place) (cs : Cells) (z : getD (a .st) 
       }
     where
       close-not : (k : ℕ) → (k ≡ 25 → ⊥) → (k ≡ 0 → ⊥) → k ≤ 30 → among (close-paren ∷ []) (kind-of-code k) ≡ false
-      close-not k x y w = rw (among-code (close-paren ∷ []) k y w, ne-eqb 25 k (λ e. x (sym e)))
+      close-not k x y w = rw (among-code (close-paren ∷ []) k y w, ne-eqb k 25 x)
 
 -- ---- Nodes of one token
 

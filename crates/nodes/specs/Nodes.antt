@@ -1,13 +1,13 @@
 -- Nodes at their places: what one token of a term, a bracket or a list writes there.
 use mathlib.Core.Path.{_≡_}
 use mathlib.Core.List.{List, [], _∷_, _++_}
-use mathlib.Core.Bool.{Bool, true, false, not, _||_}
+use mathlib.Core.Bool.{Bool, true, false, not}
 use mathlib.Core.Option.{Option, none, some}
 use Prim.Native.Nat.{ℕ, suc, _+_, _≤_, _<_}
 use lib.Dec.{eqb}
 use lib.ListN.{length, getD}
 use Rattle.text.specs.Text.{Text, cond}
-use Rattle.token.specs.Kind.{Kind, kind-code, kind-of-code, among, iris, strings, «BLANK_NODE_LABEL», INTEGER, DECIMAL, DOUBLE, kw-a, kw-true, kw-false, open-bracket, close-bracket, open-paren, close-paren}
+use Rattle.token.specs.Kind.{Kind, kind-of-code, among, iris, strings, «BLANK_NODE_LABEL», INTEGER, DECIMAL, DOUBLE, kw-a, kw-true, kw-false, open-bracket, close-bracket, open-paren, close-paren}
 use Rattle.token.specs.Tokens.{Token}
 use Rattle.dataset.specs.Terms.{iri, rdf-type, xsd-integer, xsd-decimal, xsd-double, xsd-boolean}
 use Rattle.machine.specs.Memory.{Memory, Write, term, typed, iri-term}
@@ -15,7 +15,7 @@ use Rattle.machine.specs.Frame.{Ending, Place, top, subject-before, object-of, 
 use Rattle.machine.specs.Rules.{Rule, _⇒_, find-rule, after-node, after-properties, Opening, label-term, end-rules, verb-rules, object-rules, frame-rules}
 use Rattle.state.specs.Words.{terms-word, node-word, kind-word, at-word, len-word, depth-word, graph-word, list-word, x-word, y-word, opened-word, last-word}
 use Rattle.lexer.specs.Rest.{rest}
-use Rattle.state.specs.Cursor.{Cursor, left}
+use Rattle.state.specs.Cursor.{Cursor, TokenHere, left}
 use Rattle.state.specs.Represents.{Tables}
 use Rattle.state.specs.Writes.{place-of, begin, placed, closed}
 use Rattle.state.specs.declared.Spot.{Spot}
@@ -65,7 +65,7 @@ object-kinds = iris ++ («BLANK_NODE_LABEL» ∷ INTEGER ∷ DECIMAL ∷ DOUBLE 
 pub record Slot (doc : Text) (h : Held) (f g : Frame) : Type 0 where
   pub opening : Write Opening
   pub rules : (k : Kind) (tied : Bool) → among object-kinds k ≡ true → find-rule k (frame-rules (here doc h) tied f) ≡ find-rule k (object-rules (here doc h) tied opening)
-  pub others : (tied : Bool) → among object-kinds (here doc h .kind) ≡ false → find-rule (here doc h .kind) (frame-rules (here doc h) tied f) ≡ none
+  pub others : (getD (h .st) kind-word 0 ≡ 0 → ⊥) → TokenHere doc (h .st) → (tied : Bool) → among object-kinds (here doc h .kind) ≡ false → find-rule (here doc h .kind) (frame-rules (here doc h) tied f) ≡ none
   pub opens : (old : Tables) (m : Memory) → Holding old m h → opening m ≡ (record { place = slot-place h; after = g ∷ [] }, begin (spot-of h) m .1)
   pub begins : (old : Tables) (m : Memory) → Holding old m h → begin (spot-of h) m .0 ≡ slot-place h
   pub no-node : (n : ℕ) → after-node (slot-place h) n ≡ []
@@ -112,7 +112,7 @@ pub record Verbs (f : Frame) (s : ℕ) (e : Ending) (after : List Frame) : Type 
 
 -- Behind predicates and objects nothing but their end may come.
 abbrev pub Ends : Frame → Ending → ℕ → Type 0
-Ends f e k = (t : Token) (tied : Bool) → find-rule (kind-of-code k) (frame-rules t tied f) ≡ find-rule (kind-of-code k) (end-rules t tied e)
+Ends f e k = (k ≡ 0 → ⊥) → k ≤ 30 → (t : Token) (tied : Bool) → find-rule (kind-of-code k) (frame-rules t tied f) ≡ find-rule (kind-of-code k) (end-rules t tied e)
 
 -- ---- Words
 
@@ -136,11 +136,6 @@ pub record Passed (doc : Text) (st st' : List ℕ) (depth graph : ℕ) : Type 0 
   pub before : (k : ℕ) → k < kind-word → getD st' k 0 ≡ getD st k 0
   pub spot : (k : ℕ) → list-word ≤ k → getD st' k 0 ≡ getD st k 0
   pub words : length st' ≡ length st
-
--- Is the number that of one of these kinds?
-abbrev pub code-among : List Kind → ℕ → Bool
-code-among [] n = false
-code-among (j ∷ js) n = eqb n (kind-code j) || code-among js n
 
 abbrev pub term-kinds : List Kind
 term-kinds = iris ++ («BLANK_NODE_LABEL» ∷ INTEGER ∷ DECIMAL ∷ DOUBLE ∷ kw-true ∷ kw-false ∷ [])

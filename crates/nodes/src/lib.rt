@@ -14,8 +14,8 @@ ghost use Rattle.machine.specs.Rules.{find-rule};
 ghost use Rattle.state.specs.Words.{kind-word, at-word, depth-word, graph-word};
 ghost use Rattle.state.specs.Cursor.{Cursor, TokenHere};
 ghost use Rattle.state.specs.Writes.{placed, opened-at, closed};
-ghost use Rattle.reading.specs.Reading.{held, here, Ready, Gives, Does};
-ghost use Rattle.nodes.specs.Nodes.{term-rules, spot-of, Spotted, Fills, Aimed, Passed, Steady, code-among, term-kinds, verb-kinds};
+ghost use Rattle.reading.specs.Reading.{code-among, held, here, Ready, Gives, Does};
+ghost use Rattle.nodes.specs.Nodes.{term-rules, spot-of, Spotted, Fills, Aimed, Passed, Steady, term-kinds, verb-kinds};
 use scope::Layout;
 use state::Words;
 

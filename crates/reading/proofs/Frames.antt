@@ -54,11 +54,11 @@ module _ (doc : Text) (f : Frame) (gs : List Frame) (a b : Held) (r : ℕ) (read
       ))
 
 module _ (doc : Text) (f : Frame) (fs gs : List Frame) (a : Held) (r : ℕ) (ready : Ready doc a) where
-  pub reads-none : ((tied : Bool) → find-rule (here doc a .kind) (frame-rules (here doc a) tied f) ≡ none) → r ≡ refusal-here doc (a .st) → Reads doc (f ∷ fs) gs a a r
+  pub reads-none : ((getD (a .st) kind-word 0 ≡ 0 → ⊥) → TokenHere doc (a .st) → (tied : Bool) → find-rule (here doc a .kind) (frame-rules (here doc a) tied f) ≡ none) → r ≡ refusal-here doc (a .st) → Reads doc (f ∷ fs) gs a a r
   unfolding rules
   reads-none nothing-there e =
       refused-comes doc (λ k. statement (f ∷ (fs ++ k))) (λ k. statement (gs ++ k)) a ready r e
       (record {
-        token = λ mode k tied. none-above (here doc a) tied (fs ++ k) (here doc a .kind) (frame-rules (here doc a) tied f) (nothing-there tied);
+        token = λ z h mode k tied. none-above (here doc a) tied (fs ++ k) (here doc a .kind) (frame-rules (here doc a) tied f) (nothing-there z h tied);
         ended = λ k n m. refl;
       })

@@ -147,19 +147,7 @@ module _ {I : Type 0} (doc : Text) (w : Write ℕ) (F G : I → Open) (a b : Hel
 -- A token of a kind that may hold escapes and names no character, by its number.
 no-character-code : (t : Token) (k : ℕ) → t .kind ≡ kind-of-code k → (k ≡ 0 → ⊥) → k ≤ 30 → no-character t ≡ (escaped-kind k && bad-escape (t .text))
 unfolding no-character
-no-character-code t k e z h =
-    rw (e, among-code (IRIREF ∷ strings) k z h, eqb-sym 1 k, eqb-sym 11 k, eqb-sym 12 k, eqb-sym 29 k, eqb-sym 30 k) (ap (λ (x : Bool). x && bad-escape (t .text)) (shape (eqb k 1) (eqb k 11) (eqb k 12) (eqb k 29) (eqb k 30)))
-  where
-    eqb-sym : (i j : ℕ) → eqb i j ≡ eqb j i
-    eqb-sym i j = by (eqb j i) (λ x. rw (x, eq-eqb i j (sym (eqb-true j i x)))) (λ x. rw (x, ne-eqb i j (λ y. eqb-false j i x (sym y))))
-
-    shape : (p q r s u : Bool) → (p || (q || (r || (s || (u || false))))) ≡ (p || (q || (r || (s || u))))
-    shape true q r s u = refl
-    shape false true r s u = refl
-    shape false false true s u = refl
-    shape false false false true u = refl
-    shape false false false false true = refl
-    shape false false false false false = refl
+no-character-code t k e z h = rw (e, among-code (IRIREF ∷ strings) k z h)
 
 -- The refusal by what stands at the cursor.
 pub here-unread : (doc : Text) (st : List ℕ) → getD st kind-word 0 ≡ 31 → 6 ≡ refusal-here doc st
@@ -218,7 +206,7 @@ here-token doc a h p q = rw (ne-eqb (getD (a .st) kind-word 0) 31 q, no-characte
 module _ {I : Type 0} (doc : Text) (F G : I → Open) (a : Held) (ready : Ready doc a) where
   -- Nothing that is open takes what stands at the cursor.
   pub record NoRule : Type 0 where
-    pub token : (mode : Mode) (i : I) (tied : Bool) → find-rule (here doc a .kind) (rules (here doc a) tied mode (F i)) ≡ none
+    pub token : (getD (a .st) kind-word 0 ≡ 0 → ⊥) → TokenHere doc (a .st) → (mode : Mode) (i : I) (tied : Bool) → find-rule (here doc a .kind) (rules (here doc a) tied mode (F i)) ≡ none
     pub ended : (i : I) (n : ℕ) (m : Memory) → at-end (F i) n m ≡ refused 8 n
 
   pub refused-comes : (r : ℕ) → r ≡ refusal-here doc (a .st) → NoRule → Comes doc F G a a r
@@ -248,5 +236,5 @@ module _ {I : Type 0} (doc : Text) (F G : I → Open) (a : Held) (ready : Ready 
           taken mode m i p q =
               let h = ready .cursor .token p q in
               goes-step doc a h p mode (F i) m
-              ∙ ap (onward _) (step-none mode (room-in (tables-of a)) (F i) (getD (a .st) depth-word 0) m (here doc a) (tied-here doc a h p) (none-there .token mode i (tied-here doc a h p)))
+              ∙ ap (onward _) (step-none mode (room-in (tables-of a)) (F i) (getD (a .st) depth-word 0) m (here doc a) (tied-here doc a h p) (none-there .token p h mode i (tied-here doc a h p)))
               ∙ ap (λ (x : ℕ). refused x (getD (a .st) at-word 0)) (sym (here-token doc a h p q))

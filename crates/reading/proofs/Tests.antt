@@ -5,7 +5,7 @@ use mathlib.Core.Bool.{Bool, true, false, _&&_, _||_}
 use mathlib.Core.Option.{Option, none, some}
 use Prim.Native.Nat.{ℕ, zero, suc, pred, _≤_, _<_}
 use native.Mathlib.Omega.{arith}
-use borrow.Author.Tests.{eqb-true}
+use borrow.Author.Tests.{eqb-true, eqb-false, eq-eqb, ne-eqb}
 use lib.Dec.{T, eqb, ltb}
 use lib.ListN.{getD}
 use Rattle.text.specs.Text.{cond}
@@ -14,6 +14,7 @@ use Rattle.text.proofs.Booleans.{is-true}
 use Rattle.utf8.proofs.Tests.{below, below-at}
 use Rattle.token.specs.Kind.{Kind, kind-code, kinds, kind-of-code, among}
 use Rattle.table.specs.Tables.{or-zero}
+use Rattle.reading.specs.Reading.{code-among}
 use Rattle.machine.specs.Step.{Test, _when_, first-refusal}
 use Rattle.machine.specs.Rules.{Rule, _⇒_, find-rule}
 
@@ -43,14 +44,13 @@ pub code-back : (k : ℕ) → (k ≡ 0 → ⊥) → k ≤ 30 → kind-code (kind
 code-back zero z h = absurd (z refl)
 code-back (suc n) z h = eqb-true (kind-code (kind-of-code (suc n))) (suc n) (is-true (eqb (kind-code (kind-of-code (suc n))) (suc n)) (below-at (λ i. eqb (kind-code (kind-of-code (suc i))) (suc i)) 30 tt n (omega arith)))
 
--- Is the number one of these kinds'?
-abbrev pub code-among : List Kind → ℕ → Bool
-code-among [] n = false
-code-among (j ∷ js) n = eqb (kind-code j) n || code-among js n
+eqb-swap : (i j : ℕ) → eqb i j ≡ eqb j i
+eqb-swap i j = by (eqb j i) (λ x. rw (x, eq-eqb i j (sym (eqb-true j i x)))) (λ x. rw (x, ne-eqb i j (λ y. eqb-false j i x (sym y))))
 
+-- By their numbers.
 pub among-code : (ks : List Kind) (k : ℕ) → (k ≡ 0 → ⊥) → k ≤ 30 → among ks (kind-of-code k) ≡ code-among ks k
 among-code [] k z h = refl
-among-code (j ∷ js) k z h = rw (code-back k z h, among-code js k z h)
+among-code (j ∷ js) k z h = rw (code-back k z h, among-code js k z h, eqb-swap (kind-code j) k)
 
 -- The kinds that rules are for; a kind that is none of them has no rule.
 abbrev pub kinds-of : {A : Type 0} → List (Rule A) → List (List Kind)

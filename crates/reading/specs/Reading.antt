@@ -1,13 +1,14 @@
 -- What the routines of the reader say of the machine: it goes on from what is open before to what is open after, or is refused.
 use mathlib.Core.Path.{_≡_}
 use mathlib.Core.List.{List, [], _∷_, _++_}
-use mathlib.Core.Bool.{Bool, _&&_, _||_}
+use mathlib.Core.Bool.{Bool, false, _&&_, _||_}
 use Prim.Native.Nat.{ℕ, _+_, _≤_, _<_}
 use lib.Dec.{eqb, ltb}
 use lib.ListN.{length, getD, take, drop}
 use denote.Ref.{RefT, at-last}
 use Rattle.text.specs.Text.{Text, cond}
 use Rattle.limits.specs.Limits.{depth-limit}
+use Rattle.token.specs.Kind.{Kind, kind-code, IRIREF, strings}
 use Rattle.token.specs.Tokens.{Token}
 use Rattle.escape.specs.Escape.{bad-escape}
 use Rattle.grammar.specs.Productions.{Mode}
@@ -130,9 +131,14 @@ pub record Gives (doc : Text) (w : Write ℕ) (a b : Held) (r : ℕ) : Type 0 wh
   pub node : r ≡ 0 → (old : Tables) (m : Memory) → Holding old m a → getD (b .st) node-word 0 ≡ w m .0
   pub small : r ≡ 0 → getD (b .st) node-word 0 < 4294967296
 
+-- Is this the number of one of these kinds?
+abbrev pub code-among : List Kind → ℕ → Bool
+code-among [] n = false
+code-among (j ∷ js) n = eqb n (kind-code j) || code-among js n
+
 -- Is this the number of a kind whose tokens may hold numeric escapes?
 abbrev pub escaped-kind : ℕ → Bool
-escaped-kind k = eqb k 1 || (eqb k 11 || (eqb k 12 || (eqb k 29 || eqb k 30)))
+escaped-kind k = code-among (IRIREF ∷ strings) k
 
 -- The refusal at a place where no rule takes what stands there.
 unfoldable pub refusal-here : Text → List ℕ → ℕ
