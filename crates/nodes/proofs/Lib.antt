@@ -1,3 +1,4 @@
 pub mod Moving
 pub mod Passing
 pub mod Slots
+pub mod Predicates

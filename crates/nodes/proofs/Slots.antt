@@ -77,7 +77,7 @@ object-slot doc a (suc s) (suc p) e el ex ey hs hp =
     record {
       opening = return (record { place = object-of (suc s) (suc p); after = after-object (suc s) (suc p) e ∷ [] });
       rules = λ k tied h. refl;
-      others = λ z y tied h. no-object (here doc a) tied _ (here doc a .kind) h;
+      others = λ z y tied h. no-object (here doc a) tied (return (record { place = object-of (suc s) (suc p); after = after-object (suc s) (suc p) e ∷ [] })) (here doc a .kind) h;
       opens = λ old m h. rw (there, starts m);
       begins = λ old m h. rw (there, starts m);
       no-node = λ n. rw there;

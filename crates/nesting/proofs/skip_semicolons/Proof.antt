@@ -1,3 +1,7 @@
+use Prim.Native.Nat.{_-_}
+use native.Mathlib.Omega.{arith}
+use lib.ListN.{length, getD}
+use Rattle.nesting.proofs.Skipping.{Skipping, token-there, skip-first, skip-more, skips}
 use borrow.Author.Needs.{needs}
 use Rattle.nesting.proofs.skip_semicolons.Statement.{statement}
 use Rattle.nesting.proofs.skip_semicolons.Tie as tie
@@ -6,18 +10,18 @@ use Rattle.nesting.proofs.skip_semicolons.Lts as lts
 use Rattle.nodes.proofs.pass.Reads as pass-reads
 
 abbrev Inv-loop : tie.InvT-loop
-Inv-loop doc st₀ st = ?
+Inv-loop doc st₀ st = Skipping (doc .now) st₀ st
 
 abbrev μ-loop : tie.MeasureT-loop
-μ-loop doc st₀ st = ?
+μ-loop doc st₀ st = length (doc .now) - getD st 72 0
 
 -- src/lib.rt:96:5
 pass-requires : tie.Need-pass-requires Inv-loop μ-loop
-pass-requires c κs = search needs
+pass-requires c κs = search (needs, token-there)
 
 -- src/lib.rt:97:5
 loop-holds : tie.Need-loop-holds Inv-loop μ-loop
-loop-holds c = search needs
+loop-holds c = search skip-first
 
 -- src/lib.rt:97:11
 element-copy-out-if1 : tie.Need-element-copy-out-if1 Inv-loop μ-loop
@@ -25,7 +29,7 @@ element-copy-out-if1 c = search needs
 
 -- src/lib.rt:98:9
 pass-requires-2 : tie.Need-pass-requires-2 Inv-loop μ-loop
-pass-requires-2 c κs = search needs
+pass-requires-2 c κs = search (needs, token-there)
 
 -- src/lib.rt:97:5
 loop-less : tie.Need-loop-less Inv-loop μ-loop
@@ -33,11 +37,11 @@ loop-less c = search needs
 
 -- src/lib.rt:97:5
 loop-again : tie.Need-loop-again Inv-loop μ-loop
-loop-again c = search needs
+loop-again c = search skip-more
 
 -- src/lib.rt:92:1
 returns : tie.Need-returns Inv-loop μ-loop
-returns c = search needs
+returns c = search skips
 
 pub skip-semicolons-spec : {M : Type 1} → statement M
 skip-semicolons-spec =

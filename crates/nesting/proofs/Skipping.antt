@@ -1,0 +1,73 @@
+-- Semicolons.
+use mathlib.Core.Path.{_≡_, refl, sym, ap, _∙_, subst}
+use mathlib.Core.List.{List, [], _∷_, _++_}
+use Prim.Native.Nat.{ℕ, _+_, _-_, _≤_, _<_}
+use native.Mathlib.Omega.{arith}
+use lib.ListN.{length, getD}
+use denote.Ref.{RefT}
+use Rattle.text.specs.Text.{Text}
+use Rattle.machine.specs.Memory.{return}
+use Rattle.machine.specs.Frame.{Ending, Frame, after-object, after-semicolon}
+use Rattle.machine.specs.Refusals.{new-depth}
+use Rattle.state.specs.Words.{kind-word, at-word, depth-word, graph-word}
+use Rattle.state.specs.Cursor.{Cursor, TokenHere}
+use Rattle.reading.specs.Reading.{Held, held, here, Ready, Reads, on-top}
+use Rattle.reading.proofs.Compose.{comes-then}
+use Rattle.reading.proofs.Frames.{reads-does}
+use Rattle.nodes.specs.Nodes.{Passed}
+use Rattle.nodes.proofs.Passing.{Quiet, passed-same}
+use Rattle.nesting.specs.Nesting.{Skips}
+
+-- Semicolons were passed, and more may come.
+pub record Skipping (doc : Text) (st st' : List ℕ) : Type 0 where
+  pub reads : (work rows terms store : RefT (List ℕ)) → Ready doc (held work rows terms store st) → (s p : ℕ) (e : Ending) → Reads doc (after-object s p e ∷ []) (after-semicolon s e ∷ []) (held work rows terms store st) (held work rows terms store st') 0
+  pub cursor : Cursor doc st'
+  pub depth : getD st' depth-word 0 ≡ getD st depth-word 0
+  pub later : getD st at-word 0 < getD st' at-word 0
+  pub words : length st' ≡ length st
+
+quiet : Quiet 21
+quiet = record { escapes = refl; reference = refl; name = refl; opening = refl }
+
+-- A token with this number is there.
+pub token-there : (doc : Text) (st : List ℕ) (k : ℕ) → Cursor doc st → getD st kind-word 0 ≡ k → (k ≡ 0 → ⊥) → (k ≡ 31 → ⊥) → TokenHere doc st
+token-there doc st k c e z y = c .token (λ h. z (sym e ∙ h)) (λ h. y (sym e ∙ h))
+
+module _ (doc : Text) (st st' : List ℕ) (e : getD st kind-word 0 ≡ 21) (c : Cursor doc st) (p : Passed doc st st' (getD st depth-word 0) (getD st graph-word 0)) where
+  depth-21 : (work rows terms store : RefT (List ℕ)) → getD st depth-word 0 ≡ new-depth (getD st depth-word 0) (here doc (held work rows terms store st))
+  unfolding new-depth
+  depth-21 work rows terms store = rw e
+
+  module _ (work rows terms store : RefT (List ℕ)) (ready : Ready doc (held work rows terms store st)) where
+    after-first : (s q : ℕ) (x : Ending) → Reads doc (after-object s q x ∷ []) (after-semicolon s x ∷ []) (held work rows terms store st) (held work rows terms store st') 0
+    after-first s q x =
+        reads-does doc (after-object s q x) (after-semicolon s x ∷ []) (held work rows terms store st) (held work rows terms store st') 0 ready (λ m. (0, m)) (token-there doc st 21 c e (λ h. omega arith) (λ h. omega arith)) (λ h. omega arith)
+        (passed-same doc work rows terms store st st' 21 (getD st depth-word 0) 0 e quiet p (depth-21 work rows terms store))
+        (λ tied. (return (after-semicolon s x ∷ []), (rw e, λ old m h. (refl, λ y. refl))))
+
+    after-more : (s : ℕ) (x : Ending) → Reads doc (after-semicolon s x ∷ []) (after-semicolon s x ∷ []) (held work rows terms store st) (held work rows terms store st') 0
+    after-more s x =
+        reads-does doc (after-semicolon s x) (after-semicolon s x ∷ []) (held work rows terms store st) (held work rows terms store st') 0 ready (λ m. (0, m)) (token-there doc st 21 c e (λ h. omega arith) (λ h. omega arith)) (λ h. omega arith)
+        (passed-same doc work rows terms store st st' 21 (getD st depth-word 0) 0 e quiet p (depth-21 work rows terms store))
+        (λ tied. (return (after-semicolon s x ∷ []), (rw e, λ old m h. (refl, λ y. refl))))
+
+  pub skip-first : Skipping doc st st'
+  skip-first = record { reads = λ work rows terms store ready s q x. after-first work rows terms store ready s q x; cursor = p .cursor; depth = p .depth-is; later = p .later; words = p .words }
+
+  pub skip-more : (st₀ : List ℕ) → Skipping doc st₀ st → Skipping doc st₀ st'
+  skip-more st₀ k =
+      record {
+        reads = λ work rows terms store ready s q x.
+            let a = held work rows terms store st₀ in
+            let b = held work rows terms store st in
+            let d = held work rows terms store st' in
+            let R = k .reads work rows terms store ready s q x in
+            comes-then doc (on-top (after-object s q x ∷ [])) (on-top (after-semicolon s x ∷ [])) (on-top (after-semicolon s x ∷ [])) a b d 0 0 R refl (after-more work rows terms store (R .ready refl) s x);
+        cursor = p .cursor;
+        depth = p .depth-is ∙ k .depth;
+        later = omega (arith, k .later, p .later);
+        words = p .words ∙ k .words;
+      }
+
+pub skips : (doc : Text) (st st' : List ℕ) → Skipping doc st st' → (getD st' kind-word 0 ≡ 21 → ⊥) → Skips doc st st'
+skips doc st st' k z = record { reads = k .reads; ended = z; depth = k .depth; later = k .later; words = k .words }
