@@ -95,9 +95,9 @@ reported n (refused c p) = refusal c p
 abbrev pub mode-of : ℕ → Mode
 mode-of n = cond (eqb n 0) trig turtle
 
--- "the 32-bit counts of rows, terms, store bytes": no more than they can count.
+-- "the 32-bit counts of rows, terms, store bytes": room past what they, and the next number, can count is not used.
 abbrev pub counted : ℕ → ℕ
-counted n = cond (leb n 4294967295) n 4294967295
+counted n = cond (leb n 4294967294) n 4294967294
 
 abbrev pub room-of : Lent → Room
 room-of lent = record { rows = counted (row-room (lent .rows)); terms = counted (term-room (lent .terms)); store = counted (lent .store) }

@@ -1,5 +1,6 @@
 -- Semicolons.
 use mathlib.Core.Path.{_≡_, refl, sym, ap, _∙_, subst}
+use mathlib.Core.Logic.{_⊎_, inl, inr, ⊎-elim}
 use mathlib.Core.List.{List, [], _∷_, _++_}
 use Prim.Native.Nat.{ℕ, _+_, _-_, _≤_, _<_}
 use native.Mathlib.Omega.{arith}
@@ -69,5 +70,28 @@ module _ (doc : Text) (st st' : List ℕ) (e : getD st kind-word 0 ≡ 21) (c : 
         words = p .words ∙ k .words;
       }
 
-pub skips : (doc : Text) (st st' : List ℕ) → Skipping doc st st' → (getD st' kind-word 0 ≡ 21 → ⊥) → Skips doc st st'
-skips doc st st' k z = record { reads = k .reads; ended = z; depth = k .depth; later = k .later; words = k .words }
+-- Before the next semicolon: it is the first, or others were passed.
+pub record SkipInv (doc : Text) (st₀ st : List ℕ) : Type 0 where
+  pub cursor : Cursor doc st
+  pub kind : getD st kind-word 0 ≡ 21
+  pub words : length st ≡ length st₀
+  pub way : (st ≡ st₀) ⊎ Skipping doc st₀ st
+
+pub skip-start : (doc : Text) (st : List ℕ) → Cursor doc st → getD st kind-word 0 ≡ 21 → SkipInv doc st st
+skip-start doc st c e = record { cursor = c; kind = e; words = refl; way = inl refl }
+
+module _ (doc : Text) (st₀ st st' : List ℕ) (I : SkipInv doc st₀ st) (p : Passed doc st st' (getD st depth-word 0) (getD st graph-word 0)) where
+  skipped : Skipping doc st₀ st'
+  skipped = ⊎-elim (λ e. subst (λ (l : List ℕ). Skipping doc l st') e (skip-first doc st st' (I .kind) (I .cursor) p)) (λ k. skip-more doc st st' (I .kind) (I .cursor) p st₀ k) (I .way)
+
+  pub skip-again : getD st' kind-word 0 ≡ 21 → SkipInv doc st₀ st'
+  skip-again e = record { cursor = p .cursor; kind = e; words = p .words ∙ I .words; way = inr skipped }
+
+  pub skips : (getD st' kind-word 0 ≡ 21 → ⊥) → Skips doc st₀ st'
+  skips z = let k = skipped in record { reads = k .reads; ended = z; depth = k .depth; later = k .later; words = k .words }
+
+  pub skip-less : length doc - getD st' at-word 0 < length doc - getD st at-word 0
+  skip-less = omega (arith, p .later, p .cursor .inside)
+
+pub skip-ready : (doc : Text) (st₀ st : List ℕ) → SkipInv doc st₀ st → length st₀ ≡ 90 → (Cursor doc st × TokenHere doc st) × (length st ≡ 90)
+skip-ready doc st₀ st I n = ((I .cursor, token-there doc st 21 (I .cursor) (I .kind) (λ h. omega arith) (λ h. omega arith)), I .words ∙ n)

@@ -123,3 +123,9 @@ module _ (doc : Text) (work rows terms store : RefT (List ℕ)) (st st' : List �
               holding = λ old m h. represents-words old m (work .now) (tables-of a) st st' (p .before) (p .graph-is) (p .words) h;
             };
       }
+
+-- A closing bracket.
+pub depth-closing : (doc : Text) (a : Held) (k : ℕ) → getD (a .st) kind-word 0 ≡ k → among (open-bracket ∷ open-paren ∷ []) (kind-of-code k) ≡ false → among (close-bracket ∷ close-paren ∷ []) (kind-of-code k) ≡ true
+    → getD (a .st) depth-word 0 - 1 ≡ new-depth (getD (a .st) depth-word 0) (here doc a)
+unfolding new-depth
+depth-closing doc a k e o c = rw (e, o, c)

@@ -12,13 +12,14 @@ use Rattle.text.specs.Text.{Text, cond}
 use Rattle.text.proofs.Compare.{by, contrary}
 use Rattle.text.proofs.Booleans.{imp, imp-use, all, is-true}
 use Rattle.table.proofs.Numbers.{not-none}
-use Rattle.token.specs.Kind.{Kind, kinds, kind-code, kind-of-code, among, iris, kw-a, comma, semicolon, close-bracket, open-brace}
+use Rattle.token.specs.Kind.{Kind, kinds, kind-code, kind-of-code, among, iris, kw-a, comma, semicolon, open-bracket, close-bracket, open-paren, close-paren, open-brace}
 use Rattle.token.specs.Tokens.{Token}
 use Rattle.token.proofs.KindCodes.{each-kind, all-kinds, same, same-eq}
 use Rattle.dataset.specs.Terms.{iri, rdf-type}
 use Rattle.machine.specs.Memory.{Memory, Write, return, _>>=_, _>>_, term, iri-term}
 use Rattle.machine.specs.Frame.{Ending, full-stop, bracket-end, Place, Frame, label-or-subject, verb, verb-or-end, object, after-object, after-semicolon, bracket}
 use Rattle.machine.specs.Rules.{Rule, _⇒_, find-rule, hold, after-properties, end-rules, verb-rules, frame-rules}
+use Rattle.machine.specs.Refusals.{new-depth}
 use Rattle.state.specs.Words.{node-word, kind-word, list-word, x-word, y-word}
 use Rattle.state.specs.Represents.{Tables}
 use Rattle.state.specs.Writes.{place-of, begin, placed}
@@ -52,6 +53,10 @@ apart p q t k e = go (q k) (imp-use (p k) (not (q k)) (all-kinds (λ j. imp (p j
 module _ (t : Token) (tied : Bool) (after : ℕ → List Frame) (k : Kind) where
   verb-rules-kinds : among-any (kinds-of (verb-rules t tied after)) k ≡ among verb-kinds k
   verb-rules-kinds = each-kind (among-any (kinds-of (verb-rules t tied after))) (among verb-kinds) refl k
+
+-- A token that is no predicate.
+pub no-verb : (t : Token) (tied : Bool) (after : ℕ → List Frame) (k : ℕ) → (k ≡ 0 → ⊥) → k ≤ 30 → code-among verb-kinds k ≡ false → find-rule (kind-of-code k) (verb-rules t tied after) ≡ none
+no-verb t tied after k z h v = no-rule (verb-rules t tied after) (kind-of-code k) (verb-rules-kinds t tied after (kind-of-code k) ∙ (among-code verb-kinds k z h ∙ v))
 
 pub verbs-verb : (s : ℕ) (e : Ending) → Verbs (verb s e) s e []
 verbs-verb s e = record { rules = λ t tied k h. refl }
@@ -90,7 +95,7 @@ module _ (t : Token) (tied : Bool) (after : ℕ → List Frame) (k : Kind) (h : 
   verb-found : (v : Write ℕ) → find-rule k (term-rules t) ≡ some v → find-rule k (verb-rules t tied after) ≡ some (v >>= λ p. return (after p))
   verb-found v e = found-made (λ w. (w >>= λ p. return (after p))) k ((iris ⇒ iri-term t) ∷ (kw-a ∷ [] ⇒ term (iri rdf-type)) ∷ []) [] v (verb-terms v e)
 
-verb-is-term : (k : Kind) → among verb-kinds k ≡ true → among (kw-a ∷ term-kinds) k ≡ true
+pub verb-is-term : (k : Kind) → among verb-kinds k ≡ true → among (kw-a ∷ term-kinds) k ≡ true
 unfolding all
 verb-is-term k h = is-true (among (kw-a ∷ term-kinds) k) (imp-use (among verb-kinds k) (among (kw-a ∷ term-kinds) k) (all-kinds (λ j. imp (among verb-kinds j) (among (kw-a ∷ term-kinds) j)) tt k) (subst T (sym h) tt))
 
@@ -115,6 +120,12 @@ module _ (doc : Text) (a b : Held) (r : ℕ) (ready : Ready doc a) (here-token :
           ),
         ),
       ))
+
+-- Terms open and close no bracket.
+pub term-depth : (t : Token) (d : ℕ) → among (kw-a ∷ term-kinds) (t .kind) ≡ true → new-depth d t ≡ d
+unfolding new-depth all
+term-depth t d h =
+    rw (apart (among (kw-a ∷ term-kinds)) (among (open-bracket ∷ open-paren ∷ [])) tt (t .kind) h, apart (among (kw-a ∷ term-kinds)) (among (close-bracket ∷ close-paren ∷ [])) tt (t .kind) h)
 
 -- ---- Behind an object
 

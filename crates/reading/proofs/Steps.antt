@@ -176,7 +176,7 @@ here-end : (doc : Text) (st : List ℕ) → getD st kind-word 0 ≡ 0 → 8 ≡ 
 unfolding refusal-here
 here-end doc st e = rw e
 
-here-some : (doc : Text) (st : List ℕ) → refusal-here doc st ≡ 0 → ⊥
+pub here-some : (doc : Text) (st : List ℕ) → refusal-here doc st ≡ 0 → ⊥
 unfolding refusal-here
 here-some doc st e = go (eqb (getD st kind-word 0) 31) (escaped-kind (getD st kind-word 0) && bad-escape (take (getD st len-word 0) (drop (getD st at-word 0) doc))) e
   where

@@ -1,3 +1,4 @@
+use Rattle.nesting.proofs.Entering.{entered-node, entered-element}
 use borrow.Author.Needs.{needs}
 use Rattle.nesting.proofs.enter_list.Statement.{statement}
 use Rattle.nesting.proofs.enter_list.Tie as tie
@@ -23,7 +24,7 @@ aim-requires c κs = search needs
 
 -- src/lib.rt:272:9
 returns : tie.Need-returns
-returns c = search needs
+returns c = search entered-node
 
 -- src/lib.rt:274:5
 aim-requires-2 : tie.Need-aim-requires-2
@@ -31,7 +32,7 @@ aim-requires-2 c κs = search needs
 
 -- src/lib.rt:264:1
 returns-2 : tie.Need-returns-2
-returns-2 c = search needs
+returns-2 c = search entered-element
 
 pub enter-list-spec : {M : Type 1} → statement M
 enter-list-spec =

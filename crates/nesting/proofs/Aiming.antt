@@ -1,0 +1,71 @@
+-- Saying where the next node belongs changes nothing for the machine.
+use mathlib.Core.Path.{_≡_, refl, sym, ap, _∙_, subst}
+use mathlib.Core.Logic.{inl, inr}
+use mathlib.Core.List.{List, [], _∷_}
+use mathlib.Core.Bool.{Bool, true}
+use Prim.Native.Nat.{ℕ, suc, _+_, _-_, _/_, _≤_, _<_}
+use native.Mathlib.Omega.{arith}
+use borrow.Author.Tests.{leb-true}
+use lib.Dec.{leb}
+use lib.ListN.{length, getD}
+use denote.Ref.{RefT}
+use Rattle.text.specs.Text.{Text, cond}
+use Rattle.text.proofs.Compare.{by}
+use Rattle.machine.specs.Frame.{Open}
+use Rattle.machine.specs.Memory.{Memory}
+use Rattle.machine.specs.Read.{counted}
+use Rattle.grammar.specs.Productions.{Mode}
+use Rattle.state.specs.Words.{terms-word, kind-word, at-word, depth-word}
+use Rattle.state.specs.Cursor.{Cursor, TokenHere, left}
+use Rattle.state.specs.Represents.{Tables, room-in, Represents}
+use Rattle.reading.specs.Reading.{Held, held, tables-of, Holding, goes, Ready, Same, Comes}
+use Rattle.nodes.specs.Nodes.{Aimed, Spotted}
+use Rattle.nodes.proofs.Moving.{cursor-words, left-words}
+use Rattle.nodes.proofs.Passing.{represents-words}
+
+module _ (doc : Text) (work rows terms store : RefT (List ℕ)) (st st' : List ℕ) (same : (k : ℕ) → k < 77 → getD st' k 0 ≡ getD st k 0) (n : length st' ≡ length st) where
+  abbrev a : Held
+  a = held work rows terms store st
+
+  abbrev b : Held
+  b = held work rows terms store st'
+
+  goes-aimed : (mode : Mode) (o : Open) (m : Memory) → goes mode doc a o m ≡ goes mode doc b o m
+  unfolding goes
+  goes-aimed mode o m = rw (left-words doc st st' (λ k x y. same k (omega arith)), same 75 (omega arith))
+
+  holding-aimed : (old : Tables) (m : Memory) → Holding old m a → Holding old m b
+  holding-aimed old m h = represents-words old m (work .now) (tables-of a) st st' (λ k x. same k (omega arith)) (same 76 (omega arith)) n h
+
+  pub ready-aimed : Ready doc a → Ready doc b
+  ready-aimed r =
+      let (old, (m, h)) = r .holds in
+      record { cursor = cursor-words doc st st' (λ k x y. same k (omega arith)) (r .cursor); holds = (old, (m, holding-aimed old m h)); depth = rw (same 75 (omega arith)) (r .depth) }
+
+  pub comes-aimed : {I : Type 0} (F : I → Open) → Ready doc a → Comes doc F F a b 0
+  comes-aimed F r =
+      record {
+        same = record { work = refl; rows = refl; terms = refl; store = refl; work-length = refl; rows-length = refl; terms-length = refl; store-length = refl; words = n };
+        ready = λ e. ready-aimed r;
+        later = λ e. rw (same 72 (omega arith)) (omega arith);
+        on = λ e mode old m h. record { after = m; holding = holding-aimed old m h; same = λ i. goes-aimed mode (F i) m };
+        stop = λ z mode old m h i. absurd (z refl);
+      }
+
+-- A place within the words that there may be.
+pub spotted : (work rows terms store : RefT (List ℕ)) (st st' : List ℕ) (list x y opened last : ℕ) → Aimed st st' list x y opened last → x < 4294967296 → y < 4294967296 → opened < 4294967296 → last < 4294967296 → Spotted (held work rows terms store st')
+spotted work rows terms store st st' list x y opened last a hx hy ho hl =
+    record { x = rw (a .x-is) hx; y = rw (a .y-is) hy; opened = rw (a .opened-is) ho; last = rw (a .last-is) hl }
+
+-- The next term's number fits.
+most-counted : (n : ℕ) → counted n ≤ 4294967294
+most-counted n = by (leb n 4294967294) (λ e. rw e (leb-true n 4294967294 e)) (λ e. rw e (omega arith))
+
+pub next-small : (doc : Text) (a : Held) → Ready doc a → getD (a .st) terms-word 0 + 1 < 4294967296
+next-small doc a r =
+    let (old, (m, h)) = r .holds in
+    omega (arith, h .terms-held .keeps .count, h .fits .terms, most-counted (length (a .terms .now) / 5))
+
+-- A place in the document fits.
+pub place-small : (doc : Text) (a : Held) → Ready doc a → getD (a .st) at-word 0 < 4294967296
+place-small doc a r = omega (arith, r .cursor .inside, r .cursor .size)

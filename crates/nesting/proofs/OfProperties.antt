@@ -1,0 +1,206 @@
+-- Predicates and their objects.
+use mathlib.Core.Path.{_≡_, refl, sym, ap, _∙_, subst}
+use mathlib.Core.List.{List, [], _∷_, _++_}
+use mathlib.Core.Bool.{Bool, true, false}
+use Prim.Native.Nat.{ℕ, suc, _+_, _-_, _≤_, _<_}
+use native.Mathlib.Omega.{arith}
+use lib.Dec.{eqb}
+use lib.ListN.{length, getD}
+use denote.Ref.{RefT}
+use Rattle.text.specs.Text.{Text}
+use Rattle.text.proofs.Compare.{by, contrary}
+use Rattle.token.specs.Kind.{Kind, kind-of-code, among, kw-a}
+use Rattle.token.proofs.KindCodes.{each-kind}
+use Rattle.machine.specs.Frame.{Ending, full-stop, Frame, object, after-object, after-semicolon}
+use Rattle.state.specs.Words.{node-word, kind-word, at-word, depth-word}
+use Rattle.state.specs.Cursor.{Cursor, TokenHere}
+use Rattle.reading.specs.Reading.{code-among, Held, held, here, Ready, Reads, on-top}
+use Rattle.reading.proofs.Compose.{comes-here, comes-then, comes-stop, comes-within}
+use Rattle.reading.proofs.Tests.{among-code}
+use Rattle.nodes.specs.Nodes.{Aimed, Steady, Spotted, PutsTerm, Verbs, Ends, verb-kinds, term-kinds}
+use Rattle.nodes.proofs.Predicates.{verb-reads, verb-is-term, term-depth, verbs-semicolon, ends-object, ends-semicolon}
+use Rattle.nodes.proofs.Slots.{term-rule}
+use Rattle.nesting.specs.Nesting.{Objects, Listed, Properties, Skips}
+use Rattle.nesting.proofs.Skipping.{token-there}
+use Rattle.nesting.proofs.Aiming.{comes-aimed, ready-aimed, spotted}
+
+-- What is open where the next predicate is awaited: at first f; later what is open behind a semicolon, and the frames after it.
+pub record Awaits (doc : Text) (f : Frame) (s : ℕ) (e : Ending) (after : List Frame) (a₀ a : Held) : Type 0 where
+  pub frames : List Frame
+  pub reads : Reads doc (f ∷ []) frames a₀ a 0
+  pub next : (b : Held) (r : ℕ) → ((g : Frame) (x : List Frame) → Verbs g s e x → Reads doc (g ∷ []) (object s (getD (b .st) node-word 0) e ∷ x) a b r) → Reads doc frames (object s (getD (b .st) node-word 0) e ∷ after) a b r
+
+-- Before the next predicate.
+pub record PropertiesInv (doc : Text) (a₀ a : Held) (s : ℕ) : Type 0 where
+  pub ready : Ready doc a
+  pub verb : code-among verb-kinds (getD (a .st) kind-word 0) ≡ true
+  pub depth : getD (a .st) depth-word 0 ≡ getD (a₀ .st) depth-word 0
+  pub later : getD (a₀ .st) at-word 0 ≤ getD (a .st) at-word 0
+  pub reads : (f : Frame) (e : Ending) (after : List Frame) → Verbs f s e after → Awaits doc f s e after a₀ a
+
+pub properties-start : (doc : Text) (a : Held) (s : ℕ) → Ready doc a → code-among verb-kinds (getD (a .st) kind-word 0) ≡ true → PropertiesInv doc a a s
+properties-start doc a s r v =
+    record {
+      ready = r;
+      verb = v;
+      depth = refl;
+      later = omega arith;
+      reads = λ f e after verbs. record { frames = f ∷ []; reads = comes-here doc (on-top (f ∷ [])) a r; next = λ b q R. R f after verbs };
+    }
+
+-- A predicate's kind is a token's.
+verb-token : (k : ℕ) → code-among verb-kinds k ≡ true → (k ≡ 0 → ⊥) × (k ≡ 31 → ⊥)
+verb-token k v = ((λ e. contrary (sym (rw e at v))), (λ e. contrary (sym (rw e at v))))
+
+module _ (doc : Text) (a₀ : Held) (work rows terms store : RefT (List ℕ)) (st st' : List ℕ) (s : ℕ) (I : PropertiesInv doc a₀ (held work rows terms store st) s) (aim : Aimed st st' 0 0 0 0 0) where
+  abbrev a : Held
+  a = held work rows terms store st
+
+  abbrev a1 : Held
+  a1 = held work rows terms store st'
+
+  same-kind : getD st' kind-word 0 ≡ getD st kind-word 0
+  same-kind = aim .before 71 (omega arith)
+
+  ready-1 : Ready doc a1
+  ready-1 = ready-aimed doc work rows terms store st st' (aim .before) (aim .words) (I .ready)
+
+  token-1 : TokenHere doc st'
+  token-1 = ready-1 .cursor .token (λ h. verb-token (getD st kind-word 0) (I .verb) .0 (sym same-kind ∙ h)) (λ h. verb-token (getD st kind-word 0) (I .verb) .1 (sym same-kind ∙ h))
+
+  some-kind : getD st' kind-word 0 ≡ 0 → ⊥
+  some-kind h = verb-token (getD st kind-word 0) (I .verb) .0 (sym same-kind ∙ h)
+
+  verb-1 : among verb-kinds (here doc a1 .kind) ≡ true
+  verb-1 = among-code verb-kinds (getD st' kind-word 0) some-kind (token-1 .known) ∙ rw same-kind (I .verb)
+
+  pub properties-ready : (Ready doc a1 × Spotted a1) × (code-among (kw-a ∷ term-kinds) (getD st' kind-word 0) ≡ true)
+  properties-ready = (
+    (ready-1, spotted work rows terms store st st' 0 0 0 0 0 aim (omega arith) (omega arith) (omega arith) (omega arith)),
+    sym (among-code (kw-a ∷ term-kinds) (getD st' kind-word 0) some-kind (token-1 .known)) ∙ verb-is-term (here doc a1 .kind) verb-1,
+  )
+
+  module _ (b : Held) (r : ℕ) (P : PutsTerm doc a1 b r) where
+    -- The predicate is read.
+    to-verb : (f : Frame) (e : Ending) (after : List Frame) → Verbs f s e after → Reads doc (f ∷ []) (object s (getD (b .st) node-word 0) e ∷ after) a₀ b r
+    to-verb f e after verbs =
+        let w = I .reads f e after verbs in
+        comes-then doc (on-top (f ∷ [])) (on-top (w .frames)) (on-top (object s (getD (b .st) node-word 0) e ∷ after)) a₀ a b 0 r (w .reads) refl
+        (w .next b r (λ g x v.
+        comes-then doc (on-top (g ∷ [])) (on-top (g ∷ [])) (on-top (object s (getD (b .st) node-word 0) e ∷ x)) a a1 b 0 r (comes-aimed doc work rows terms store st st' (aim .before) (aim .words) (on-top (g ∷ [])) (I .ready)) refl
+        (verb-reads doc a1 b r ready-1 token-1 some-kind (aim .list-is) (aim .x-is) P verb-1 g s e x v)))
+
+    -- The words that stay.
+    depth-verb : r ≡ 0 → getD (b .st) depth-word 0 ≡ getD (a₀ .st) depth-word 0
+    depth-verb z =
+        let t = verb-is-term (here doc a1 .kind) verb-1 in
+        let (v, q) = term-rule (here doc a1) (here doc a1 .kind) t in
+        P v q .gives .does .done z .depth ∙ (term-depth (here doc a1) (getD st' depth-word 0) t ∙ (aim .before 75 (omega arith) ∙ I .depth))
+
+    later-verb : r ≡ 0 → getD (a₀ .st) at-word 0 < getD (b .st) at-word 0
+    later-verb z =
+        let (v, q) = term-rule (here doc a1) (here doc a1 .kind) (verb-is-term (here doc a1 .kind) verb-1) in
+        omega (arith, P v q .gives .does .done z .later, aim .before 72 (omega arith), I .later)
+
+    further : r ≡ 0 → getD st at-word 0 < getD (b .st) at-word 0
+    further z =
+        let (v, q) = term-rule (here doc a1) (here doc a1 .kind) (verb-is-term (here doc a1 .kind) verb-1) in
+        omega (arith, P v q .gives .does .done z .later, aim .before 72 (omega arith))
+
+    -- The predicate was refused.
+    pub properties-stop : (r ≡ 0 → ⊥) → Properties doc a₀ b s r
+    properties-stop z =
+        record {
+          reads = λ f e after verbs. record { open-frame = object s (getD (b .st) node-word 0) e; reads = to-verb f e after verbs; ends = λ y. absurd (z y) };
+          steady = record { depth = λ y. absurd (z y); later = λ y. absurd (z y) };
+        }
+
+    -- What its objects may be called with.
+    pub objects-call : r ≡ 0 → (s < 4294967296) → 0 < s → (p : ℕ) → p ≡ getD (b .st) node-word 0 → (Ready doc b × ((s < 4294967296) × (p < 4294967296))) × ((0 < s) × (0 < p))
+    objects-call z hs h0 p ep =
+        let (v, q) = term-rule (here doc a1) (here doc a1 .kind) (verb-is-term (here doc a1 .kind) verb-1) in
+        let N = P v q in
+        ((to-verb-ready z, (hs, rw ep (N .gives .small z))), (h0, rw ep (N .positive z)))
+      where
+        to-verb-ready : r ≡ 0 → Ready doc b
+        to-verb-ready z = to-verb (after-semicolon s full-stop) full-stop [] (verbs-semicolon s full-stop) .ready z
+
+    module _ (z : r ≡ 0) (d : Held) (q p : ℕ) (ep : p ≡ getD (b .st) node-word 0) (O : Objects doc b d s p q) where
+      to-objects : (f : Frame) (e : Ending) (after : List Frame) → Verbs f s e after → Reads doc (f ∷ []) (after-object s p e ∷ after) a₀ d q
+      to-objects f e after verbs =
+          comes-then doc (on-top (f ∷ [])) (on-top (object s p e ∷ after)) (on-top (after-object s p e ∷ after)) a₀ b d r q
+          (subst (λ (x : ℕ). Reads doc (f ∷ []) (object s x e ∷ after) a₀ b r) (sym ep) (to-verb f e after verbs)) z
+          (comes-within doc (λ k. after ++ k) (on-top (object s p e ∷ [])) (on-top (after-object s p e ∷ [])) b d q (O .reads e))
+
+      steady-objects : Steady a₀ d q
+      steady-objects = record { depth = λ y. O .steady .depth y ∙ depth-verb z; later = λ y. omega (arith, O .steady .later y, later-verb z) }
+
+      pub properties-stop-2 : (q ≡ 0 → ⊥) → Properties doc a₀ d s q
+      properties-stop-2 y =
+          record {
+            reads = λ f e after verbs. record { open-frame = after-object s p e; reads = to-objects f e after verbs; ends = λ w. absurd (y w) };
+            steady = steady-objects;
+          }
+
+      pub properties-end : q ≡ 0 → (getD (d .st) kind-word 0 ≡ 21 → ⊥) → Properties doc a₀ d s 0
+      properties-end y k =
+          subst (λ (x : ℕ). Properties doc a₀ d s x) y
+          (record {
+            reads = λ f e after verbs. record { open-frame = after-object s p e; reads = to-objects f e after verbs; ends = λ w. ends-object s e (getD (d .st) kind-word 0) k p (O .ended w) };
+            steady = steady-objects;
+          })
+
+      pub skips-call : q ≡ 0 → (Cursor doc (d .st) × (length (d .st) ≡ 90))
+      skips-call y =
+          let R = to-objects (after-semicolon s full-stop) full-stop [] (verbs-semicolon s full-stop) .ready y in
+          let (old, (m, h)) = R .holds in
+          (R .cursor, h .usable .words)
+
+-- Semicolons, and then more or not.
+module _ (doc : Text) (a₀ : Held) (work₁ rows₁ terms₁ store₁ : RefT (List ℕ)) (st st' : List ℕ) (s : ℕ) (I : PropertiesInv doc a₀ (held work₁ rows₁ terms₁ store₁ st) s) (aim : Aimed st st' 0 0 0 0 0)
+    (b : Held) (r : ℕ) (P : PutsTerm doc (held work₁ rows₁ terms₁ store₁ st') b r) (z : r ≡ 0) (work rows terms store : RefT (List ℕ)) (u u' : List ℕ) (q p : ℕ) (ep : p ≡ getD (b .st) node-word 0)
+    (O : Objects doc b (held work rows terms store u) s p q) (y : q ≡ 0) (S : Skips doc u u') where
+  abbrev d : Held
+  d = held work rows terms store u
+
+  abbrev d' : Held
+  d' = held work rows terms store u'
+
+  to-d : (f : Frame) (e : Ending) (after : List Frame) → Verbs f s e after → Reads doc (f ∷ []) (after-object s p e ∷ after) a₀ d q
+  to-d f e after verbs = to-objects doc a₀ work₁ rows₁ terms₁ store₁ st st' s I aim b r P z d q p ep O f e after verbs
+
+  ready-d : Ready doc d
+  ready-d = to-d (after-semicolon s full-stop) full-stop [] (verbs-semicolon s full-stop) .ready y
+
+  to-semicolon : (f : Frame) (e : Ending) (after : List Frame) → Verbs f s e after → Reads doc (f ∷ []) (after-semicolon s e ∷ after) a₀ d' 0
+  to-semicolon f e after verbs =
+      comes-then doc (on-top (f ∷ [])) (on-top (after-object s p e ∷ after)) (on-top (after-semicolon s e ∷ after)) a₀ d d' q 0 (to-d f e after verbs) y
+      (comes-within doc (λ k. after ++ k) (on-top (after-object s p e ∷ [])) (on-top (after-semicolon s e ∷ [])) d d' 0 (S .reads work rows terms store ready-d s p e))
+
+  w : Steady a₀ d q
+  w = steady-objects doc a₀ work₁ rows₁ terms₁ store₁ st st' s I aim b r P z d q p ep O
+
+  pub properties-end-2 : code-among verb-kinds (getD u' kind-word 0) ≡ false → Properties doc a₀ d' s 0
+  properties-end-2 v =
+      record {
+        reads = λ f e after verbs. record { open-frame = after-semicolon s e; reads = to-semicolon f e after verbs; ends = λ x. ends-semicolon s e (getD u' kind-word 0) (S .ended) v };
+        steady = record { depth = λ x. S .depth ∙ w .depth y; later = λ x. omega (arith, S .later, w .later y) };
+      }
+
+  pub properties-again : code-among verb-kinds (getD u' kind-word 0) ≡ true → PropertiesInv doc a₀ d' s
+  properties-again v =
+      record {
+        ready = to-semicolon (after-semicolon s full-stop) full-stop [] (verbs-semicolon s full-stop) .ready refl;
+        verb = v;
+        depth = S .depth ∙ w .depth y;
+        later = omega (arith, S .later, w .later y);
+        reads = λ f e after verbs.
+            record {
+              frames = after-semicolon s e ∷ after;
+              reads = to-semicolon f e after verbs;
+              next = λ c x R. comes-within doc (λ k. after ++ k) (on-top (after-semicolon s e ∷ [])) (on-top (object s (getD (c .st) node-word 0) e ∷ [])) d' c x (R (after-semicolon s e) [] (verbs-semicolon s e));
+            };
+      }
+
+  pub properties-less : getD st at-word 0 < getD u' at-word 0
+  properties-less = omega (arith, S .later, O .steady .later y, further doc a₀ work₁ rows₁ terms₁ store₁ st st' s I aim b r P z)
