@@ -1,18 +1,16 @@
 -- What the readers that call each other say of the machine.
 use mathlib.Core.Path.{_≡_}
 use mathlib.Core.List.{List, [], _∷_, _++_}
-use mathlib.Core.Bool.{Bool, not}
 use Prim.Native.Nat.{ℕ, suc, _+_, _≤_, _<_}
 use lib.Dec.{eqb}
 use lib.ListN.{length, getD}
 use denote.Ref.{RefT}
 use Rattle.text.specs.Text.{Text, cond}
-use Rattle.machine.specs.Frame.{Ending, Place, top, subject-before, Cells, no-cell, cells, Frame, bracket, list, object, after-object, after-semicolon}
+use Rattle.machine.specs.Frame.{Ending, Place, no-cell, Frame, bracket, list, object, after-object, after-semicolon}
 use Rattle.machine.specs.Rules.{after-node, after-properties}
 use Rattle.state.specs.Words.{terms-word, node-word, kind-word, at-word, depth-word, list-word, x-word, y-word, opened-word, last-word}
-use Rattle.state.specs.Writes.{place-of}
 use Rattle.reading.specs.Reading.{Held, held, Ready, Reads}
-use Rattle.nodes.specs.Nodes.{Verbs, Ends, Steady, Aimed}
+use Rattle.nodes.specs.Nodes.{Verbs, Ends, Steady, Belongs}
 
 -- Semicolons were passed.
 pub record Skips (doc : Text) (st st' : List ℕ) : Type 0 where
@@ -42,11 +40,6 @@ pub record Listed (doc : Text) (f : Frame) (e : Ending) (after : List Frame) (a 
 pub record Properties (doc : Text) (a b : Held) (s r : ℕ) : Type 0 where
   pub reads : (f : Frame) (e : Ending) (after : List Frame) → Verbs f s e after → Listed doc f e after a b r
   pub steady : Steady a b r
-
--- The place of a list, as far as the array knows it: a subject's is none.
-pub data Belongs : Place → ℕ → ℕ → Type 0 where
-  a-node : (x y : ℕ) → Belongs (place-of (suc x) y) (suc x) y
-  a-subject : (e : Ending) (y : ℕ) → Belongs (subject-before e) 0 y
 
 -- The elements of a list were read to its end. Its node is rdf:nil, or its first cell.
 abbrev pub list-node : Held → Held → ℕ

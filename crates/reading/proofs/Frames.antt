@@ -20,7 +20,7 @@ use Rattle.state.specs.Words.{kind-word}
 use Rattle.state.specs.Cursor.{TokenHere}
 use Rattle.state.specs.Represents.{Tables}
 use Rattle.reading.specs.Reading.{Held, here, Holding, Ready, Comes, Reads, Does, refusal-here}
-use Rattle.reading.proofs.Steps.{does-comes, refused-comes, tied-here}
+use Rattle.reading.proofs.Steps.{does-ready, does-comes, refused-comes, tied-here}
 
 module _ (t : Token) (tied : Bool) (K : List Frame) (k : Kind) where
   pub found-above : (rs : List (Rule (List Frame))) (w : Write (List Frame)) → find-rule k rs ≡ some w → find-rule k (above t tied K rs) ≡ some (w >>= λ fs. return (statement (fs ++ K)))
@@ -52,6 +52,9 @@ module _ (doc : Text) (f : Frame) (gs : List Frame) (a b : Held) (r : ℕ) (read
           λ old m x. (q old m x .0, λ y. ap (λ (p : List Frame). statement (p ++ k)) (q old m x .1 y)),
         ),
       ))
+
+pub ready-does : (doc : Text) (w : Write ℕ) (a b : Held) (r : ℕ) → Ready doc a → TokenHere doc (a .st) → (getD (a .st) kind-word 0 ≡ 0 → ⊥) → Does doc w a b r → r ≡ 0 → Ready doc b
+ready-does doc w a b r ready h z D e = does-ready doc w statement statement a b r ready h z D (λ k. refl) e
 
 module _ (doc : Text) (f : Frame) (fs gs : List Frame) (a : Held) (r : ℕ) (ready : Ready doc a) where
   pub reads-none : ((getD (a .st) kind-word 0 ≡ 0 → ⊥) → TokenHere doc (a .st) → (tied : Bool) → find-rule (here doc a .kind) (frame-rules (here doc a) tied f) ≡ none) → r ≡ refusal-here doc (a .st) → Reads doc (f ∷ fs) gs a a r

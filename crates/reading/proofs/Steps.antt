@@ -102,6 +102,11 @@ module _ {I : Type 0} (doc : Text) (w : Write ℕ) (F G : I → Open) (a b : Hel
       go false false false false true g ts y d = absurd (omega arith)
       go false false false false false g ts y d = omega (arith, leb-false 64 (getD (a .st) depth-word 0) g, d)
 
+  pub does-ready : r ≡ 0 → Ready doc b
+  does-ready e =
+      let (old, (m, x)) = ready .holds in
+      record { cursor = D .done e .cursor; holds = (old, (w m .1, D .done e .holding old m x)); depth = depth-kept e m old x }
+
   goes-now : (mode : Mode) (o : Open) (m : Memory) (e : r ≡ 0)
       → goes mode doc b o m ≡ run mode (room-in (tables-of a)) (length doc) (left doc (b .st)) (record { open-now = o; depth = new-depth (getD (a .st) depth-word 0) (here doc a); memory = m })
   unfolding goes
@@ -110,9 +115,7 @@ module _ {I : Type 0} (doc : Text) (w : Write ℕ) (F G : I → Open) (a b : Hel
   pub does-comes : RuleDoes → Comes doc F G a b r
   does-comes rule = record {
     same = D .same;
-    ready = λ e.
-        let (old, (m, x)) = ready .holds in
-        record { cursor = D .done e .cursor; holds = (old, (w m .1, D .done e .holding old m x)); depth = depth-kept e m old x };
+    ready = does-ready;
     later = λ e. omega (arith, D .done e .later);
     on = λ e mode old m x.
         record { after = w m .1; holding = D .done e .holding old m x; same = λ i. on-one e mode old m x i (rule mode i) };
