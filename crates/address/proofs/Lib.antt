@@ -1,0 +1,5 @@
+pub mod Between
+pub mod Bases
+pub mod Refused
+pub mod Buffers
+pub mod Answers
