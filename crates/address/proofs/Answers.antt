@@ -1,12 +1,12 @@
 -- The addresses that the code answers.
 use Prim.Native.Nat.{ℕ, _+_, _-_, _≤_, _<_}
 use mathlib.Core.Path.{_≡_, refl, ap, sym, subst, _∙_}
-use mathlib.Core.List.{List, [], _∷_, _++_}
+use mathlib.Core.List.{List, _++_}
 use mathlib.Core.Bool.{Bool, true, false}
 use mathlib.Core.Option.{none, some}
 use native.Mathlib.Omega.{arith}
 use lib.ListN.{length, getD, take, drop, length-append, length-drop}
-use lib.Seq.{take-all, length-take-le}
+use lib.Seq.{length-take-le}
 use lib.Dec.{ltb}
 use borrow.Author.Tests.{lt-ltb, le-ltb}
 use Rattle.text.specs.Text.{Text, cond, is}
@@ -26,7 +26,7 @@ use Rattle.scope.specs.declared.Found.{Found}
 use Rattle.scope.specs.declared.Found.the-variants.{At, Missing}
 use Rattle.dataset.specs.Constructors.{inner, iri-of, nothing, awaiting}
 use Rattle.address.specs.Tests.{token-as, Sound, iri-refusal, outcome}
-use Rattle.address.specs.Addresses.{refused-address, Addresses, StandsFor, WritesReference, LocalFrom}
+use Rattle.address.specs.Addresses.{refused-address, Addresses, WritesReference, LocalFrom}
 use Rattle.address.specs.declared.Address.{Address}
 use Rattle.address.proofs.Between.{inside-good, inside-read, scheme-inside}
 use Rattle.address.proofs.Bases.{outcome-written}
@@ -199,6 +199,7 @@ module _ (kind : ℕ) (token work : Text) (st : List ℕ) (buffer : Text) where
         where
           size : start + n - start ≡ n
           size = omega arith
+
           within : {x : ℕ} → cond (ltb iri-limit (length (take n (drop start work) ++ unreserve (drop 1 (drop i token))))) 11 0 ≡ x → 0 ≡ x
           within q = rw (joined-size, le-ltb iri-limit (n + m) (omega (arith, bounds .1))) at q
 

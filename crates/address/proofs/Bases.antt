@@ -6,14 +6,13 @@ use mathlib.Core.Bool.{Bool, true, false, not, _&&_, _||_}
 use native.Mathlib.Omega.{arith}
 use lib.ListN.{length}
 use lib.Dec.{eqb, ltb}
-use borrow.Author.Tests.{ne-eqb, eqb-true}
+use borrow.Author.Tests.{eqb-true}
 use Rattle.text.specs.Text.{Text, is, until, empty}
 use Rattle.text.proofs.Compare.{by, contrary}
 use Rattle.limits.specs.Limits.{iri-limit}
 use Rattle.iri.specs.Iri.{letter, scheme-byte, has-scheme, scheme}
 use Rattle.iri.specs.Resolve.{Parts, recompose, resolve-by, resolve, resolved}
 use Rattle.iri.specs.Code.{scheme-from}
-use Rattle.iri.specs.declared.Resolution.{Resolution}
 use Rattle.iri.specs.declared.Resolution.the-variants.{Written, Long, NoBase}
 use Rattle.iri.proofs.Escaped.{byte-by-byte}
 use Rattle.machine.specs.Refusals.{long-resolved}
@@ -43,6 +42,7 @@ kept-scheme true (c ∷ s) x h =
   where
     first-letter : letter c ≡ true → scheme-from true (c ∷ s) ≡ scheme-from false s
     first-letter e = rw e
+
     no-letter : letter c ≡ false → scheme-from true (c ∷ s) ≡ false
     no-letter e = rw e
 kept-scheme false (c ∷ s) x h =
@@ -52,6 +52,7 @@ kept-scheme false (c ∷ s) x h =
   where
     next-byte : scheme-byte c ≡ true → scheme-from false (c ∷ s) ≡ scheme-from false s
     next-byte e = rw e
+
     last-byte : scheme-byte c ≡ false → scheme-from false (c ∷ s) ≡ eqb c 58
     last-byte e = rw e
 

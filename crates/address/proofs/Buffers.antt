@@ -1,7 +1,7 @@
 -- A reference without its escapes in the end of the buffer, resolved into the front.
 use Prim.Native.Nat.{ℕ, _+_, _-_, _≤_, _<_}
-use mathlib.Core.Path.{_≡_, refl, ap, sym, subst, _∙_}
-use mathlib.Core.List.{List, [], _++_, append-nil}
+use mathlib.Core.Path.{_≡_, ap, sym, subst, _∙_}
+use mathlib.Core.List.{List, _++_, append-nil}
 use mathlib.Core.Bool.{Bool, true, false, not, _&&_, _||_}
 use native.Mathlib.Omega.{arith}
 use lib.ListN.{length, take, drop, length-drop, drop-of-length-le}
@@ -9,7 +9,7 @@ use lib.Seq.{take-all}
 use lib.Dec.{ltb}
 use borrow.Author.Tests.{ltb-true, ltb-false, lt-ltb, le-ltb}
 use Rattle.text.specs.Text.{Text, cond, empty}
-use Rattle.text.specs.Slice.{over, over-at}
+use Rattle.text.specs.Slice.{over-at}
 use Rattle.text.proofs.Compare.{by, contrary}
 use Rattle.text.proofs.Over.{over-part, over-fits, over-at-from, over-at-length}
 use Rattle.limits.specs.Limits.{iri-limit}

@@ -3,3 +3,4 @@ pub mod Bases
 pub mod Refused
 pub mod Buffers
 pub mod Answers
+pub mod Directives

@@ -1,17 +1,17 @@
 -- The refusals by the facts that the code finds.
-use Prim.Native.Nat.{ℕ, suc, _+_, _-_, _≤_, _<_}
-use mathlib.Core.Path.{_≡_, refl, ap, sym, _∙_, subst}
+use Prim.Native.Nat.{ℕ, _+_, _≤_}
+use mathlib.Core.Path.{_≡_, refl, sym, _∙_, subst}
 use mathlib.Core.List.{List, [], _∷_, _++_}
-use mathlib.Core.Bool.{Bool, true, false, not, _&&_, _||_}
-use mathlib.Core.Option.{Option, none, some}
+use mathlib.Core.Bool.{true, false, not, _&&_}
+use mathlib.Core.Option.{none, some}
 use native.Mathlib.Omega.{arith}
-use lib.ListN.{length, take, drop, length-append}
+use lib.ListN.{length, take, drop}
 use lib.Dec.{eqb, ltb, leb}
-use borrow.Author.Tests.{lt-ltb, le-ltb, eqb-true, eqb-false}
-use Rattle.text.specs.Text.{Text, cond, is, empty, is-none, same-text, until, from}
+use borrow.Author.Tests.{eqb-true, eqb-false}
+use Rattle.text.specs.Text.{Text, cond, is, is-none, same-text}
 use Rattle.text.proofs.Compare.{by}
 use Rattle.limits.specs.Limits.{iri-limit, prefixes-limit}
-use Rattle.token.specs.Kind.{IRIREF, names, strings, kind-of-code}
+use Rattle.token.specs.Kind.{IRIREF, names, strings}
 use Rattle.token.specs.Tokens.{Token, has-kind}
 use Rattle.escape.specs.Escape.{bad-escape, unescape, unreserve}
 use Rattle.iri.specs.Resolve.{resolved}
@@ -20,7 +20,7 @@ use Rattle.iri.specs.declared.Resolution.the-variants.{Written, Long, NoBase}
 use Rattle.iri.proofs.Places.{until-take, from-drop}
 use Rattle.scope.specs.Environment.{Binding, Environment, lookup}
 use Rattle.scope.specs.Code.{is-declared}
-use Rattle.dataset.specs.Constructors.{inner, reference, prefix, local, or-empty, resolved-reference, joined-name, iri-of, Awaited, nothing, new-base, namespace-of, awaiting}
+use Rattle.dataset.specs.Constructors.{inner, reference, prefix, local, resolved-reference, joined-name, iri-of, nothing, new-base, namespace-of, awaiting}
 use Rattle.machine.specs.Refusals.{no-character, undeclared, no-base, too-long, one-prefix-more}
 use Rattle.address.specs.Tests.{token-as, iri-refusal, namespace-refusal, base-refusal, outcome}
 use Rattle.address.proofs.Bases.{outcome-no-base, WasLong, outcome-long, WasWritten, outcome-written}

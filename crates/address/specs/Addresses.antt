@@ -44,7 +44,7 @@ pub record Addresses (kind : ℕ) (token work : Text) (st : List ℕ) (buffer : 
   pub back-order : r .from ≤ r .to
   pub back-inside : r .to ≤ length (cond (r .buffered) buffer token)
   pub stands : Usable work st → Sound (in-force work st) → (kind ≡ 1 → getD token 0 0 ≡ 60) → (at : ℕ)
-    → StandsFor (in-force work st) (token-as kind at token) r (front-of r work) (back-of r token buffer)
+      → StandsFor (in-force work st) (token-as kind at token) r (front-of r work) (back-of r token buffer)
 
 -- The reference s, without bad escapes, is resolved into the front of the buffer.
 pub record Resolves (base s buffer : Text) (a : Resolution) : Type 0 where

@@ -14,7 +14,7 @@ use Rattle.iri.specs.Resolve.{resolved}
 use Rattle.iri.specs.declared.Resolution.{Resolution}
 use Rattle.iri.specs.declared.Resolution.the-variants.{Written, Long, NoBase}
 use Rattle.scope.specs.Environment.{Environment}
-use Rattle.dataset.specs.Constructors.{InForce, nothing, new-base, namespace-of, awaiting}
+use Rattle.dataset.specs.Constructors.{InForce}
 use Rattle.table.specs.Tables.{or-zero}
 use Rattle.machine.specs.Refusals.{no-character, undeclared, no-base, long-resolved, too-long, one-prefix-more}
 use Rattle.machine.specs.Step.{_when_, first-refusal}

@@ -5,7 +5,7 @@ ghost use mathlib.Core.Bool.{false, not, _&&_};
 ghost use Prim.Native.Nat.{_+_, _≤_, _<_};
 ghost use lib.ListN.{length, getD};
 ghost use Rattle.text.specs.Text.{Text, is, empty};
-ghost use Rattle.limits.specs.Limits.{iri-limit, prefix-limit, document-limit};
+ghost use Rattle.limits.specs.Limits.{iri-limit, prefix-limit};
 ghost use Rattle.escape.specs.Escape.{unescape};
 ghost use Rattle.iri.specs.Iri.{has-scheme};
 ghost use Rattle.iri.specs.Code.{before};
@@ -66,7 +66,6 @@ fn lacks_base(base: &[u8], text: &[u8]) -> bool
     }
     base.len() == 0
 }
-
 
 // Writes the IRI of a reference into the front of the buffer.
 fn write_reference(
@@ -161,12 +160,7 @@ fn local_start(s: &[u8], at: usize) -> usize
 }
 
 // The namespace stays in the work slice, the local part in the token.
-fn name_address(
-    token: &[u8],
-    kind: usize,
-    work: &[u8],
-    st: &[usize; Layout::WORDS],
-) -> Address
+fn name_address(token: &[u8], kind: usize, work: &[u8], st: &[usize; Layout::WORDS]) -> Address
     requires { ⌜ (2 ≤ kind) × (kind ≤ 3) ⌝ }
     ensures { λ r. ⌜ ((buffer : Text) → Addresses kind (now (token .entry)) (now (work .entry)) (now (st .entry)) buffer r) ⌝ }
 {
@@ -201,7 +195,7 @@ pub fn address_of(
     st: &[usize; Layout::WORDS],
     buffer: &mut [u8],
 ) -> Address
-    requires { ⌜ ((1 ≤ kind) × (kind ≤ 3)) × ((length (now token) ≤ document-limit) × (length (now buffer) ≡ iri-limit)) ⌝ }
+    requires { ⌜ ((1 ≤ kind) × (kind ≤ 3)) × (length (now buffer) ≡ iri-limit) ⌝ }
     ensures { λ r. ⌜ Addresses kind (now (token .entry)) (now (work .entry)) (now (st .entry)) (now (buffer .exit)) r ⌝ }
 {
     if kind == 1 {
@@ -244,7 +238,7 @@ pub fn declare_namespace(
     work: &mut [u8],
     st: &mut [usize; Layout::WORDS],
 ) -> u8
-    requires { ⌜ ((length (now token) ≤ document-limit) × (getD (now token) 0 0 ≡ 60)) × ((length (now prefix) ≤ prefix-limit) × (Usable (now work) (now st) × Sound (in-force (now work) (now st)))) ⌝ }
+    requires { ⌜ (getD (now token) 0 0 ≡ 60) × ((length (now prefix) ≤ prefix-limit) × (Usable (now work) (now st) × Sound (in-force (now work) (now st)))) ⌝ }
     ensures { λ r. ⌜ DeclaresNamespace (now (token .entry)) (now (prefix .entry)) (now (work .entry)) (now (work .exit)) (now (st .entry)) (now (st .exit)) r ⌝ }
 {
     if escape::has_bad_escape(token) {
@@ -280,7 +274,7 @@ fn set_written(
 
 // Sets the base to the IRI of an IRIREF: 0, or the first of the refusals 7, 10 and 11.
 pub fn declare_base(token: &[u8], work: &mut [u8], st: &mut [usize; Layout::WORDS]) -> u8
-    requires { ⌜ ((length (now token) ≤ document-limit) × (getD (now token) 0 0 ≡ 60)) × (Usable (now work) (now st) × Sound (in-force (now work) (now st))) ⌝ }
+    requires { ⌜ (getD (now token) 0 0 ≡ 60) × (Usable (now work) (now st) × Sound (in-force (now work) (now st))) ⌝ }
     ensures { λ r. ⌜ DeclaresBase (now (token .entry)) (now (work .entry)) (now (work .exit)) (now (st .entry)) (now (st .exit)) r ⌝ }
 {
     if escape::has_bad_escape(token) {

@@ -1,31 +1,20 @@
-use mathlib.Core.Path.{sym}
-use native.Mathlib.Omega.{arith}
 use Rattle.address.proofs.Answers.{as-kind}
 use borrow.Author.Needs.{needs}
 use Rattle.address.proofs.address_of.Statement.{statement}
 use Rattle.address.proofs.address_of.Tie as tie
-use Rattle.address.proofs.address_of.Reads as reads
-use Rattle.address.proofs.address_of.Lts as lts
-use Rattle.address.proofs.name_address.Reads as name-address-reads
-use Rattle.address.proofs.reference_address.Reads as reference-address-reads
 
--- src/lib.rt:208:9
 reference-address-requires : tie.Need-reference-address-requires
 reference-address-requires c κs = search needs
 
--- src/lib.rt:208:9
 same-length : tie.Need-same-length
 same-length c = search needs
 
--- src/lib.rt:208:9
 returns : tie.Need-returns
 returns c = as-kind (c .before .before .before .before .before .before .before .before .args .kind) (c .before .before .before .before .before .before .before .before .args .token .now) (c .before .before .before .before .before .before .before .before .args .work .now) (c .before .before .before .before .before .before .before .before .args .st .now) _ (c .before .before .reference-address .result) (c .before .before .before .before .if1 .taken) (c .before .before .reference-address .ensures)
 
--- src/lib.rt:210:5
 name-address-requires : tie.Need-name-address-requires
 name-address-requires c κs = search needs
 
--- src/lib.rt:197:1
 returns-2 : tie.Need-returns-2
 returns-2 c = c .name-address .ensures _
 

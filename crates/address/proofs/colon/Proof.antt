@@ -1,5 +1,4 @@
 use borrow.Author.Tests.{eq-eqb, ne-eqb}
-use mathlib.Core.Path.{sym, _∙_}
 use Rattle.iri.proofs.Places.{before-more, before-here, before-end}
 use borrow.Author.Needs.{needs}
 use native.Mathlib.Omega.{arith}
@@ -10,8 +9,6 @@ use Rattle.text.specs.Text.{is}
 use Rattle.iri.specs.Code.{before}
 use Rattle.address.proofs.colon.Statement.{statement}
 use Rattle.address.proofs.colon.Tie as tie
-use Rattle.address.proofs.colon.Reads as reads
-use Rattle.address.proofs.colon.Lts as lts
 
 abbrev Inv-loop : tie.InvT-loop
 Inv-loop s i₀ i = (i ≤ len s) × (before (is ":") s ≡ i + before (is ":") (drop i s))
@@ -19,31 +16,24 @@ Inv-loop s i₀ i = (i ≤ len s) × (before (is ":") s ≡ i + before (is ":") 
 abbrev μ-loop : tie.MeasureT-loop
 μ-loop s i₀ i = len s - i
 
--- src/lib.rt:143:5
 loop-holds : tie.Need-loop-holds Inv-loop μ-loop
 loop-holds c = search needs
 
--- src/lib.rt:144:12
 shared-slice-read-if1 : tie.Need-shared-slice-read-if1 Inv-loop μ-loop
 shared-slice-read-if1 c = search needs
 
--- src/lib.rt:145:13
 returns : tie.Need-returns Inv-loop μ-loop
 returns c = (omega (arith, c .before .before .before .loop .inv .1, before-here (is ":") (c .before .before .before .before .args .s .now) (c .before .before .before .loop .i) (omega arith) (eq-eqb _ 58 (c .if1 .taken))), omega arith)
 
--- src/lib.rt:147:9
 add-i : tie.Need-add-i Inv-loop μ-loop
 add-i c = search needs
 
--- src/lib.rt:143:5
 loop-less : tie.Need-loop-less Inv-loop μ-loop
 loop-less c = search needs
 
--- src/lib.rt:143:5
 loop-again : tie.Need-loop-again Inv-loop μ-loop
 loop-again c = (omega arith, omega (arith, c .before .before .before .loop .inv .1, before-more (is ":") (c .before .before .before .before .args .s .now) (c .before .before .before .loop .i) (omega arith) (ne-eqb _ 58 (c .if1 .left))))
 
--- src/lib.rt:139:1
 returns-2 : tie.Need-returns-2 Inv-loop μ-loop
 returns-2 c = (omega (arith, c .before .loop .inv .1, before-end (is ":") (c .before .before .args .s .now) (c .before .loop .i) (omega arith)), omega arith)
 

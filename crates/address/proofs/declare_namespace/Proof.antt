@@ -1,32 +1,24 @@
+use mathlib.Core.Path.{refl, sym, _∙_}
+use Rattle.address.proofs.Directives.{namespace-refused-bad}
 use borrow.Author.Needs.{needs}
 use Rattle.address.proofs.declare_namespace.Statement.{statement}
 use Rattle.address.proofs.declare_namespace.Tie as tie
-use Rattle.address.proofs.declare_namespace.Reads as reads
-use Rattle.address.proofs.declare_namespace.Lts as lts
-use Rattle.address.proofs.declare_written.Reads as declare-written-reads
-use Rattle.escape.proofs.has_bad_escape.Reads as has-bad-escape-reads
 
--- src/lib.rt:250:8
 has-bad-escape-requires : tie.Need-has-bad-escape-requires
 has-bad-escape-requires c κs = search needs
 
--- src/lib.rt:251:9
 returns : tie.Need-returns
-returns c = ?
+returns c = namespace-refused-bad (c .before .before .before .before .before .args .token .now) (c .before .before .before .before .before .args .work .now) (c .before .before .before .before .before .args .st .now) (c .before .has-bad-escape .result) (c .before .has-bad-escape .ensures) (c .if1 .taken) (c .before .before .before .before .before .args .prefix .now)
 
--- src/lib.rt:254:46
 slice-aggregate-declare-written : tie.Need-slice-aggregate-declare-written
 slice-aggregate-declare-written c = search needs
 
--- src/lib.rt:254:5
 declare-written-requires : tie.Need-declare-written-requires
-declare-written-requires c κs = ?
+declare-written-requires c κs = (refl, (c .before .before .before .before .before .before .before .before .pre .1 .0, (record { begun = c .before .before .before .before .before .before .before .before .pre .0; good = sym (c .before .before .before .before .has-bad-escape .ensures) ∙ c .before .before .before .if1 .left }, c .before .before .before .before .before .before .before .before .pre .1 .1)))
 
--- src/lib.rt:241:1
 same-length : tie.Need-same-length
 same-length c = search needs
 
--- src/lib.rt:241:1
 returns-2 : tie.Need-returns-2
 returns-2 c = search needs
 

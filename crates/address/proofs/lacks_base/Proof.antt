@@ -2,19 +2,13 @@ use Rattle.address.proofs.Between.{has-own, no-own}
 use borrow.Author.Needs.{needs}
 use Rattle.address.proofs.lacks_base.Statement.{statement}
 use Rattle.address.proofs.lacks_base.Tie as tie
-use Rattle.address.proofs.lacks_base.Reads as reads
-use Rattle.address.proofs.lacks_base.Lts as lts
-use Rattle.iri.proofs.has_scheme_unescaped.Reads as has-scheme-unescaped-reads
 
--- src/lib.rt:64:8
 has-scheme-unescaped-requires : tie.Need-has-scheme-unescaped-requires
 has-scheme-unescaped-requires c κs = search needs
 
--- src/lib.rt:65:9
 returns : tie.Need-returns
 returns c = has-own (c .before .before .before .before .args .base .now) (c .before .before .before .before .args .text .now) (c .before .has-scheme-unescaped .result) (c .before .has-scheme-unescaped .ensures) (c .if1 .taken)
 
--- src/lib.rt:61:1
 returns-2 : tie.Need-returns-2
 returns-2 c = no-own (c .before .before .before .before .args .base .now) (c .before .before .before .before .args .text .now) (c .before .has-scheme-unescaped .result) (c .before .has-scheme-unescaped .ensures) (c .if1 .left)
 

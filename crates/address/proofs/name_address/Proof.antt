@@ -1,92 +1,65 @@
 use lib.Seq.{length-take-le}
 use mathlib.Core.Path.{sym}
-use mathlib.Core.Path.{refl}
 use native.Mathlib.Omega.{arith}
 use Rattle.address.proofs.Answers.{found-inside, refused-unusable, refused-missing, refused-joined, joined-there}
 use borrow.Author.Needs.{needs}
 use Rattle.address.proofs.name_address.Statement.{statement}
 use Rattle.address.proofs.name_address.Tie as tie
-use Rattle.address.proofs.name_address.Reads as reads
-use Rattle.address.proofs.name_address.Lts as lts
-use Rattle.address.proofs.colon.Reads as colon-reads
-use Rattle.address.proofs.local_start.Reads as local-start-reads
-use Rattle.address.proofs.refuse.Reads as refuse-reads
-use Rattle.escape.proofs.unreserved_length.Reads as unreserved-length-reads
-use Rattle.scope.proofs.look_up.Reads as look-up-reads
 
--- src/lib.rt:174:9
 refuse-requires : tie.Need-refuse-requires
 refuse-requires c κs = search needs
 
--- src/lib.rt:174:9
 returns : tie.Need-returns
 returns c = λ buffer. refused-unusable (c .before .before .before .before .args .kind) (c .before .before .before .before .args .token .now) (c .before .before .before .before .args .work .now) (c .before .before .before .before .args .st .now) buffer (c .refuse .result) (c .before .if1 .taken) (c .refuse .ensures)
 
--- src/lib.rt:176:9
 colon-requires : tie.Need-colon-requires
 colon-requires c κs = search needs
 
--- src/lib.rt:177:42
 slice-aggregate-look-up : tie.Need-slice-aggregate-look-up
 slice-aggregate-look-up c = sym (length-take-le (c .before .colon .result) (c .before .before .before .before .before .args .token .now) (c .before .colon .ensures .1))
 
--- src/lib.rt:177:9
 look-up-requires : tie.Need-look-up-requires
 look-up-requires c κs = search needs
 
--- src/lib.rt:178:19
 enum-known-found : tie.Need-enum-known-found
 enum-known-found c = search needs
 
--- src/lib.rt:179:9
 enum-told : tie.Need-enum-told
 enum-told c = search needs
 
--- src/lib.rt:179:9
 refuse-requires-2 : tie.Need-refuse-requires-2
 refuse-requires-2 c κs = search needs
 
--- src/lib.rt:179:9
 returns-2 : tie.Need-returns-2
 returns-2 c = λ buffer. refused-missing (c .before .before .before .before .before .before .before .before .before .args .kind) (c .before .before .before .before .before .before .before .before .before .args .token .now) (c .before .before .before .before .before .before .before .before .before .args .work .now) (c .before .before .before .before .before .before .before .before .before .args .st .now) buffer (omega arith) (omega arith) (c .before .before .before .before .before .colon .result) (c .before .before .before .before .before .colon .ensures .0) (c .before .before .before .look-up .result) (c .before .before .before .look-up .ensures) (c .before .enum-told .given .1) (c .refuse2 .result) (c .refuse2 .ensures)
 
--- src/lib.rt:181:9
 local-start-requires : tie.Need-local-start-requires
 local-start-requires c κs = search needs
 
--- src/lib.rt:182:8
 sub-if2 : tie.Need-sub-if2
 sub-if2 c = found-inside (_) (c .before .before .before .before .before .before .before .before .before .before .args .work .now) (c .before .before .before .before .before .before .before .before .before .before .args .st .now) (c .before .before .before .before .look-up .result) (c .before .before .found .given .0 .0) (c .before .before .found .given .0 .1 .0) (c .before .before .before .before .look-up .ensures (omega arith)) (c .before .before .found .given .1) .1
 
--- src/lib.rt:182:52
 sub-unreserved-length : tie.Need-sub-unreserved-length
 sub-unreserved-length c = search needs
 
--- src/lib.rt:182:52
 part-unreserved-length-start : tie.Need-part-unreserved-length-start
 part-unreserved-length-start c = search needs
 
--- src/lib.rt:182:52
 part-unreserved-length-end : tie.Need-part-unreserved-length-end
 part-unreserved-length-end c = search needs
 
--- src/lib.rt:182:26
 unreserved-length-requires : tie.Need-unreserved-length-requires
 unreserved-length-requires c κs = search needs
 
--- src/lib.rt:183:9
 refuse-requires-3 : tie.Need-refuse-requires-3
 refuse-requires-3 c κs = search needs
 
--- src/lib.rt:183:9
 returns-3 : tie.Need-returns-3
 returns-3 c = λ buffer. refused-joined (c .before .before .before .before .before .before .before .before .before .before .before .before .before .before .args .kind) (c .before .before .before .before .before .before .before .before .before .before .before .before .before .before .args .token .now) (c .before .before .before .before .before .before .before .before .before .before .before .before .before .before .args .work .now) (c .before .before .before .before .before .before .before .before .before .before .before .before .before .before .args .st .now) buffer (omega arith) (omega arith) (c .before .before .before .before .before .before .before .before .before .before .colon .result) (c .before .before .before .before .before .before .before .before .before .before .colon .ensures .0) (c .before .before .before .before .before .before .before .before .look-up .result) (c .before .before .before .before .before .before .before .before .look-up .ensures) (c .before .before .before .before .before .before .found .given .0 .0) (c .before .before .before .before .before .before .found .given .0 .1 .0) (c .before .before .before .before .before .before .found .given .1) (omega arith) (c .before .before .before .before .local-start .result) (c .before .before .before .before .local-start .ensures) (c .before .before .unreserved-length .result) (c .before .before .unreserved-length .ensures) (c .before .if2 .taken) (c .refuse3 .result) (c .refuse3 .ensures)
 
--- src/lib.rt:188:14
 add-t10 : tie.Need-add-t10
 add-t10 c = omega (arith, found-inside (_) (c .before .before .before .before .before .before .before .before .before .before .before .before .before .args .work .now) (c .before .before .before .before .before .before .before .before .before .before .before .before .before .args .st .now) (c .before .before .before .before .before .before .before .look-up .result) (c .before .before .before .before .before .found .given .0 .0) (c .before .before .before .before .before .found .given .0 .1 .0) (c .before .before .before .before .before .before .before .look-up .ensures (omega arith)) (c .before .before .before .before .before .found .given .1) .0)
 
--- src/lib.rt:164:1
 returns-4 : tie.Need-returns-4
 returns-4 c = λ buffer. joined-there (c .before .before .before .before .before .before .before .before .before .before .before .before .before .args .kind) (c .before .before .before .before .before .before .before .before .before .before .before .before .before .args .token .now) (c .before .before .before .before .before .before .before .before .before .before .before .before .before .args .work .now) (c .before .before .before .before .before .before .before .before .before .before .before .before .before .args .st .now) buffer (omega arith) (omega arith) (c .before .before .before .before .before .before .before .before .before .colon .result) (c .before .before .before .before .before .before .before .before .before .colon .ensures .0) (c .before .before .before .before .before .before .before .look-up .result) (c .before .before .before .before .before .before .before .look-up .ensures) (c .before .before .before .before .before .found .given .0 .0) (c .before .before .before .before .before .found .given .0 .1 .0) (c .before .before .before .before .before .found .given .1) (omega arith) (c .before .before .before .local-start .result) (c .before .before .before .local-start .ensures) (c .before .unreserved-length .result) (c .before .unreserved-length .ensures) (c .if2 .left)
 

@@ -1,103 +1,72 @@
-use mathlib.Core.Path.{refl}
 use native.Mathlib.Omega.{arith}
 use Rattle.address.proofs.Answers.{refused-bad, refused-long, token-long, as-written, refused-no-base, refused-over, resolved-there}
 use borrow.Author.Needs.{needs}
 use Rattle.address.proofs.reference_address.Statement.{statement}
 use Rattle.address.proofs.reference_address.Tie as tie
-use Rattle.address.proofs.reference_address.Reads as reads
-use Rattle.address.proofs.reference_address.Lts as lts
-use Rattle.address.proofs.inside.Reads as inside-reads
-use Rattle.address.proofs.refuse.Reads as refuse-reads
-use Rattle.address.proofs.write_reference.Reads as write-reference-reads
-use Rattle.escape.proofs.has_bad_escape.Reads as has-bad-escape-reads
-use Rattle.escape.proofs.unescaped_length.Reads as unescaped-length-reads
-use Rattle.iri.proofs.has_scheme_unescaped.Reads as has-scheme-unescaped-reads
 
--- src/lib.rt:104:8
 has-bad-escape-requires : tie.Need-has-bad-escape-requires
 has-bad-escape-requires c κs = search needs
 
--- src/lib.rt:105:9
 refuse-requires : tie.Need-refuse-requires
 refuse-requires c κs = search needs
 
--- src/lib.rt:105:9
 returns : tie.Need-returns
 returns c = refused-bad (c .before .before .before .before .before .before .args .token .now) (c .before .before .before .before .before .before .args .work .now) (c .before .before .before .before .before .before .args .st .now) _ (c .before .before .has-bad-escape .result) (c .refuse .result) (c .before .before .has-bad-escape .ensures) (c .before .if1 .taken) (c .refuse .ensures)
 
--- src/lib.rt:107:9
 inside-requires : tie.Need-inside-requires
 inside-requires c κs = search needs
 
--- src/lib.rt:108:8
 has-scheme-unescaped-requires : tie.Need-has-scheme-unescaped-requires
 has-scheme-unescaped-requires c κs = search needs
 
--- src/lib.rt:109:26
 unescaped-length-requires : tie.Need-unescaped-length-requires
 unescaped-length-requires c κs = search needs
 
--- src/lib.rt:110:13
 refuse-requires-2 : tie.Need-refuse-requires-2
 refuse-requires-2 c κs = search needs
 
--- src/lib.rt:110:13
 returns-2 : tie.Need-returns-2
 returns-2 c = refused-long (c .before .before .before .before .before .before .before .before .before .before .before .args .token .now) (c .before .before .before .before .before .before .before .before .before .before .before .args .work .now) (c .before .before .before .before .before .before .before .before .before .before .before .args .st .now) _ (c .before .before .before .before .before .before .before .has-bad-escape .result) (c .before .before .before .before .before .before .before .has-bad-escape .ensures) (c .before .before .before .before .before .before .if1 .left) (c .before .before .before .before .before .inside .result .now) (c .before .before .before .before .before .inside .ensures) (c .before .before .before .before .has-scheme-unescaped .result) (c .before .before .before .before .has-scheme-unescaped .ensures) (c .before .before .before .if2 .taken) (c .before .before .unescaped-length .result) (c .before .before .unescaped-length .ensures) (c .before .if3 .taken) (c .refuse2 .result) (c .refuse2 .ensures)
 
--- src/lib.rt:118:17
 sub-t13 : tie.Need-sub-t13
 sub-t13 c = omega (arith, token-long (c .before .before .before .before .before .before .before .before .before .before .args .token .now) (c .before .before .before .before .before .before .before .before .before .before .args .work .now) (c .before .before .before .before .before .before .before .before .before .before .args .st .now) (c .before .before .before .before .before .before .before .before .before .before .args .buffer .now) (c .before .before .before .before .before .before .has-bad-escape .result) (c .before .before .before .before .before .before .has-bad-escape .ensures) (c .before .before .before .before .before .if1 .left) (c .before .before .before .before .inside .result .now) (c .before .before .before .before .inside .ensures) (c .before .before .before .has-scheme-unescaped .result) (c .before .before .before .has-scheme-unescaped .ensures) (c .before .before .if2 .taken) (c .before .unescaped-length .result) (c .before .unescaped-length .ensures))
 
--- src/lib.rt:112:9
 returns-3 : tie.Need-returns-3
 returns-3 c = as-written (c .before .before .before .before .before .before .before .before .before .before .args .token .now) (c .before .before .before .before .before .before .before .before .before .before .args .work .now) (c .before .before .before .before .before .before .before .before .before .before .args .st .now) _ (c .before .before .before .before .before .before .has-bad-escape .result) (c .before .before .before .before .before .before .has-bad-escape .ensures) (c .before .before .before .before .before .if1 .left) (c .before .before .before .before .inside .result .now) (c .before .before .before .before .inside .ensures) (c .before .before .before .has-scheme-unescaped .result) (c .before .before .before .has-scheme-unescaped .ensures) (c .before .before .if2 .taken) (c .before .unescaped-length .result) (c .before .unescaped-length .ensures) (c .if3 .left)
 
--- src/lib.rt:122:9
 write-reference-requires : tie.Need-write-reference-requires
 write-reference-requires c κs = search needs
 
--- src/lib.rt:124:31
 enum-told : tie.Need-enum-told
 enum-told c = search needs
 
--- src/lib.rt:124:31
 refuse-requires-3 : tie.Need-refuse-requires-3
 refuse-requires-3 c κs = search needs
 
--- src/lib.rt:125:29
 enum-told-2 : tie.Need-enum-told-2
 enum-told-2 c = search needs
 
--- src/lib.rt:125:29
 refuse-requires-4 : tie.Need-refuse-requires-4
 refuse-requires-4 c κs = search needs
 
--- src/lib.rt:126:29
 enum-known-a : tie.Need-enum-known-a
 enum-known-a c = search needs
 
--- src/lib.rt:95:1
 same-length : tie.Need-same-length
 same-length c = search needs
 
--- src/lib.rt:95:1
 returns-4 : tie.Need-returns-4
 returns-4 c = refused-no-base (c .before .before .before .before .before .before .before .before .before .before .before .before .before .before .before .args .token .now) (c .before .before .before .before .before .before .before .before .before .before .before .before .before .before .before .args .work .now) (c .before .before .before .before .before .before .before .before .before .before .before .before .before .before .before .args .st .now) _ (c .before .before .before .before .before .before .before .before .before .before .before .has-bad-escape .result) (c .before .before .before .before .before .before .before .before .before .before .before .has-bad-escape .ensures) (c .before .before .before .before .before .before .before .before .before .before .if1 .left) (c .before .before .before .before .before .before .before .before .before .inside .result .now) (c .before .before .before .before .before .before .before .before .before .inside .ensures) (c .before .before .before .before .before .write-reference .result) (c .before .before .before .before .before .write-reference .ensures) (c .before .enum-told .given .1) (c .refuse3 .result) (c .refuse3 .ensures)
 
--- src/lib.rt:95:1
 same-length-2 : tie.Need-same-length-2
 same-length-2 c = search needs
 
--- src/lib.rt:95:1
 returns-5 : tie.Need-returns-5
 returns-5 c = refused-over (c .before .before .before .before .before .before .before .before .before .before .before .before .before .before .before .args .token .now) (c .before .before .before .before .before .before .before .before .before .before .before .before .before .before .before .args .work .now) (c .before .before .before .before .before .before .before .before .before .before .before .before .before .before .before .args .st .now) _ (c .before .before .before .before .before .before .before .before .before .before .before .has-bad-escape .result) (c .before .before .before .before .before .before .before .before .before .before .before .has-bad-escape .ensures) (c .before .before .before .before .before .before .before .before .before .before .if1 .left) (c .before .before .before .before .before .before .before .before .before .inside .result .now) (c .before .before .before .before .before .before .before .before .before .inside .ensures) (c .before .before .before .before .before .write-reference .result) (c .before .before .before .before .before .write-reference .ensures) (c .before .enum-told2 .given .1) (c .refuse4 .result) (c .refuse4 .ensures)
 
--- src/lib.rt:95:1
 same-length-3 : tie.Need-same-length-3
 same-length-3 c = search needs
 
--- src/lib.rt:95:1
 returns-6 : tie.Need-returns-6
 returns-6 c = resolved-there (c .before .before .before .before .before .before .before .before .before .before .before .before .before .before .before .args .token .now) (c .before .before .before .before .before .before .before .before .before .before .before .before .before .before .before .args .work .now) (c .before .before .before .before .before .before .before .before .before .before .before .before .before .before .before .args .st .now) _ (c .before .before .before .before .before .before .before .before .before .before .before .has-bad-escape .result) (c .before .before .before .before .before .before .before .before .before .before .before .has-bad-escape .ensures) (c .before .before .before .before .before .before .before .before .before .before .if1 .left) (c .before .before .before .before .before .before .before .before .before .inside .result .now) (c .before .before .before .before .before .before .before .before .before .inside .ensures) (c .before .before .before .before .before .write-reference .result) (c .before .before .before .before .before .write-reference .ensures) (c .before .a .given .0 .0) (c .before .a .given .1) (omega arith)
 

@@ -1,103 +1,80 @@
+use Rattle.form.proofs.Forms.{rest-all}
+use lib.Seq.{length-take-le}
+use mathlib.Core.Path.{sym}
+use native.Mathlib.Omega.{arith}
+use Rattle.address.proofs.Directives.{base-refused-no-base, base-refused-long, fits, base-declared, base-never-long}
 use borrow.Author.Needs.{needs}
 use Rattle.address.proofs.set_written.Statement.{statement}
 use Rattle.address.proofs.set_written.Tie as tie
-use Rattle.address.proofs.set_written.Reads as reads
-use Rattle.address.proofs.set_written.Lts as lts
-use Rattle.address.proofs.inside.Reads as inside-reads
-use Rattle.address.proofs.write_reference.Reads as write-reference-reads
-use Rattle.scope.proofs.set_base.Reads as set-base-reads
 
--- src/lib.rt:267:9
 inside-requires : tie.Need-inside-requires
 inside-requires c κs = search needs
 
--- src/lib.rt:268:35
 sub-write-reference : tie.Need-sub-write-reference
 sub-write-reference c = search needs
 
--- src/lib.rt:268:35
 part-write-reference-start : tie.Need-part-write-reference-start
 part-write-reference-start c = search needs
 
--- src/lib.rt:268:35
 part-write-reference-end : tie.Need-part-write-reference-end
 part-write-reference-end c = search needs
 
--- src/lib.rt:268:9
 write-reference-requires : tie.Need-write-reference-requires
 write-reference-requires c κs = search needs
 
--- src/lib.rt:270:31
 enum-told : tie.Need-enum-told
 enum-told c = search needs
 
--- src/lib.rt:271:29
 enum-told-2 : tie.Need-enum-told-2
 enum-told-2 c = search needs
 
--- src/lib.rt:272:29
 enum-known-a : tie.Need-enum-known-a
 enum-known-a c = search needs
 
--- src/lib.rt:273:42
 slice-reshare-prefix-set-base : tie.Need-slice-reshare-prefix-set-base
-slice-reshare-prefix-set-base c = ?
+slice-reshare-prefix-set-base c = fits (c .before .before .before .before .before .before .before .before .before .before .before .before .before .before .before .before .args .token .now) (c .before .before .before .before .before .before .before .before .before .before .before .before .before .before .before .before .args .work .now) (c .before .before .before .before .before .before .before .before .before .before .before .before .before .before .before .before .args .st .now) (c .before .before .before .before .before .before .before .before .before .before .before .before .before .before .before .before .pre .1 .1 .0) (c .before .before .before .before .before .before .before .before .before .before .before .before .before .before .before .before .pre .1 .1 .1) (c .before .before .before .before .before .before .before .before .before .before .before .before .before .before .before .before .pre .1 .0) (c .before .before .before .before .before .before .before .before .before .before .before .before .inside .result .now) (c .before .before .before .before .before .before .before .before .before .before .before .before .inside .ensures) _ (rest-all (c .before .before .before .before .before .before .before .before .before .before .before .before .before .before .before .before .args .work .now) 0) (c .before .before .before .before .before .before .before .write-reference .last .1 .1 .1 .0) (c .before .before .before .before .before .before .before .write-reference .result) (c .before .before .before .before .before .before .before .write-reference .ensures) (c .before .before .before .a .given .0 .0) (c .before .before .before .a .given .1)
 
--- src/lib.rt:273:42
 slice-aggregate-set-base : tie.Need-slice-aggregate-set-base
-slice-aggregate-set-base c = ?
+slice-aggregate-set-base c = sym (length-take-le (c .before .before .before .before .a .given .0 .0) (c .before .before .before .before .before .before .before .before .write-reference .last .1 .1 .1 .0) (fits (c .before .before .before .before .before .before .before .before .before .before .before .before .before .before .before .before .before .args .token .now) (c .before .before .before .before .before .before .before .before .before .before .before .before .before .before .before .before .before .args .work .now) (c .before .before .before .before .before .before .before .before .before .before .before .before .before .before .before .before .before .args .st .now) (c .before .before .before .before .before .before .before .before .before .before .before .before .before .before .before .before .before .pre .1 .1 .0) (c .before .before .before .before .before .before .before .before .before .before .before .before .before .before .before .before .before .pre .1 .1 .1) (c .before .before .before .before .before .before .before .before .before .before .before .before .before .before .before .before .before .pre .1 .0) (c .before .before .before .before .before .before .before .before .before .before .before .before .before .inside .result .now) (c .before .before .before .before .before .before .before .before .before .before .before .before .before .inside .ensures) _ (rest-all (c .before .before .before .before .before .before .before .before .before .before .before .before .before .before .before .before .before .args .work .now) 0) (c .before .before .before .before .before .before .before .before .write-reference .last .1 .1 .1 .0) (c .before .before .before .before .before .before .before .before .write-reference .result) (c .before .before .before .before .before .before .before .before .write-reference .ensures) (c .before .before .before .before .a .given .0 .0) (c .before .before .before .before .a .given .1)))
 
--- src/lib.rt:273:16
 set-base-requires : tie.Need-set-base-requires
 set-base-requires c κs = search needs
 
--- src/lib.rt:274:17
 same-length : tie.Need-same-length
 same-length c = search needs
 
--- src/lib.rt:274:17
 same-length-2 : tie.Need-same-length-2
 same-length-2 c = search needs
 
--- src/lib.rt:274:17
 returns : tie.Need-returns
-returns c = ?
+returns c = base-declared (c .before .before .before .before .before .before .before .before .before .before .before .before .before .before .before .before .before .before .before .before .before .args .token .now) (c .before .before .before .before .before .before .before .before .before .before .before .before .before .before .before .before .before .before .before .before .before .args .work .now) (c .before .before .before .before .before .before .before .before .before .before .before .before .before .before .before .before .before .before .before .before .before .args .st .now) (c .before .before .before .before .before .before .before .before .before .before .before .before .before .before .before .before .before .before .before .before .before .pre .1 .1 .0) (c .before .before .before .before .before .before .before .before .before .before .before .before .before .before .before .before .before .before .before .before .before .pre .1 .1 .1) (c .before .before .before .before .before .before .before .before .before .before .before .before .before .before .before .before .before .before .before .before .before .pre .1 .0) (c .before .before .before .before .before .before .before .before .before .before .before .before .before .before .before .before .before .inside .result .now) (c .before .before .before .before .before .before .before .before .before .before .before .before .before .before .before .before .before .inside .ensures) _ (rest-all (c .before .before .before .before .before .before .before .before .before .before .before .before .before .before .before .before .before .before .before .before .before .args .work .now) 0) (c .before .before .before .before .before .before .before .before .before .before .before .before .write-reference .last .1 .1 .1 .0) (c .before .before .before .before .before .before .before .before .before .before .before .before .write-reference .result) (c .before .before .before .before .before .before .before .before .before .before .before .before .write-reference .ensures) (c .before .before .before .before .before .before .before .before .a .given .0 .0) (c .before .before .before .before .before .before .before .before .a .given .1) (omega arith) (c .before .before .before .set-base .last .0) (c .before .before .before .set-base .last .1 .0) (c .before .before .before .set-base .result) (c .before .before .before .set-base .ensures) (c .if1 .taken)
 
--- src/lib.rt:258:1
 same-length-3 : tie.Need-same-length-3
 same-length-3 c = search needs
 
--- src/lib.rt:258:1
 same-length-4 : tie.Need-same-length-4
 same-length-4 c = search needs
 
--- src/lib.rt:258:1
 returns-2 : tie.Need-returns-2
-returns-2 c = ?
+returns-2 c = base-refused-no-base (c .before .before .before .before .before .before .before .before .before .before .before .before .before .args .token .now) (c .before .before .before .before .before .before .before .before .before .before .before .before .before .args .work .now) (c .before .before .before .before .before .before .before .before .before .before .before .before .before .args .st .now) (c .before .before .before .before .before .before .before .before .before .before .before .before .before .pre .1 .1 .0) (c .before .before .before .before .before .before .before .before .before .before .before .before .before .pre .1 .1 .1) (c .before .before .before .before .before .before .before .before .before .before .before .before .before .pre .1 .0) (c .before .before .before .before .before .before .before .before .before .inside .result .now) (c .before .before .before .before .before .before .before .before .before .inside .ensures) _ (rest-all (c .before .before .before .before .before .before .before .before .before .before .before .before .before .args .work .now) 0) (c .before .before .before .before .write-reference .last .1 .1 .1 .0) (c .before .before .before .before .write-reference .result) (c .before .before .before .before .write-reference .ensures) (c .enum-told .given .1)
 
--- src/lib.rt:258:1
 same-length-5 : tie.Need-same-length-5
 same-length-5 c = search needs
 
--- src/lib.rt:258:1
 same-length-6 : tie.Need-same-length-6
 same-length-6 c = search needs
 
--- src/lib.rt:258:1
 returns-3 : tie.Need-returns-3
-returns-3 c = ?
+returns-3 c = base-refused-long (c .before .before .before .before .before .before .before .before .before .before .before .before .before .args .token .now) (c .before .before .before .before .before .before .before .before .before .before .before .before .before .args .work .now) (c .before .before .before .before .before .before .before .before .before .before .before .before .before .args .st .now) (c .before .before .before .before .before .before .before .before .before .before .before .before .before .pre .1 .1 .0) (c .before .before .before .before .before .before .before .before .before .before .before .before .before .pre .1 .1 .1) (c .before .before .before .before .before .before .before .before .before .before .before .before .before .pre .1 .0) (c .before .before .before .before .before .before .before .before .before .inside .result .now) (c .before .before .before .before .before .before .before .before .before .inside .ensures) _ (rest-all (c .before .before .before .before .before .before .before .before .before .before .before .before .before .args .work .now) 0) (c .before .before .before .before .write-reference .last .1 .1 .1 .0) (c .before .before .before .before .write-reference .result) (c .before .before .before .before .write-reference .ensures) (c .enum-told2 .given .1)
 
--- src/lib.rt:258:1
 same-length-7 : tie.Need-same-length-7
 same-length-7 c = search needs
 
--- src/lib.rt:258:1
 same-length-8 : tie.Need-same-length-8
 same-length-8 c = search needs
 
--- src/lib.rt:258:1
 returns-4 : tie.Need-returns-4
-returns-4 c = ?
+returns-4 c = base-never-long (c .before .before .before .before .before .before .before .before .before .before .before .before .before .before .before .before .before .before .before .before .before .args .token .now) (c .before .before .before .before .before .before .before .before .before .before .before .before .before .before .before .before .before .before .before .before .before .args .work .now) (c .before .before .before .before .before .before .before .before .before .before .before .before .before .before .before .before .before .before .before .before .before .args .st .now) (c .before .before .before .before .before .before .before .before .before .before .before .before .before .before .before .before .before .before .before .before .before .pre .1 .1 .0) (c .before .before .before .before .before .before .before .before .before .before .before .before .before .before .before .before .before .before .before .before .before .pre .1 .1 .1) (c .before .before .before .before .before .before .before .before .before .before .before .before .before .before .before .before .before .before .before .before .before .pre .1 .0) (c .before .before .before .before .before .before .before .before .before .before .before .before .before .before .before .before .before .inside .result .now) (c .before .before .before .before .before .before .before .before .before .before .before .before .before .before .before .before .before .inside .ensures) _ (rest-all (c .before .before .before .before .before .before .before .before .before .before .before .before .before .before .before .before .before .before .before .before .before .args .work .now) 0) (c .before .before .before .before .before .before .before .before .before .before .before .before .write-reference .last .1 .1 .1 .0) (c .before .before .before .before .before .before .before .before .before .before .before .before .write-reference .result) (c .before .before .before .before .before .before .before .before .before .before .before .before .write-reference .ensures) (c .before .before .before .before .before .before .before .before .a .given .0 .0) (c .before .before .before .before .before .before .before .before .a .given .1) (omega arith) (c .before .before .before .set-base .last .0) (c .before .before .before .set-base .last .1 .0) (c .before .before .before .set-base .result) (c .before .before .before .set-base .ensures) (c .if1 .left)
 
 pub set-written-spec : {M : Type 1} → statement M
 set-written-spec =

@@ -4,59 +4,40 @@ use Rattle.address.proofs.Buffers.{writes-none, writes-long, writes-res
 use borrow.Author.Needs.{needs}
 use Rattle.address.proofs.write_reference.Statement.{statement}
 use Rattle.address.proofs.write_reference.Tie as tie
-use Rattle.address.proofs.write_reference.Reads as reads
-use Rattle.address.proofs.write_reference.Lts as lts
-use Rattle.address.proofs.lacks_base.Reads as lacks-base-reads
-use Rattle.escape.proofs.unescaped_length.Reads as unescaped-length-reads
-use Rattle.escape.proofs.write_unescaped.Reads as write-unescaped-reads
-use Rattle.iri.proofs.resolve.Reads as resolve-reads
-use Rattle.scope.proofs.base.Reads as base-reads
 
--- src/lib.rt:81:9
 base-requires : tie.Need-base-requires
 base-requires c κs = search needs
 
--- src/lib.rt:82:8
 lacks-base-requires : tie.Need-lacks-base-requires
 lacks-base-requires c κs = search needs
 
--- src/lib.rt:83:9
 returns : tie.Need-returns
 returns c = writes-none (c .before .before .before .before .before .before .args .text .now) (c .before .before .before .before .before .before .args .work .now) (c .before .before .before .before .before .before .args .st .now) (c .before .before .base .result .now) (c .before .before .base .ensures) (c .before .lacks-base .result) (c .before .lacks-base .ensures) (c .if1 .taken) _
 
--- src/lib.rt:85:9
 unescaped-length-requires : tie.Need-unescaped-length-requires
 unescaped-length-requires c κs = search needs
 
--- src/lib.rt:87:9
 returns-2 : tie.Need-returns-2
 returns-2 c = writes-long (c .before .before .before .before .before .before .before .before .args .text .now) (c .before .before .before .before .before .before .before .before .args .work .now) (c .before .before .before .before .before .before .before .before .args .st .now) (c .before .before .before .before .base .result .now) (c .before .before .before .before .base .ensures) (c .before .before .before .lacks-base .result) (c .before .before .before .lacks-base .ensures) (c .before .before .if1 .left) (c .before .unescaped-length .result) (c .before .unescaped-length .ensures) (c .if2 .taken) _
 
--- src/lib.rt:90:35
 sub-write-unescaped : tie.Need-sub-write-unescaped
 sub-write-unescaped c = search needs
 
--- src/lib.rt:90:35
 part-write-unescaped-start : tie.Need-part-write-unescaped-start
 part-write-unescaped-start c = search needs
 
--- src/lib.rt:90:35
 part-write-unescaped-end : tie.Need-part-write-unescaped-end
 part-write-unescaped-end c = search needs
 
--- src/lib.rt:90:5
 write-unescaped-requires : tie.Need-write-unescaped-requires
 write-unescaped-requires c κs = search needs
 
--- src/lib.rt:91:5
 resolve-requires : tie.Need-resolve-requires
 resolve-requires c κs = search needs
 
--- src/lib.rt:72:1
 same-length : tie.Need-same-length
 same-length c = search needs
 
--- src/lib.rt:72:1
 returns-3 : tie.Need-returns-3
 returns-3 c = writes-resolved (c .before .before .before .before .before .before .before .before .before .before .before .before .before .before .before .before .args .text .now) (c .before .before .before .before .before .before .before .before .before .before .before .before .before .before .before .before .args .work .now) (c .before .before .before .before .before .before .before .before .before .before .before .before .before .before .before .before .args .st .now) (c .before .before .before .before .before .before .before .before .before .before .before .before .base .result .now) (c .before .before .before .before .before .before .before .before .before .before .before .before .base .ensures) (c .before .before .before .before .before .before .before .before .before .before .before .lacks-base .result) (c .before .before .before .before .before .before .before .before .before .before .before .lacks-base .ensures) (c .before .before .before .before .before .before .before .before .before .before .if1 .left) (c .before .before .before .before .before .before .before .before .before .unescaped-length .result) (c .before .before .before .before .before .before .before .before .before .unescaped-length .ensures) (c .before .before .before .before .before .before .before .before .if2 .left) (c .before .before .before .before .before .before .before .before .before .before .before .before .before .before .before .before .args .buffer .now) (c .before .before .before .before .before .before .write-unescaped .last .1 .0) (c .before .before .resolve .last .1 .0) _ (c .before .before .before .before .before .before .write-unescaped .result) (c .before .before .resolve .result) (omega arith) refl (c .before .before .before .before .before .before .write-unescaped .ensures) (c .before .before .resolve .ensures)
 
