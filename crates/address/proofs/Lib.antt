@@ -4,3 +4,4 @@ pub mod Refused
 pub mod Buffers
 pub mod Answers
 pub mod Directives
+pub mod Begins
