@@ -71,7 +71,7 @@ place p (b ∷ bs) = let r = suc (place p bs) in cond (same-text p (b .prefix)) 
 -- The namespace that was found stands in the work slice.
 unfoldable pub FoundIn : Text → Environment → Text → Found → Type 0
 FoundIn p e work Missing = lookup p (e .namespaces) ≡ none
-FoundIn p e work (At start n) = (lookup p (e .namespaces) ≡ some (take n (drop start work))) × ((start + n ≤ length work) × (n ≤ iri-limit))
+FoundIn p e work (At start n) = (lookup p (e .namespaces) ≡ some (take n (drop start work))) × ((start + n ≤ work-size) × (n ≤ iri-limit))
 
 -- A work slice and an array that can hold all this; the caller's are.
 pub record Usable (work : Text) (lens : List ℕ) : Type 0 where

@@ -73,7 +73,7 @@ fn find(work: &[u8], lens: &[usize; Layout::WORDS], prefix: &[u8], n: usize) -> 
 
 // Where the namespace of a prefix stands.
 pub fn look_up(work: &[u8], lens: &[usize; Layout::WORDS], prefix: &[u8]) -> Found
-    ensures { λ r. ⌜ (Usable (now (work .entry)) (now (lens .entry)) → FoundIn (now (prefix .entry)) (in-force (now (work .entry)) (now (lens .entry))) (now (work .entry)) r) ⌝ }
+    ensures { λ r. ⌜ ((work-size ≤ length (now (work .entry))) → FoundIn (now (prefix .entry)) (in-force (now (work .entry)) (now (lens .entry))) (now (work .entry)) r) ⌝ }
 {
     if work.len() < Limits::WORK {
         return Found::Missing;

@@ -5,7 +5,7 @@ use Rattle.scope.proofs.look_up.Statement.{statement}
 use Rattle.scope.proofs.look_up.Tie as tie
 
 returns : tie.Need-returns
-returns c = λ u. absurd (omega (arith, u .room))
+returns c = λ room. absurd (omega arith)
 
 element-copy-out-at-most : tie.Need-element-copy-out-at-most
 element-copy-out-at-most c = search needs
@@ -17,7 +17,7 @@ find-requires : tie.Need-find-requires
 find-requires c κs = search needs
 
 returns-2 : tie.Need-returns-2
-returns-2 c = λ u. missing (c .before .before .before .before .before .before .before .args .prefix .now) (c .before .before .before .before .before .before .before .args .work .now) (c .before .before .before .before .before .before .before .args .lens .now) (c .before .before .at-most .result) (c .before .find .result) (c .before .before .at-most .ensures .0) (c .before .find .ensures .0) (omega arith)
+returns-2 c = λ room. missing (c .before .before .before .before .before .before .before .args .prefix .now) (c .before .before .before .before .before .before .before .args .work .now) (c .before .before .before .before .before .before .before .args .lens .now) (c .before .before .at-most .result) (c .before .find .result) (c .before .before .at-most .ensures .0) (c .before .find .ensures .0) (omega arith)
 
 mul-t6 : tie.Need-mul-t6
 mul-t6 c = search needs
@@ -38,7 +38,7 @@ at-most-requires-2 : tie.Need-at-most-requires-2
 at-most-requires-2 c κs = search needs
 
 returns-3 : tie.Need-returns-3
-returns-3 c = λ u. found-at (c .before .before .before .before .before .before .before .before .before .args .prefix .now) (c .before .before .before .before .before .before .before .before .before .args .work .now) (c .before .before .before .before .before .before .before .before .before .args .lens .now) (c .before .before .before .before .at-most .result) (c .before .before .before .find .result) (c .at-most2 .result) (c .before .before .before .before .at-most .ensures .0) (c .before .before .before .find .ensures .0) (omega arith) (c .before .before .before .before .at-most .ensures .1) (c .at-most2 .ensures .0) (c .at-most2 .ensures .1) (u .room)
+returns-3 c = λ room. found-at (c .before .before .before .before .before .before .before .before .before .args .prefix .now) (c .before .before .before .before .before .before .before .before .before .args .work .now) (c .before .before .before .before .before .before .before .before .before .args .lens .now) (c .before .before .before .before .at-most .result) (c .before .before .before .find .result) (c .at-most2 .result) (c .before .before .before .before .at-most .ensures .0) (c .before .before .before .find .ensures .0) (omega arith) (c .before .before .before .before .at-most .ensures .1) (c .at-most2 .ensures .0) (c .at-most2 .ensures .1) room
 
 pub look-up-spec : {M : Type 1} → statement M
 look-up-spec =
