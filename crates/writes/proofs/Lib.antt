@@ -1,0 +1,4 @@
+pub mod Compose
+pub mod Held
+pub mod Sharing
+pub mod Rows

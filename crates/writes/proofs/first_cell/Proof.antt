@@ -1,0 +1,47 @@
+use borrow.Author.Needs.{needs}
+use Rattle.writes.proofs.first_cell.Statement.{statement}
+use Rattle.writes.proofs.first_cell.Tie as tie
+use Rattle.writes.proofs.first_cell.Reads as reads
+use Rattle.writes.proofs.first_cell.Lts as lts
+use Rattle.writes.proofs.fresh.Reads as fresh-reads
+use Rattle.writes.proofs.hold.Reads as hold-reads
+
+-- src/lib.rt:363:9
+fresh-requires : tie.Need-fresh-requires
+fresh-requires c κs = ?
+
+-- src/lib.rt:364:5
+hold-requires : tie.Need-hold-requires
+hold-requires c κs = ?
+
+-- src/lib.rt:349:1
+same-length : tie.Need-same-length
+same-length c = search needs
+
+-- src/lib.rt:349:1
+same-length-2 : tie.Need-same-length-2
+same-length-2 c = search needs
+
+-- src/lib.rt:349:1
+same-length-3 : tie.Need-same-length-3
+same-length-3 c = search needs
+
+-- src/lib.rt:349:1
+same-length-4 : tie.Need-same-length-4
+same-length-4 c = search needs
+
+-- src/lib.rt:349:1
+returns : tie.Need-returns
+returns c = ?
+
+pub first-cell-spec : {M : Type 1} → statement M
+first-cell-spec =
+    tie.close
+    (tie.spec
+    fresh-requires
+    hold-requires
+    same-length
+    same-length-2
+    same-length-3
+    same-length-4
+    returns)

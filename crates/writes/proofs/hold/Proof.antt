@@ -1,0 +1,67 @@
+use borrow.Author.Needs.{needs}
+use Rattle.writes.proofs.hold.Statement.{statement}
+use Rattle.writes.proofs.hold.Tie as tie
+use Rattle.writes.proofs.hold.Reads as reads
+use Rattle.writes.proofs.hold.Lts as lts
+use Rattle.writes.proofs.put_row.Reads as put-row-reads
+use Rattle.writes.proofs.share_first.Reads as share-first-reads
+
+-- src/lib.rt:338:9
+returns : tie.Need-returns
+returns c = ?
+
+-- src/lib.rt:341:13
+share-first-requires : tie.Need-share-first-requires
+share-first-requires c κs = ?
+
+-- src/lib.rt:342:9
+put-row-requires : tie.Need-put-row-requires
+put-row-requires c κs = ?
+
+-- src/lib.rt:343:9
+same-length : tie.Need-same-length
+same-length c = search needs
+
+-- src/lib.rt:343:9
+same-length-2 : tie.Need-same-length-2
+same-length-2 c = search needs
+
+-- src/lib.rt:343:9
+same-length-3 : tie.Need-same-length-3
+same-length-3 c = search needs
+
+-- src/lib.rt:343:9
+same-length-4 : tie.Need-same-length-4
+same-length-4 c = search needs
+
+-- src/lib.rt:343:9
+returns-2 : tie.Need-returns-2
+returns-2 c = ?
+
+-- src/lib.rt:345:5
+put-row-requires-2 : tie.Need-put-row-requires-2
+put-row-requires-2 c κs = ?
+
+-- src/lib.rt:323:1
+same-length-5 : tie.Need-same-length-5
+same-length-5 c = search needs
+
+-- src/lib.rt:323:1
+returns-3 : tie.Need-returns-3
+returns-3 c = ?
+
+pub hold-spec : {M : Type 1} → statement M
+hold-spec =
+    tie.close
+    (tie.spec
+    returns
+    share-first-requires
+    put-row-requires
+    same-length
+    same-length-2
+    same-length-3
+    same-length-4
+    returns-2
+    put-row-requires-2
+    same-length-5
+    returns-3)

@@ -1,0 +1,53 @@
+use borrow.Author.Needs.{needs}
+use Rattle.writes.proofs.later_cell.Statement.{statement}
+use Rattle.writes.proofs.later_cell.Tie as tie
+use Rattle.writes.proofs.later_cell.Reads as reads
+use Rattle.writes.proofs.later_cell.Lts as lts
+use Rattle.writes.proofs.fresh.Reads as fresh-reads
+use Rattle.writes.proofs.put_row.Reads as put-row-reads
+use Rattle.writes.proofs.share_rest.Reads as share-rest-reads
+
+-- src/lib.rt:382:9
+fresh-requires : tie.Need-fresh-requires
+fresh-requires c κs = ?
+
+-- src/lib.rt:383:9
+share-rest-requires : tie.Need-share-rest-requires
+share-rest-requires c κs = ?
+
+-- src/lib.rt:384:5
+put-row-requires : tie.Need-put-row-requires
+put-row-requires c κs = ?
+
+-- src/lib.rt:369:1
+same-length : tie.Need-same-length
+same-length c = search needs
+
+-- src/lib.rt:369:1
+same-length-2 : tie.Need-same-length-2
+same-length-2 c = search needs
+
+-- src/lib.rt:369:1
+same-length-3 : tie.Need-same-length-3
+same-length-3 c = search needs
+
+-- src/lib.rt:369:1
+same-length-4 : tie.Need-same-length-4
+same-length-4 c = search needs
+
+-- src/lib.rt:369:1
+returns : tie.Need-returns
+returns c = ?
+
+pub later-cell-spec : {M : Type 1} → statement M
+later-cell-spec =
+    tie.close
+    (tie.spec
+    fresh-requires
+    share-rest-requires
+    put-row-requires
+    same-length
+    same-length-2
+    same-length-3
+    same-length-4
+    returns)

@@ -1,0 +1,130 @@
+use borrow.Author.Needs.{needs}
+use Rattle.writes.proofs.node.Statement.{statement}
+use Rattle.writes.proofs.node.Tie as tie
+use Rattle.writes.proofs.node.Reads as reads
+use Rattle.writes.proofs.node.Lts as lts
+use Rattle.writes.proofs.fresh.Reads as fresh-reads
+use Rattle.writes.proofs.share_iri.Reads as share-iri-reads
+use Rattle.writes.proofs.share_label.Reads as share-label-reads
+use Rattle.writes.proofs.share_tagged.Reads as share-tagged-reads
+use Rattle.writes.proofs.share_typed.Reads as share-typed-reads
+
+-- src/lib.rt:427:9
+share-iri-requires : tie.Need-share-iri-requires
+share-iri-requires c κs = ?
+
+-- src/lib.rt:427:9
+same-length : tie.Need-same-length
+same-length c = search needs
+
+-- src/lib.rt:427:9
+same-length-2 : tie.Need-same-length-2
+same-length-2 c = search needs
+
+-- src/lib.rt:427:9
+same-length-3 : tie.Need-same-length-3
+same-length-3 c = search needs
+
+-- src/lib.rt:427:9
+returns : tie.Need-returns
+returns c = ?
+
+-- src/lib.rt:430:9
+share-label-requires : tie.Need-share-label-requires
+share-label-requires c κs = ?
+
+-- src/lib.rt:430:9
+same-length-4 : tie.Need-same-length-4
+same-length-4 c = search needs
+
+-- src/lib.rt:430:9
+same-length-5 : tie.Need-same-length-5
+same-length-5 c = search needs
+
+-- src/lib.rt:430:9
+same-length-6 : tie.Need-same-length-6
+same-length-6 c = search needs
+
+-- src/lib.rt:430:9
+returns-2 : tie.Need-returns-2
+returns-2 c = ?
+
+-- src/lib.rt:433:9
+share-typed-requires : tie.Need-share-typed-requires
+share-typed-requires c κs = ?
+
+-- src/lib.rt:433:9
+same-length-7 : tie.Need-same-length-7
+same-length-7 c = search needs
+
+-- src/lib.rt:433:9
+same-length-8 : tie.Need-same-length-8
+same-length-8 c = search needs
+
+-- src/lib.rt:433:9
+same-length-9 : tie.Need-same-length-9
+same-length-9 c = search needs
+
+-- src/lib.rt:433:9
+returns-3 : tie.Need-returns-3
+returns-3 c = ?
+
+-- src/lib.rt:436:9
+share-tagged-requires : tie.Need-share-tagged-requires
+share-tagged-requires c κs = ?
+
+-- src/lib.rt:436:9
+same-length-10 : tie.Need-same-length-10
+same-length-10 c = search needs
+
+-- src/lib.rt:436:9
+same-length-11 : tie.Need-same-length-11
+same-length-11 c = search needs
+
+-- src/lib.rt:436:9
+same-length-12 : tie.Need-same-length-12
+same-length-12 c = search needs
+
+-- src/lib.rt:436:9
+returns-4 : tie.Need-returns-4
+returns-4 c = ?
+
+-- src/lib.rt:438:5
+fresh-requires : tie.Need-fresh-requires
+fresh-requires c κs = ?
+
+-- src/lib.rt:408:1
+same-length-13 : tie.Need-same-length-13
+same-length-13 c = search needs
+
+-- src/lib.rt:408:1
+returns-5 : tie.Need-returns-5
+returns-5 c = ?
+
+pub node-spec : {M : Type 1} → statement M
+node-spec =
+    tie.close
+    (tie.spec
+    share-iri-requires
+    same-length
+    same-length-2
+    same-length-3
+    returns
+    share-label-requires
+    same-length-4
+    same-length-5
+    same-length-6
+    returns-2
+    share-typed-requires
+    same-length-7
+    same-length-8
+    same-length-9
+    returns-3
+    share-tagged-requires
+    same-length-10
+    same-length-11
+    same-length-12
+    returns-4
+    fresh-requires
+    same-length-13
+    returns-5)
