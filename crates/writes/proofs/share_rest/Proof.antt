@@ -1,3 +1,6 @@
+use mathlib.Core.Path.{refl}
+use native.Mathlib.Omega.{arith}
+use Rattle.form.specs.Form.{joined, undo, bad}
 use borrow.Author.Needs.{needs}
 use Rattle.writes.proofs.share_rest.Statement.{statement}
 use Rattle.writes.proofs.share_rest.Tie as tie
@@ -11,7 +14,8 @@ slice-aggregate-share-iri c = search needs
 
 -- src/lib.rt:258:5
 share-iri-requires : tie.Need-share-iri-requires
-share-iri-requires c κs = ?
+unfolding joined undo bad
+share-iri-requires c κs = (c .before .before .before .before .before .before .before .before .pre, record { order = omega arith; front = omega arith; right = refl })
 
 -- src/lib.rt:249:1
 same-length : tie.Need-same-length
@@ -27,7 +31,8 @@ same-length-3 c = search needs
 
 -- src/lib.rt:249:1
 returns : tie.Need-returns
-returns c = ?
+unfolding joined undo
+returns c = c .before .before .before .before .before .before .share-iri .ensures
 
 pub share-rest-spec : {M : Type 1} → statement M
 share-rest-spec =
