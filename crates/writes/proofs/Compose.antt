@@ -1,16 +1,16 @@
 -- Writes one after the other: what each finds room for, and what both have done.
 use mathlib.Core.Path.{_≡_, refl, sym, ap, subst, _∙_}
-use mathlib.Core.List.{List, [], _∷_, append-nil}
-use Prim.Native.Nat.{ℕ, _+_, _≤_, _<_}
+use mathlib.Core.List.{List}
+use Prim.Native.Nat.{ℕ}
 use native.Mathlib.Omega.{arith}
-use lib.ListN.{length, take, length-append}
+use lib.ListN.{length, length-append}
 use Rattle.text.specs.Text.{Text}
 use Rattle.table.specs.Tables.{store-size}
 use Rattle.table.proofs.Store.{size-append}
-use Rattle.machine.specs.Memory.{Memory, Write, return, _>>=_, _>>_}
+use Rattle.machine.specs.Memory.{Memory, Write, return, _>>=_}
 use Rattle.machine.specs.Step.{Room}
 use Rattle.machine.specs.Demand.{Fits}
-use Rattle.machine.proofs.Extends.{Extends, extends-same, extends-both, Adds}
+use Rattle.machine.proofs.Extends.{Extends, extends-same, extends-both}
 use Rattle.state.specs.Represents.{Tables, room-in, Represents, Represented}
 use Rattle.writes.specs.Ready.{Ready, Kept, Writes}
 

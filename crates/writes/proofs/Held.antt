@@ -1,15 +1,13 @@
 -- The memory that the slices hold once a term or a row is added, and the room that this takes.
-use mathlib.Core.Path.{_≡_, refl, sym, ap, _∙_}
-use mathlib.Core.Bool.{true, false}
+use mathlib.Core.Path.{_≡_, refl, ap, _∙_}
 use mathlib.Core.List.{List, [], _∷_, _++_}
-use Prim.Native.Nat.{ℕ, suc, _+_, _*_, _/_, _≤_, _<_}
+use Prim.Native.Nat.{ℕ, _+_, _*_, _/_, _≤_, _<_}
 use native.Mathlib.Omega.{arith}
 use lib.Dec.{leb}
 use borrow.Author.Tests.{leb-true, leb-false}
 use lib.ListN.{length, getD, take, drop, set, length-append, length-set}
 use lib.Seq.{getD-set-same, getD-set-other}
 use Rattle.text.specs.Text.{Text}
-use Rattle.text.specs.Slice.{over-at}
 use Rattle.text.proofs.Compare.{by}
 use Rattle.text.proofs.Over.{over-at-length}
 use Rattle.limits.specs.Limits.{work-size}
@@ -21,7 +19,7 @@ use Rattle.table.specs.Tables.{is-blank, term-bytes, store-size}
 use Rattle.table.proofs.Store.{last-size}
 use Rattle.terms.specs.declared.Counts.{Counts}
 use Rattle.terms.specs.declared.Sort.{Sort}
-use Rattle.terms.specs.Keeps.{blank-count, Means, Room, Small, Added, KeepsRows, RowAdded}
+use Rattle.terms.specs.Keeps.{blank-count, Means, Room, Added, KeepsRows, RowAdded}
 use Rattle.terms.specs.Code.{next-entry, next-counts}
 use Rattle.terms.proofs.Slices.{past-over-at}
 use Rattle.terms.proofs.Growth.{five-words}

@@ -1,8 +1,8 @@
 -- The node of a token, by its kind; and the three writes of a token as a whole.
 use mathlib.Core.Path.{_≡_, refl, sym, ap, subst, _∙_}
 use mathlib.Core.Bool.{Bool, true, false}
-use mathlib.Core.List.{List, []}
-use Prim.Native.Nat.{ℕ, zero, suc, _+_, _-_, _≤_, _<_}
+use mathlib.Core.List.{List}
+use Prim.Native.Nat.{ℕ, zero, suc, _-_, _≤_, _<_}
 use native.Mathlib.Omega.{arith}
 use lib.ListN.{length, take, drop, set}
 use lib.Dec.{eqb}
@@ -11,19 +11,18 @@ use Rattle.scope.specs.Code.{cell}
 use Rattle.scope.proofs.Cells.{front-cell, most-small}
 use Rattle.machine.proofs.Extends.{adds-new-term, adds-term}
 use Rattle.limits.specs.Limits.{work-size}
-use Rattle.form.specs.Form.{undo, bad, joined}
-use Rattle.form.specs.declared.Form.{Form}
+use Rattle.form.specs.Form.{undo, joined}
 use Rattle.dataset.specs.Terms.{iri, blank, literal, tagged, label, bracket}
-use Rattle.machine.specs.Memory.{Memory, Write, return, _>>=_, term, new-term, typed}
+use Rattle.machine.specs.Memory.{Write, return, _>>=_, term, new-term, typed}
 use Rattle.machine.specs.Frame.{Place, element-of, Cells, no-cell, cells}
 use Rattle.machine.specs.Rules.{new-cell, end-list}
 use Rattle.state.specs.declared.Spot.{Spot}
 use Rattle.state.specs.declared.Node.{Node}
 use Rattle.state.specs.Words.{node-word, Stays}
-use Rattle.state.specs.Represents.{Tables, tables, Wrote}
+use Rattle.state.specs.Represents.{Tables, Wrote}
 use Rattle.state.specs.Writes.{place-of, cells-of, new-element, begin, node-iri, node-write, placed, opened-at, closed, SpotFits, NodeFits}
-use Rattle.writes.specs.Ready.{Ready, Kept, Writes, put-at}
-use Rattle.writes.specs.Steps.{Part, Number, TermReady, TermWrites, FreshReady, FreshWrites, NumberWrites, PutReady}
+use Rattle.writes.specs.Ready.{Ready, Writes, put-at}
+use Rattle.writes.specs.Steps.{Part, TermReady, TermWrites, FreshReady, FreshWrites, NumberWrites, PutReady}
 use Rattle.writes.proofs.Compose.{Grows, grows-return, grows-bind, ready-first, ready-next, writes-return, writes-bind, writes-then-return}
 use Rattle.writes.proofs.Places.{place-element, grows-put}
 use Rattle.writes.proofs.Rows.{wrote}

@@ -1,19 +1,17 @@
 -- A node at its place, the cells of a list, and its end.
-use mathlib.Core.Path.{_≡_, refl, sym, ap, subst, _∙_}
-use mathlib.Core.Bool.{true, false}
-use mathlib.Core.List.{List, []}
-use Prim.Native.Nat.{ℕ, zero, suc, _≤_, _<_}
+use mathlib.Core.Path.{_≡_, refl, sym, subst}
+use mathlib.Core.List.{List}
+use Prim.Native.Nat.{ℕ, zero, suc, _<_}
 use native.Mathlib.Omega.{arith}
-use lib.ListN.{length}
 use Rattle.text.specs.Text.{Text}
-use Rattle.dataset.specs.Terms.{cell, bracket, iri, blank, rdf-first, rdf-rest, rdf-nil}
-use Rattle.machine.specs.Memory.{Memory, Write, return, _>>=_, done, term, new-term, row}
-use Rattle.machine.specs.Frame.{Place, top, subject-before, object-of, element-of, Cells, no-cell, cells}
+use Rattle.dataset.specs.Terms.{cell, iri, blank, rdf-first, rdf-rest, rdf-nil}
+use Rattle.machine.specs.Memory.{Write, return, _>>=_, done, term, new-term, row}
+use Rattle.machine.specs.Frame.{Place, top, subject-before, object-of, element-of, no-cell, cells}
 use Rattle.machine.specs.Rules.{hold, new-cell, end-list}
-use Rattle.machine.proofs.Extends.{adds-new-term, adds-term, adds-row}
+use Rattle.machine.proofs.Extends.{adds-term, adds-row}
 use Rattle.state.specs.declared.Spot.{Spot}
 use Rattle.state.specs.Represents.{Tables, tables}
-use Rattle.state.specs.Writes.{place-of, cells-of, new-element, begin, placed, opened-at, closed, SpotFits}
+use Rattle.state.specs.Writes.{place-of, SpotFits}
 use Rattle.writes.specs.Ready.{Ready, Writes, put-at}
 use Rattle.writes.specs.Steps.{Number, TermReady, TermWrites, FreshReady, FreshWrites, RowReady, RowWrites, NumberWrites, HoldReady, PutReady}
 use Rattle.writes.proofs.Compose.{Grows, grows-return, grows-bind, ready-first, ready-next, writes-return, writes-bind, writes-then-return}
@@ -32,7 +30,6 @@ place-object : (x y : ℕ) → 0 < x → 0 < y → place-of x y ≡ object-of x 
 place-object zero y h k = absurd (omega arith)
 place-object (suc x) zero h k = absurd (omega arith)
 place-object (suc x) (suc y) h k = refl
-
 
 grows-row : (s p o at : ℕ) → Grows (row s p o at)
 grows-row s p o at m = adds-row s p o at .extends m
@@ -186,7 +183,7 @@ module _ (s : Spot) (work : Text) (rows terms : List ℕ) (store : Text) (st : L
         later-writes rows₃ st₃ Y = (
           W .0,
           writes-bind cell-node then-tie (W .1 work rows store (cell (s .at)) (refl, refl))
-          (writes-bind (term (iri rdf-rest)) (tie-row c) (X .1 rows) (writes-then-return (row (s .last) rest c (s .at)) c (Y work₂ terms₂ store₂))),
+              (writes-bind (term (iri rdf-rest)) (tie-row c) (X .1 rows) (writes-then-return (row (s .last) rest c (s .at)) c (Y work₂ terms₂ store₂))),
         )
 
   -- ---- The end of a list without elements

@@ -9,10 +9,10 @@ use Rattle.text.specs.Text.{Text}
 use Rattle.text.proofs.Over.{over-at-length}
 use Rattle.terms.specs.Keeps.{RowAdded}
 use Rattle.terms.proofs.Growth.{five-small}
-use Rattle.machine.specs.Memory.{Memory, Write, row}
+use Rattle.machine.specs.Memory.{Write, row}
 use Rattle.state.specs.Words.{rows-word, node-word, graph-word, Stays}
-use Rattle.state.specs.Represents.{Tables, tables, Represents, Wrote}
-use Rattle.writes.specs.Ready.{Ready, Kept, Writes}
+use Rattle.state.specs.Represents.{Tables, Wrote}
+use Rattle.writes.specs.Ready.{Writes}
 use Rattle.writes.specs.Steps.{RowReady, RowWrites}
 use Rattle.writes.proofs.Held.{row-room, held-row, held-node}
 

@@ -1,9 +1,8 @@
 -- Terms that are looked for, and added where there is none equal.
 use mathlib.Core.Path.{_≡_, refl, sym, ap, subst, _∙_}
-use mathlib.Core.Bool.{true, false}
 use mathlib.Core.List.{List, [], _∷_, _++_}
 use mathlib.Core.Option.{Option, none, some}
-use Prim.Native.Nat.{ℕ, suc, _+_, _-_, _*_, _/_, _≤_, _<_}
+use Prim.Native.Nat.{ℕ, _+_, _-_, _*_, _/_, _≤_, _<_}
 use native.Mathlib.Omega.{arith}
 use lib.ListN.{length, getD, take, drop, set, length-set}
 use lib.Seq.{getD-set-same, getD-set-other}
@@ -13,12 +12,12 @@ use Rattle.text.specs.Text.{Text}
 use Rattle.limits.specs.Limits.{work-size}
 use Rattle.form.specs.Hash.{hash}
 use Rattle.scope.proofs.Directives.{whole}
-use Rattle.dataset.specs.Terms.{Term, Blank, label, bracket, cell, iri, blank, literal, tagged}
+use Rattle.dataset.specs.Terms.{Term, Blank, label, iri, blank, literal, tagged}
 use Rattle.table.specs.Tables.{number, or-zero}
-use Rattle.table.proofs.Finding.{number-last, number-within, number-positive, zero-none, positive-some}
+use Rattle.table.proofs.Finding.{number-last, number-within, zero-none, positive-some}
 use Rattle.terms.specs.declared.Counts.{Counts}
 use Rattle.terms.specs.declared.Sort.{Sort}
-use Rattle.terms.specs.Keeps.{findable, Typed, Means, Room, Added, BlankAdded, blank-sort}
+use Rattle.terms.specs.Keeps.{Typed, Means, Room, Added, BlankAdded, blank-sort}
 use Rattle.terms.specs.Code.{next-entry}
 use Rattle.text.proofs.Over.{over-at-length}
 use Rattle.table.specs.Layout.{entry-words}
@@ -29,10 +28,9 @@ use Rattle.machine.specs.Memory.{Memory, term, term-by, new-term, typed}
 use Rattle.machine.specs.Read.{counted}
 use Rattle.machine.specs.Demand.{Fits}
 use Rattle.machine.proofs.Extends.{adds-term}
-use Rattle.state.specs.Words.{rows-word, terms-word, used-word, blanks-word, counts-of}
+use Rattle.state.specs.Words.{terms-word, used-word, blanks-word, counts-of}
 use Rattle.state.specs.Represents.{Tables, tables, room-in, Represents}
-use Rattle.writes.specs.Ready.{Ready, Kept, Writes}
-use Rattle.writes.specs.Steps.{CountsSet, Part, Asks, ShareReady, Number, Shares, TermAdded, TermReady, TermWrites, Unlabelled, FreshReady, FreshWrites}
+use Rattle.writes.specs.Steps.{CountsSet, Asks, ShareReady, Number, Shares, TermAdded, TermReady, TermWrites, FreshReady, FreshWrites}
 use Rattle.writes.proofs.Compose.{ready-first, kept-both, kept-same}
 use Rattle.writes.proofs.Held.{counted-room, term-room, held-term}
 
@@ -134,11 +132,14 @@ module _ (sort : Sort) (x g : Text) (u : Term) (asks : (m : Memory) → Asks sor
   pub share-writes : (r : ℕ) (work work' : Text) (terms terms' : List ℕ) (store store' : Text) (st st' : List ℕ)
       → Number r × ((rows : List ℕ) → Shares sort x g r work work' (tables rows terms store) (tables rows terms' store') st st')
       → TermWrites (term u) r work work' terms terms' store store' st st'
-  share-writes r work work' terms terms' store store' st st' (n, S) = (n, (λ rows. record {
-    represents = λ old m R. S rows .represents old m u R (asks m);
-    result = λ old m R. S rows .result old m u R (asks m);
-    kept = S rows .kept;
-  }))
+  share-writes r work work' terms terms' store store' st st' (n, S) = (
+    n,
+    (λ rows. record {
+      represents = λ old m R. S rows .represents old m u R (asks m);
+      result = λ old m R. S rows .result old m u R (asks m);
+      kept = S rows .kept;
+    }),
+  )
 
 pub iri-asked : (x : Text) (m : Memory) → Asks iri-sort x [] m (iri x)
 unfolding Means Typed
@@ -197,11 +198,14 @@ module _ (s x : Text) (d : ℕ) (work work₁ : Text) (terms terms₁ : List ℕ
     pub literal-writes : (r : ℕ) (work₂ : Text) (terms₂ : List ℕ) (store₂ : Text) (st₂ : List ℕ)
         → Number r × ((rows : List ℕ) → Shares (literal-sort d) s [] r work₁ work₂ (tables rows terms₁ store₁) (tables rows terms₂ store₂) st₁ st₂)
         → TermWrites (typed s x) r work work₂ terms terms₂ store store₂ st st₂
-    literal-writes r work₂ terms₂ store₂ st₂ (n, S) = (n, (λ rows. record {
-      represents = λ old m R. S rows .represents old (term (iri x) m .1) (literal s x) (W .1 rows .represents old m R) (asked-after rows old m R);
-      result = λ old m R. S rows .result old (term (iri x) m .1) (literal s x) (W .1 rows .represents old m R) (asked-after rows old m R);
-      kept = kept-both (W .1 rows .kept) (S rows .kept);
-    }))
+    literal-writes r work₂ terms₂ store₂ st₂ (n, S) = (
+      n,
+      (λ rows. record {
+        represents = λ old m R. S rows .represents old (term (iri x) m .1) (literal s x) (W .1 rows .represents old m R) (asked-after rows old m R);
+        result = λ old m R. S rows .result old (term (iri x) m .1) (literal s x) (W .1 rows .represents old m R) (asked-after rows old m R);
+        kept = kept-both (W .1 rows .kept) (S rows .kept);
+      }),
+    )
 
 -- ---- Blank nodes without a label
 
@@ -219,15 +223,17 @@ fresh-writes r terms terms' st st' c d f ec A S er =
     let P = fresh-room terms st f in
     let B : BlankAdded terms terms' (counts-of st) (counts-of st') = subst (λ (k : Counts). BlankAdded terms terms' k (counts-of st')) ec (subst (λ (k : Counts). BlankAdded terms terms' c k) (sym (S .counts)) A) in
     let long : length terms' ≡ length terms = added-lengths blank-sort [] [] terms terms' (f .store) (f .store) (counts-of st) (counts-of st') (B (f .store) (bytes-room (f .ready .represents .terms-held .keeps))) .0 in
-    let en : r ≡ getD st terms-word 0 + 1 = er ∙ ap (λ (k : Counts). k .terms + 1) ec in
-    ((omega arith, omega (arith, en, P .small .terms)), (λ work rows store b U. record {
-      represents = λ old m R.
-          held-term old m work work rows terms terms' store store st st' blank-sort [] [] (blank b) R
-          (record { words = P .words; bytes = omega (arith, bytes-room (R .terms-held .keeps)); small = P .small }) (B store (bytes-room (R .terms-held .keeps)))
-          (holds-blank (m .terms) b terms terms' store (drop work-size work) (counts-of st) (counts-of st') (R .terms-held) B (U .0) (U .1)) refl refl (counts-again st st' d S);
-      result = λ old m R. omega (arith, en, R .terms-held .keeps .count);
-      kept = record { front = refl; room = rw long; stays = λ k h. S .behind k (omega arith); words = S .words };
-    }))
+    let en : r ≡ getD st terms-word 0 + 1 = er ∙ ap (λ (k : Counts). k .terms + 1) ec in (
+      (omega arith, omega (arith, en, P .small .terms)),
+      (λ work rows store b U. record {
+        represents = λ old m R.
+            held-term old m work work rows terms terms' store store st st' blank-sort [] [] (blank b) R
+            (record { words = P .words; bytes = omega (arith, bytes-room (R .terms-held .keeps)); small = P .small }) (B store (bytes-room (R .terms-held .keeps)))
+            (holds-blank (m .terms) b terms terms' store (drop work-size work) (counts-of st) (counts-of st') (R .terms-held) B (U .0) (U .1)) refl refl (counts-again st st' d S);
+        result = λ old m R. omega (arith, en, R .terms-held .keeps .count);
+        kept = record { front = refl; room = rw long; stays = λ k h. S .behind k (omega arith); words = S .words };
+      }),
+    )
 
 -- ---- What the code of adding a term leaves
 

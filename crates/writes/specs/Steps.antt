@@ -2,7 +2,7 @@
 use mathlib.Core.Path.{_≡_}
 use mathlib.Core.Bool.{true, false}
 use mathlib.Core.List.{List, []}
-use Prim.Native.Nat.{ℕ, _+_, _≤_, _<_}
+use Prim.Native.Nat.{ℕ, _≤_, _<_}
 use lib.ListN.{length, getD, take, drop}
 use Rattle.text.specs.Text.{Text}
 use Rattle.limits.specs.Limits.{work-size}
@@ -14,7 +14,7 @@ use Rattle.terms.specs.declared.Counts.{Counts}
 use Rattle.terms.specs.declared.Sort.{Sort}
 use Rattle.terms.specs.Keeps.{findable, Typed, Means, Added}
 use Rattle.index.specs.Chains.{Links}
-use Rattle.machine.specs.Memory.{Memory, Write, Done, done, term, new-term, row}
+use Rattle.machine.specs.Memory.{Memory, Write, done, term, new-term, row}
 use Rattle.state.specs.Words.{rows-word, terms-word, node-word, counts-of}
 use Rattle.machine.specs.Rules.{hold}
 use Rattle.state.specs.Represents.{Tables, tables, Represents}

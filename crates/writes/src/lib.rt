@@ -13,7 +13,7 @@ ghost use Rattle.terms.specs.Keeps.{Room};
 ghost use Rattle.machine.specs.Memory.{done, term, typed};
 ghost use Rattle.machine.specs.Frame.{no-cell, cells};
 ghost use Rattle.machine.specs.Rules.{hold, new-cell, end-list};
-ghost use Rattle.state.specs.Words.{terms-word, node-word, counts-of, Stays};
+ghost use Rattle.state.specs.Words.{terms-word, counts-of, Stays};
 ghost use Rattle.state.specs.Represents.{tables, Wrote};
 ghost use Rattle.state.specs.Writes.{place-of, cells-of, node-write, placed, opened-at, closed, SpotFits, NodeFits};
 ghost use Rattle.writes.specs.Ready.{Ready, Writes, put-at};
@@ -106,7 +106,19 @@ fn share(
     if 0 < found {
         return found;
     }
-    add(work, terms, store, st, key, sort, start, end, form, back, tag)
+    add(
+        work,
+        terms,
+        store,
+        st,
+        key,
+        sort,
+        start,
+        end,
+        form,
+        back,
+        tag,
+    )
 }
 
 // The number of an IRI.
@@ -211,18 +223,7 @@ fn share_typed(
         kind: 3,
         datatype: d,
     };
-    share(
-        work,
-        terms,
-        store,
-        st,
-        sort,
-        0,
-        0,
-        shape,
-        text,
-        &text[..0],
-    )
+    share(work, terms, store, st, sort, 0, 0, shape, text, &text[..0])
 }
 
 // The numbers of the IRIs that a list supplies.
@@ -482,12 +483,38 @@ pub fn write_placed(
     let at = spot.at;
     if list {
         let cell = new_cell(work, rows, terms, store, st, spot);
-        st[Words::NODE] = put_node(work, rows, terms, store, st, cell, 0, at, node, back, text, tag);
+        st[Words::NODE] = put_node(
+            work,
+            rows,
+            terms,
+            store,
+            st,
+            cell,
+            0,
+            at,
+            node,
+            back,
+            text,
+            tag,
+        );
         return;
     }
     let x = spot.x;
     let y = spot.y;
-    st[Words::NODE] = put_node(work, rows, terms, store, st, x, y, at, node, back, text, tag);
+    st[Words::NODE] = put_node(
+        work,
+        rows,
+        terms,
+        store,
+        st,
+        x,
+        y,
+        at,
+        node,
+        back,
+        text,
+        tag,
+    );
 }
 
 // Writes the place of a node that is not known yet.

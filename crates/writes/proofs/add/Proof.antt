@@ -8,58 +8,40 @@ use mathlib.Core.Path.{refl, ap}
 use borrow.Author.Needs.{needs}
 use Rattle.writes.proofs.add.Statement.{statement}
 use Rattle.writes.proofs.add.Tie as tie
-use Rattle.writes.proofs.add.Reads as reads
-use Rattle.writes.proofs.add.Lts as lts
-use Rattle.index.proofs.enter.Reads as enter-reads
-use Rattle.terms.proofs.add.Reads as add-reads
-use Rattle.writes.proofs.counts.Reads as counts-reads
-use Rattle.writes.proofs.set_counts.Reads as set-counts-reads
 
--- src/lib.rt:66:9
 counts-requires : tie.Need-counts-requires
 counts-requires c κs = search needs
 
--- src/lib.rt:68:47
 sub-add : tie.Need-sub-add
 sub-add c = search needs
 
--- src/lib.rt:68:47
 part-add-start : tie.Need-part-add-start
 part-add-start c = search needs
 
--- src/lib.rt:68:47
 part-add-end : tie.Need-part-add-end
 part-add-end c = search needs
 
--- src/lib.rt:68:9
 add-requires : tie.Need-add-requires
 add-requires c κs = rw (c .before .before .before .before .counts .ensures) (c .before .before .before .before .before .before .before .before .before .before .before .pre .0, c .before .before .before .before .before .before .before .before .before .before .before .pre .1 .0 .right)
 
--- src/lib.rt:69:5
 enter-requires : tie.Need-enter-requires
 enter-requires c κs = (c .before .before .before .before .before .before .before .before .before .before .before .before .before .before .before .before .before .pre .1 .1 .room, omega (arith, c .before .before .before .before .before .before .before .before .before .before .before .before .before .before .before .before .before .pre .0 .small .terms, ap (λ (k : Counts). k .terms) (c .before .before .before .before .before .before .before .before .before .before .counts .ensures)))
 
--- src/lib.rt:70:5
 set-counts-requires : tie.Need-set-counts-requires
 set-counts-requires c κs = c .before .before .before .before .before .before .before .before .before .before .before .before .before .before .before .before .before .before .before .before .before .pre .1 .1 .words
 
--- src/lib.rt:71:5
 add-result : tie.Need-add-result
 add-result c = omega (arith, c .before .before .before .before .before .before .before .before .before .before .before .before .before .before .before .before .before .before .before .before .before .before .pre .0 .small .terms, ap (λ (k : Counts). k .terms) (c .before .before .before .before .before .before .before .before .before .before .before .before .before .before .before .counts .ensures))
 
--- src/lib.rt:50:1
 same-length : tie.Need-same-length
 same-length c = search needs
 
--- src/lib.rt:50:1
 same-length-2 : tie.Need-same-length-2
 same-length-2 c = search needs
 
--- src/lib.rt:50:1
 same-length-3 : tie.Need-same-length-3
 same-length-3 c = search needs
 
--- src/lib.rt:50:1
 returns : tie.Need-returns
 returns c = (ap (λ (k : Counts). k .terms + 1) (c .before .before .before .before .before .before .before .before .before .before .before .before .before .before .before .counts .ensures), term-added (c .before .before .before .before .before .before .before .before .before .before .before .before .before .before .before .before .before .before .before .before .before .before .args .sort) (joined (take (c .before .before .before .before .before .before .before .before .before .before .before .before .before .before .before .before .before .before .before .before .before .before .args .end - c .before .before .before .before .before .before .before .before .before .before .before .before .before .before .before .before .before .before .before .before .before .before .args .start) (drop (c .before .before .before .before .before .before .before .before .before .before .before .before .before .before .before .before .before .before .before .before .before .before .args .start) (c .before .before .before .before .before .before .before .before .before .before .before .before .before .before .before .before .before .before .before .before .before .before .args .work .now))) (c .before .before .before .before .before .before .before .before .before .before .before .before .before .before .before .before .before .before .before .before .before .before .args .form) (c .before .before .before .before .before .before .before .before .before .before .before .before .before .before .before .before .before .before .before .before .before .before .args .back .now)) (c .before .before .before .before .before .before .before .before .before .before .before .before .before .before .before .before .before .before .before .before .before .before .args .tag .now) (c .before .before .before .before .before .before .before .before .before .before .before .before .before .before .before .before .before .before .before .before .before .before .args .key) (c .before .before .before .before .before .before .before .before .before .before .before .before .before .before .before .counts .result .terms) (c .before .before .before .before .before .before .before .before .before .before .before .before .before .before .before .before .before .before .before .before .before .before .args .work .now) _ (c .before .before .before .before .before .before .before .before .before .before .before .before .before .before .before .before .before .before .before .before .before .before .args .terms .now) _ (c .before .before .before .before .before .before .before .before .before .before .before .before .before .before .before .before .before .before .before .before .before .before .args .store .now) _ (c .before .before .before .before .before .before .before .before .before .before .before .before .before .before .before .before .before .before .before .before .before .before .args .st .now) _ (c .before .before .before .before .before .before .before .before .before .before .before .before .before .before .before .counts .result) (c .before .before .before .before .before .before .before .before .before .before .add .result) (c .before .before .before .before .before .before .before .before .before .before .before .before .before .before .before .counts .ensures) refl (c .before .before .before .before .before .before .before .before .before .before .add .ensures) (c .before .before .before .before .enter .ensures) (c .set-counts .ensures) (c .before .before .before .before .enter .kept .0))
 

@@ -2,41 +2,28 @@ use Rattle.writes.proofs.Places.{end-rest, end-nil, end-ready, end-writ
 use borrow.Author.Needs.{needs}
 use Rattle.writes.proofs.end_cells.Statement.{statement}
 use Rattle.writes.proofs.end_cells.Tie as tie
-use Rattle.writes.proofs.end_cells.Reads as reads
-use Rattle.writes.proofs.end_cells.Lts as lts
-use Rattle.writes.proofs.put_row.Reads as put-row-reads
-use Rattle.writes.proofs.share_nil.Reads as share-nil-reads
-use Rattle.writes.proofs.share_rest.Reads as share-rest-reads
 
--- src/lib.rt:547:9
 share-rest-requires : tie.Need-share-rest-requires
-share-rest-requires c κs = end-rest (c .before .before .before .before .before .before .before .before .args .spot) (c .before .before .before .before .before .before .before .before .args .work .now) (c .before .before .before .before .before .before .before .before .args .rows .now) (c .before .before .before .before .before .before .before .before .args .terms .now) (c .before .before .before .before .before .before .before .before .args .store .now) (c .before .before .before .before .before .before .before .before .args .st .now) (c .before .before .before .before .before .before .before .before .pre .0) (c .before .before .before .before .before .before .before .before .pre .1) 
+share-rest-requires c κs = end-rest (c .before .before .before .before .before .before .before .before .args .spot) (c .before .before .before .before .before .before .before .before .args .work .now) (c .before .before .before .before .before .before .before .before .args .rows .now) (c .before .before .before .before .before .before .before .before .args .terms .now) (c .before .before .before .before .before .before .before .before .args .store .now) (c .before .before .before .before .before .before .before .before .args .st .now) (c .before .before .before .before .before .before .before .before .pre .0) (c .before .before .before .before .before .before .before .before .pre .1)
 
--- src/lib.rt:548:9
 share-nil-requires : tie.Need-share-nil-requires
-share-nil-requires c κs = end-nil (c .before .before .before .before .before .before .before .before .before .before .before .before .before .before .before .before .before .before .before .args .spot) (c .before .before .before .before .before .before .before .before .before .before .before .before .before .before .before .before .before .before .before .args .work .now) (c .before .before .before .before .before .before .before .before .before .before .before .before .before .before .before .before .before .before .before .args .rows .now) (c .before .before .before .before .before .before .before .before .before .before .before .before .before .before .before .before .before .before .before .args .terms .now) (c .before .before .before .before .before .before .before .before .before .before .before .before .before .before .before .before .before .before .before .args .store .now) (c .before .before .before .before .before .before .before .before .before .before .before .before .before .before .before .before .before .before .before .args .st .now) (c .before .before .before .before .before .before .before .before .before .before .before .before .before .before .before .before .before .before .before .pre .0) (c .before .before .before .before .before .before .before .before .before .before .before .before .before .before .before .before .before .before .before .pre .1) (c .before .before .before .before .before .before .before .before .before .before .share-rest .result) (c .before .before .before .before .before .before .before .before .before .before .share-rest .last .0) (c .before .before .before .before .before .before .before .before .before .before .share-rest .last .1 .0) (c .before .before .before .before .before .before .before .before .before .before .share-rest .last .1 .1 .0) (c .before .before .before .before .before .before .before .before .before .before .share-rest .last .1 .1 .1 .0) (c .before .before .before .before .before .before .before .before .before .before .share-rest .ensures) 
+share-nil-requires c κs = end-nil (c .before .before .before .before .before .before .before .before .before .before .before .before .before .before .before .before .before .before .before .args .spot) (c .before .before .before .before .before .before .before .before .before .before .before .before .before .before .before .before .before .before .before .args .work .now) (c .before .before .before .before .before .before .before .before .before .before .before .before .before .before .before .before .before .before .before .args .rows .now) (c .before .before .before .before .before .before .before .before .before .before .before .before .before .before .before .before .before .before .before .args .terms .now) (c .before .before .before .before .before .before .before .before .before .before .before .before .before .before .before .before .before .before .before .args .store .now) (c .before .before .before .before .before .before .before .before .before .before .before .before .before .before .before .before .before .before .before .args .st .now) (c .before .before .before .before .before .before .before .before .before .before .before .before .before .before .before .before .before .before .before .pre .0) (c .before .before .before .before .before .before .before .before .before .before .before .before .before .before .before .before .before .before .before .pre .1) (c .before .before .before .before .before .before .before .before .before .before .share-rest .result) (c .before .before .before .before .before .before .before .before .before .before .share-rest .last .0) (c .before .before .before .before .before .before .before .before .before .before .share-rest .last .1 .0) (c .before .before .before .before .before .before .before .before .before .before .share-rest .last .1 .1 .0) (c .before .before .before .before .before .before .before .before .before .before .share-rest .last .1 .1 .1 .0) (c .before .before .before .before .before .before .before .before .before .before .share-rest .ensures)
 
--- src/lib.rt:549:5
 put-row-requires : tie.Need-put-row-requires
-put-row-requires c κs = end-ready (c .before .before .before .before .before .before .before .before .before .before .before .before .before .before .before .before .before .before .before .before .before .before .before .before .before .before .before .before .args .spot) (c .before .before .before .before .before .before .before .before .before .before .before .before .before .before .before .before .before .before .before .before .before .before .before .before .before .before .before .before .args .work .now) (c .before .before .before .before .before .before .before .before .before .before .before .before .before .before .before .before .before .before .before .before .before .before .before .before .before .before .before .before .args .rows .now) (c .before .before .before .before .before .before .before .before .before .before .before .before .before .before .before .before .before .before .before .before .before .before .before .before .before .before .before .before .args .terms .now) (c .before .before .before .before .before .before .before .before .before .before .before .before .before .before .before .before .before .before .before .before .before .before .before .before .before .before .before .before .args .store .now) (c .before .before .before .before .before .before .before .before .before .before .before .before .before .before .before .before .before .before .before .before .before .before .before .before .before .before .before .before .args .st .now) (c .before .before .before .before .before .before .before .before .before .before .before .before .before .before .before .before .before .before .before .before .before .before .before .before .before .before .before .before .pre .0) (c .before .before .before .before .before .before .before .before .before .before .before .before .before .before .before .before .before .before .before .before .before .before .before .before .before .before .before .before .pre .1) (c .before .before .before .before .before .before .before .before .before .before .before .before .before .before .before .before .before .before .before .share-rest .result) (c .before .before .before .before .before .before .before .before .before .before .before .before .before .before .before .before .before .before .before .share-rest .last .0) (c .before .before .before .before .before .before .before .before .before .before .before .before .before .before .before .before .before .before .before .share-rest .last .1 .0) (c .before .before .before .before .before .before .before .before .before .before .before .before .before .before .before .before .before .before .before .share-rest .last .1 .1 .0) (c .before .before .before .before .before .before .before .before .before .before .before .before .before .before .before .before .before .before .before .share-rest .last .1 .1 .1 .0) (c .before .before .before .before .before .before .before .before .before .before .before .before .before .before .before .before .before .before .before .share-rest .ensures) (c .before .before .before .before .before .before .before .before .share-nil .result) (c .before .before .before .before .before .before .before .before .share-nil .last .0) (c .before .before .before .before .before .before .before .before .share-nil .last .1 .0) (c .before .before .before .before .before .before .before .before .share-nil .last .1 .1 .0) (c .before .before .before .before .before .before .before .before .share-nil .last .1 .1 .1 .0) (c .before .before .before .before .before .before .before .before .share-nil .ensures) 
+put-row-requires c κs = end-ready (c .before .before .before .before .before .before .before .before .before .before .before .before .before .before .before .before .before .before .before .before .before .before .before .before .before .before .before .before .args .spot) (c .before .before .before .before .before .before .before .before .before .before .before .before .before .before .before .before .before .before .before .before .before .before .before .before .before .before .before .before .args .work .now) (c .before .before .before .before .before .before .before .before .before .before .before .before .before .before .before .before .before .before .before .before .before .before .before .before .before .before .before .before .args .rows .now) (c .before .before .before .before .before .before .before .before .before .before .before .before .before .before .before .before .before .before .before .before .before .before .before .before .before .before .before .before .args .terms .now) (c .before .before .before .before .before .before .before .before .before .before .before .before .before .before .before .before .before .before .before .before .before .before .before .before .before .before .before .before .args .store .now) (c .before .before .before .before .before .before .before .before .before .before .before .before .before .before .before .before .before .before .before .before .before .before .before .before .before .before .before .before .args .st .now) (c .before .before .before .before .before .before .before .before .before .before .before .before .before .before .before .before .before .before .before .before .before .before .before .before .before .before .before .before .pre .0) (c .before .before .before .before .before .before .before .before .before .before .before .before .before .before .before .before .before .before .before .before .before .before .before .before .before .before .before .before .pre .1) (c .before .before .before .before .before .before .before .before .before .before .before .before .before .before .before .before .before .before .before .share-rest .result) (c .before .before .before .before .before .before .before .before .before .before .before .before .before .before .before .before .before .before .before .share-rest .last .0) (c .before .before .before .before .before .before .before .before .before .before .before .before .before .before .before .before .before .before .before .share-rest .last .1 .0) (c .before .before .before .before .before .before .before .before .before .before .before .before .before .before .before .before .before .before .before .share-rest .last .1 .1 .0) (c .before .before .before .before .before .before .before .before .before .before .before .before .before .before .before .before .before .before .before .share-rest .last .1 .1 .1 .0) (c .before .before .before .before .before .before .before .before .before .before .before .before .before .before .before .before .before .before .before .share-rest .ensures) (c .before .before .before .before .before .before .before .before .share-nil .result) (c .before .before .before .before .before .before .before .before .share-nil .last .0) (c .before .before .before .before .before .before .before .before .share-nil .last .1 .0) (c .before .before .before .before .before .before .before .before .share-nil .last .1 .1 .0) (c .before .before .before .before .before .before .before .before .share-nil .last .1 .1 .1 .0) (c .before .before .before .before .before .before .before .before .share-nil .ensures)
 
--- src/lib.rt:534:1
 same-length : tie.Need-same-length
 same-length c = search needs
 
--- src/lib.rt:534:1
 same-length-2 : tie.Need-same-length-2
 same-length-2 c = search needs
 
--- src/lib.rt:534:1
 same-length-3 : tie.Need-same-length-3
 same-length-3 c = search needs
 
--- src/lib.rt:534:1
 same-length-4 : tie.Need-same-length-4
 same-length-4 c = search needs
 
--- src/lib.rt:534:1
 returns : tie.Need-returns
 returns c = end-writes (c .before .before .before .before .before .before .before .before .before .before .before .before .before .before .before .before .before .before .before .before .before .before .before .before .before .before .before .before .before .before .before .args .spot) (c .before .before .before .before .before .before .before .before .before .before .before .before .before .before .before .before .before .before .before .before .before .before .before .before .before .before .before .before .before .before .before .args .work .now) (c .before .before .before .before .before .before .before .before .before .before .before .before .before .before .before .before .before .before .before .before .before .before .before .before .before .before .before .before .before .before .before .args .rows .now) (c .before .before .before .before .before .before .before .before .before .before .before .before .before .before .before .before .before .before .before .before .before .before .before .before .before .before .before .before .before .before .before .args .terms .now) (c .before .before .before .before .before .before .before .before .before .before .before .before .before .before .before .before .before .before .before .before .before .before .before .before .before .before .before .before .before .before .before .args .store .now) (c .before .before .before .before .before .before .before .before .before .before .before .before .before .before .before .before .before .before .before .before .before .before .before .before .before .before .before .before .before .before .before .args .st .now) (c .before .before .before .before .before .before .before .before .before .before .before .before .before .before .before .before .before .before .before .before .before .before .before .before .before .before .before .before .before .before .before .pre .0) (c .before .before .before .before .before .before .before .before .before .before .before .before .before .before .before .before .before .before .before .before .before .before .before .before .before .before .before .before .before .before .before .pre .1) (c .before .before .before .before .before .before .before .before .before .before .before .before .before .before .before .before .before .before .before .before .before .before .share-rest .result) (c .before .before .before .before .before .before .before .before .before .before .before .before .before .before .before .before .before .before .before .before .before .before .share-rest .last .0) (c .before .before .before .before .before .before .before .before .before .before .before .before .before .before .before .before .before .before .before .before .before .before .share-rest .last .1 .0) (c .before .before .before .before .before .before .before .before .before .before .before .before .before .before .before .before .before .before .before .before .before .before .share-rest .last .1 .1 .0) (c .before .before .before .before .before .before .before .before .before .before .before .before .before .before .before .before .before .before .before .before .before .before .share-rest .last .1 .1 .1 .0) (c .before .before .before .before .before .before .before .before .before .before .before .before .before .before .before .before .before .before .before .before .before .before .share-rest .ensures) (c .before .before .before .before .before .before .before .before .before .before .before .share-nil .result) (c .before .before .before .before .before .before .before .before .before .before .before .share-nil .last .0) (c .before .before .before .before .before .before .before .before .before .before .before .share-nil .last .1 .0) (c .before .before .before .before .before .before .before .before .before .before .before .share-nil .last .1 .1 .0) (c .before .before .before .before .before .before .before .before .before .before .before .share-nil .last .1 .1 .1 .0) (c .before .before .before .before .before .before .before .before .before .before .before .share-nil .ensures) _ _ (c .before .before .put-row .ensures)
 

@@ -1,58 +1,48 @@
+use Rattle.machine.specs.Frame.{no-cell, cells}
+use Rattle.machine.specs.Rules.{new-cell}
+use native.Mathlib.Omega.{arith}
+use Rattle.state.specs.Represents.{tables}
+use Rattle.state.specs.Writes.{place-of, cells-of}
+use Rattle.writes.proofs.Nodes.{ready-cells, writes-cells, cells-none, cells-some}
 use borrow.Author.Needs.{needs}
 use Rattle.writes.proofs.new_cell.Statement.{statement}
 use Rattle.writes.proofs.new_cell.Tie as tie
-use Rattle.writes.proofs.new_cell.Reads as reads
-use Rattle.writes.proofs.new_cell.Lts as lts
-use Rattle.writes.proofs.first_cell.Reads as first-cell-reads
-use Rattle.writes.proofs.later_cell.Reads as later-cell-reads
 
--- src/lib.rt:402:9
 first-cell-requires : tie.Need-first-cell-requires
-first-cell-requires c κs = ?
+first-cell-requires c κs = (ready-cells (λ cs. new-cell (place-of (c .before .before .before .before .before .before .before .before .before .before .args .spot .x) (c .before .before .before .before .before .before .before .before .before .before .args .spot .y)) (c .before .before .before .before .before .before .before .before .before .before .args .spot .opened) cs (c .before .before .before .before .before .before .before .before .before .before .args .spot .at)) (cells-of (c .before .before .before .before .before .before .before .before .before .before .args .spot .last)) no-cell (c .before .before .before .before .before .before .before .before .before .before .args .work .now) (tables (c .before .before .before .before .before .before .before .before .before .before .args .rows .now) (c .before .before .before .before .before .before .before .before .before .before .args .terms .now) (c .before .before .before .before .before .before .before .before .before .before .args .store .now)) (c .before .before .before .before .before .before .before .before .before .before .args .st .now) (cells-none (c .before .before .before .before .before .before .before .before .before .before .args .spot) (c .before .before .before .before .before .if1 .taken)) (c .before .before .before .before .before .before .before .before .before .before .pre .0), c .before .before .before .before .before .before .before .before .before .before .pre .1)
 
--- src/lib.rt:402:9
 same-length : tie.Need-same-length
 same-length c = search needs
 
--- src/lib.rt:402:9
 same-length-2 : tie.Need-same-length-2
 same-length-2 c = search needs
 
--- src/lib.rt:402:9
 same-length-3 : tie.Need-same-length-3
 same-length-3 c = search needs
 
--- src/lib.rt:402:9
 same-length-4 : tie.Need-same-length-4
 same-length-4 c = search needs
 
--- src/lib.rt:402:9
 returns : tie.Need-returns
-returns c = ?
+returns c = (c .before .before .before .before .before .before .before .before .first-cell .ensures .0, writes-cells (λ cs. new-cell (place-of (c .before .before .before .before .before .before .before .before .before .before .before .before .before .before .before .before .before .before .before .args .spot .x) (c .before .before .before .before .before .before .before .before .before .before .before .before .before .before .before .before .before .before .before .args .spot .y)) (c .before .before .before .before .before .before .before .before .before .before .before .before .before .before .before .before .before .before .before .args .spot .opened) cs (c .before .before .before .before .before .before .before .before .before .before .before .before .before .before .before .before .before .before .before .args .spot .at)) (cells-of (c .before .before .before .before .before .before .before .before .before .before .before .before .before .before .before .before .before .before .before .args .spot .last)) no-cell _ (c .before .before .before .before .before .before .before .before .before .before .before .before .before .before .before .before .before .before .before .args .work .now) _ (tables (c .before .before .before .before .before .before .before .before .before .before .before .before .before .before .before .before .before .before .before .args .rows .now) (c .before .before .before .before .before .before .before .before .before .before .before .before .before .before .before .before .before .before .before .args .terms .now) (c .before .before .before .before .before .before .before .before .before .before .before .before .before .before .before .before .before .before .before .args .store .now)) _ (c .before .before .before .before .before .before .before .before .before .before .before .before .before .before .before .before .before .before .before .args .st .now) _ (cells-none (c .before .before .before .before .before .before .before .before .before .before .before .before .before .before .before .before .before .before .before .args .spot) (c .before .before .before .before .before .before .before .before .before .before .before .before .before .before .if1 .taken)) (c .before .before .before .before .before .before .before .before .first-cell .ensures .1))
 
--- src/lib.rt:404:5
 later-cell-requires : tie.Need-later-cell-requires
-later-cell-requires c κs = ?
+later-cell-requires c κs = (ready-cells (λ cs. new-cell (place-of (c .before .before .before .before .before .before .before .before .before .before .args .spot .x) (c .before .before .before .before .before .before .before .before .before .before .args .spot .y)) (c .before .before .before .before .before .before .before .before .before .before .args .spot .opened) cs (c .before .before .before .before .before .before .before .before .before .before .args .spot .at)) (cells-of (c .before .before .before .before .before .before .before .before .before .before .args .spot .last)) (cells 0 (c .before .before .before .before .before .before .before .before .before .before .args .spot .last)) (c .before .before .before .before .before .before .before .before .before .before .args .work .now) (tables (c .before .before .before .before .before .before .before .before .before .before .args .rows .now) (c .before .before .before .before .before .before .before .before .before .before .args .terms .now) (c .before .before .before .before .before .before .before .before .before .before .args .store .now)) (c .before .before .before .before .before .before .before .before .before .before .args .st .now) (cells-some (c .before .before .before .before .before .before .before .before .before .before .args .spot) (omega (arith, c .before .before .before .before .before .if1 .left))) (c .before .before .before .before .before .before .before .before .before .before .pre .0), c .before .before .before .before .before .before .before .before .before .before .pre .1)
 
--- src/lib.rt:389:1
 same-length-5 : tie.Need-same-length-5
 same-length-5 c = search needs
 
--- src/lib.rt:389:1
 same-length-6 : tie.Need-same-length-6
 same-length-6 c = search needs
 
--- src/lib.rt:389:1
 same-length-7 : tie.Need-same-length-7
 same-length-7 c = search needs
 
--- src/lib.rt:389:1
 same-length-8 : tie.Need-same-length-8
 same-length-8 c = search needs
 
--- src/lib.rt:389:1
 returns-2 : tie.Need-returns-2
-returns-2 c = ?
+returns-2 c = (c .before .before .before .before .before .before .before .before .later-cell .ensures .0, writes-cells (λ cs. new-cell (place-of (c .before .before .before .before .before .before .before .before .before .before .before .before .before .before .before .before .before .before .before .args .spot .x) (c .before .before .before .before .before .before .before .before .before .before .before .before .before .before .before .before .before .before .before .args .spot .y)) (c .before .before .before .before .before .before .before .before .before .before .before .before .before .before .before .before .before .before .before .args .spot .opened) cs (c .before .before .before .before .before .before .before .before .before .before .before .before .before .before .before .before .before .before .before .args .spot .at)) (cells-of (c .before .before .before .before .before .before .before .before .before .before .before .before .before .before .before .before .before .before .before .args .spot .last)) (cells 0 (c .before .before .before .before .before .before .before .before .before .before .before .before .before .before .before .before .before .before .before .args .spot .last)) _ (c .before .before .before .before .before .before .before .before .before .before .before .before .before .before .before .before .before .before .before .args .work .now) _ (tables (c .before .before .before .before .before .before .before .before .before .before .before .before .before .before .before .before .before .before .before .args .rows .now) (c .before .before .before .before .before .before .before .before .before .before .before .before .before .before .before .before .before .before .before .args .terms .now) (c .before .before .before .before .before .before .before .before .before .before .before .before .before .before .before .before .before .before .before .args .store .now)) _ (c .before .before .before .before .before .before .before .before .before .before .before .before .before .before .before .before .before .before .before .args .st .now) _ (cells-some (c .before .before .before .before .before .before .before .before .before .before .before .before .before .before .before .before .before .before .before .args .spot) (omega (arith, c .before .before .before .before .before .before .before .before .before .before .before .before .before .before .if1 .left))) (c .before .before .before .before .before .before .before .before .later-cell .ensures .1))
 
 pub new-cell-spec : {M : Type 1} → statement M
 new-cell-spec =

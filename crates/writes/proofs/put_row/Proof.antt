@@ -4,39 +4,28 @@ use Rattle.writes.proofs.Rows.{room-for-row, row-small, row-writes}
 use borrow.Author.Needs.{needs}
 use Rattle.writes.proofs.put_row.Statement.{statement}
 use Rattle.writes.proofs.put_row.Tie as tie
-use Rattle.writes.proofs.put_row.Reads as reads
-use Rattle.writes.proofs.put_row.Lts as lts
-use Rattle.terms.proofs.add_row.Reads as add-row-reads
 
--- src/lib.rt:315:17
 element-copy-out-count : tie.Need-element-copy-out-count
 element-copy-out-count c = search needs
 
--- src/lib.rt:316:17
 element-copy-out-graph : tie.Need-element-copy-out-graph
 element-copy-out-graph c = search needs
 
--- src/lib.rt:318:33
 slice-aggregate-add-row : tie.Need-slice-aggregate-add-row
 slice-aggregate-add-row c = search needs
 
--- src/lib.rt:318:5
 add-row-requires : tie.Need-add-row-requires
 add-row-requires c κs = (room-for-row (c .before .before .before .before .before .args .s) (c .before .before .before .before .before .args .p) (c .before .before .before .before .before .args .o) (c .before .before .before .before .before .args .at) (c .before .before .before .before .before .args .rows .now) (c .before .before .before .before .before .args .st .now) (c .before .before .before .before .before .pre) .0, row-small (c .before .before .before .before .before .args .s) (c .before .before .before .before .before .args .p) (c .before .before .before .before .before .args .o) (c .before .before .before .before .before .args .at) (c .before .before .before .before .before .args .rows .now) (c .before .before .before .before .before .args .st .now) (c .before .before .before .before .before .pre))
 
--- src/lib.rt:319:23
 add-st : tie.Need-add-st
 add-st c = omega (arith, room-for-row (c .before .before .before .before .before .before .before .before .args .s) (c .before .before .before .before .before .before .before .before .args .p) (c .before .before .before .before .before .before .before .before .args .o) (c .before .before .before .before .before .before .before .before .args .at) (c .before .before .before .before .before .before .before .before .args .rows .now) (c .before .before .before .before .before .before .before .before .args .st .now) (c .before .before .before .before .before .before .before .before .pre) .1)
 
--- src/lib.rt:319:5
 element-write-st : tie.Need-element-write-st
 element-write-st c = search needs
 
--- src/lib.rt:304:1
 same-length : tie.Need-same-length
 same-length c = search needs
 
--- src/lib.rt:304:1
 returns : tie.Need-returns
 returns c = row-writes (c .before .before .before .before .before .before .before .before .args .s) (c .before .before .before .before .before .before .before .before .args .p) (c .before .before .before .before .before .before .before .before .args .o) (c .before .before .before .before .before .before .before .before .args .at) (c .before .before .before .before .before .before .before .before .args .rows .now) (c .before .before .before .before .before .before .before .before .args .st .now) (c .before .before .before .before .before .before .before .before .pre) _ _ (c .before .before .add-row .ensures) refl
 

@@ -2,22 +2,16 @@ use Rattle.writes.proofs.Sharing.{counts-set}
 use borrow.Author.Needs.{needs}
 use Rattle.writes.proofs.set_counts.Statement.{statement}
 use Rattle.writes.proofs.set_counts.Tie as tie
-use Rattle.writes.proofs.set_counts.Reads as reads
-use Rattle.writes.proofs.set_counts.Lts as lts
 
--- src/lib.rt:44:5
 element-write-st : tie.Need-element-write-st
 element-write-st c = search needs
 
--- src/lib.rt:45:5
 element-write-st-2 : tie.Need-element-write-st-2
 element-write-st-2 c = search needs
 
--- src/lib.rt:46:5
 element-write-st-3 : tie.Need-element-write-st-3
 element-write-st-3 c = search needs
 
--- src/lib.rt:41:1
 returns : tie.Need-returns
 returns c = counts-set (c .args .st .now) (c .args .c) (c .pre)
 

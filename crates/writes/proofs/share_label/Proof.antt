@@ -8,32 +8,23 @@ use Rattle.writes.proofs.Sharing.{share-ready, share-writes, label-aske
 use borrow.Author.Needs.{needs}
 use Rattle.writes.proofs.share_label.Statement.{statement}
 use Rattle.writes.proofs.share_label.Tie as tie
-use Rattle.writes.proofs.share_label.Reads as reads
-use Rattle.writes.proofs.share_label.Lts as lts
-use Rattle.writes.proofs.share.Reads as share-reads
 
--- src/lib.rt:168:9
 slice-aggregate-share : tie.Need-slice-aggregate-share
 slice-aggregate-share c = search needs
 
--- src/lib.rt:158:5
 share-requires : tie.Need-share-requires
 unfolding joined undo bad
 share-requires c κs = (share-ready blank-sort (c .before .before .before .before .before .before .before .before .before .args .text .now) [] (blank (label (c .before .before .before .before .before .before .before .before .before .args .text .now))) (label-asked (c .before .before .before .before .before .before .before .before .before .args .text .now) (c .before .before .before .before .before .before .before .before .before .pre .1)) (omega arith) (c .before .before .before .before .before .before .before .before .before .args .work .now) (c .before .before .before .before .before .before .before .before .before .args .terms .now) (c .before .before .before .before .before .before .before .before .before .args .store .now) (c .before .before .before .before .before .before .before .before .before .args .st .now) (c .before .before .before .before .before .before .before .before .before .pre .0), record { order = omega arith; front = omega arith; right = refl })
 
--- src/lib.rt:144:1
 same-length : tie.Need-same-length
 same-length c = search needs
 
--- src/lib.rt:144:1
 same-length-2 : tie.Need-same-length-2
 same-length-2 c = search needs
 
--- src/lib.rt:144:1
 same-length-3 : tie.Need-same-length-3
 same-length-3 c = search needs
 
--- src/lib.rt:144:1
 returns : tie.Need-returns
 unfolding joined undo
 returns c = share-writes blank-sort (c .before .before .before .before .before .before .before .before .before .before .before .before .before .before .before .before .args .text .now) [] (blank (label (c .before .before .before .before .before .before .before .before .before .before .before .before .before .before .before .before .args .text .now))) (label-asked (c .before .before .before .before .before .before .before .before .before .before .before .before .before .before .before .before .args .text .now) (c .before .before .before .before .before .before .before .before .before .before .before .before .before .before .before .before .pre .1)) (omega arith) _ (c .before .before .before .before .before .before .before .before .before .before .before .before .before .before .before .before .args .work .now) _ (c .before .before .before .before .before .before .before .before .before .before .before .before .before .before .before .before .args .terms .now) _ (c .before .before .before .before .before .before .before .before .before .before .before .before .before .before .before .before .args .store .now) _ (c .before .before .before .before .before .before .before .before .before .before .before .before .before .before .before .before .args .st .now) _ (c .before .before .before .before .before .before .share .ensures)

@@ -5,28 +5,20 @@ use Rattle.writes.proofs.Sharing.{share-ready, share-writes, tagged-sor
 use borrow.Author.Needs.{needs}
 use Rattle.writes.proofs.share_tagged.Statement.{statement}
 use Rattle.writes.proofs.share_tagged.Tie as tie
-use Rattle.writes.proofs.share_tagged.Reads as reads
-use Rattle.writes.proofs.share_tagged.Lts as lts
-use Rattle.writes.proofs.share.Reads as share-reads
 
--- src/lib.rt:189:5
 share-requires : tie.Need-share-requires
 unfolding joined
 share-requires c κs = (share-ready tagged-sort (undo (c .before .before .before .before .before .before .before .before .before .args .form) (c .before .before .before .before .before .before .before .before .before .args .text .now)) (c .before .before .before .before .before .before .before .before .before .args .tag .now) (tagged (undo (c .before .before .before .before .before .before .before .before .before .args .form) (c .before .before .before .before .before .before .before .before .before .args .text .now)) (c .before .before .before .before .before .before .before .before .before .args .tag .now)) (tagged-asked (undo (c .before .before .before .before .before .before .before .before .before .args .form) (c .before .before .before .before .before .before .before .before .before .args .text .now)) (c .before .before .before .before .before .before .before .before .before .args .tag .now)) (omega arith) (c .before .before .before .before .before .before .before .before .before .args .work .now) (c .before .before .before .before .before .before .before .before .before .args .terms .now) (c .before .before .before .before .before .before .before .before .before .args .store .now) (c .before .before .before .before .before .before .before .before .before .args .st .now) (c .before .before .before .before .before .before .before .before .before .pre .0), record { order = omega arith; front = omega arith; right = c .before .before .before .before .before .before .before .before .before .pre .1 })
 
--- src/lib.rt:173:1
 same-length : tie.Need-same-length
 same-length c = search needs
 
--- src/lib.rt:173:1
 same-length-2 : tie.Need-same-length-2
 same-length-2 c = search needs
 
--- src/lib.rt:173:1
 same-length-3 : tie.Need-same-length-3
 same-length-3 c = search needs
 
--- src/lib.rt:173:1
 returns : tie.Need-returns
 unfolding joined
 returns c = share-writes tagged-sort (undo (c .before .before .before .before .before .before .before .before .before .before .before .before .before .before .before .before .args .form) (c .before .before .before .before .before .before .before .before .before .before .before .before .before .before .before .before .args .text .now)) (c .before .before .before .before .before .before .before .before .before .before .before .before .before .before .before .before .args .tag .now) (tagged (undo (c .before .before .before .before .before .before .before .before .before .before .before .before .before .before .before .before .args .form) (c .before .before .before .before .before .before .before .before .before .before .before .before .before .before .before .before .args .text .now)) (c .before .before .before .before .before .before .before .before .before .before .before .before .before .before .before .before .args .tag .now)) (tagged-asked (undo (c .before .before .before .before .before .before .before .before .before .before .before .before .before .before .before .before .args .form) (c .before .before .before .before .before .before .before .before .before .before .before .before .before .before .before .before .args .text .now)) (c .before .before .before .before .before .before .before .before .before .before .before .before .before .before .before .before .args .tag .now)) (omega arith) _ (c .before .before .before .before .before .before .before .before .before .before .before .before .before .before .before .before .args .work .now) _ (c .before .before .before .before .before .before .before .before .before .before .before .before .before .before .before .before .args .terms .now) _ (c .before .before .before .before .before .before .before .before .before .before .before .before .before .before .before .before .args .store .now) _ (c .before .before .before .before .before .before .before .before .before .before .before .before .before .before .before .before .args .st .now) _ (c .before .before .before .before .before .before .share .ensures)
