@@ -50,7 +50,7 @@ pub record Adds {A : Type 0} (k : ℕ) (w : Write A) : Type 0 where
   pub few : (m : Memory) → length (w m .1 .rows) ≤ k + length (m .rows)
   pub same : (m : Memory) → w m .1 .environment ≡ m .environment
 
-adds-new-term : (t : Term) → Adds 0 (new-term t)
+pub adds-new-term : (t : Term) → Adds 0 (new-term t)
 adds-new-term t =
     record {
       extends = λ m. record { new-rows = []; rows = sym (append-nil (m .rows)); new-terms = t ∷ []; terms = refl };
@@ -58,7 +58,7 @@ adds-new-term t =
       same = λ m. refl;
     }
 
-adds-term : (t : Term) → Adds 0 (term t)
+pub adds-term : (t : Term) → Adds 0 (term t)
 adds-term t =
     record { extends = λ m. extends m (number t (m .terms)); few = λ m. few m (number t (m .terms)); same = λ m. same-environment m (number t (m .terms)) }
   where
@@ -74,7 +74,7 @@ adds-term t =
     same-environment m none = refl
     same-environment m (some n) = refl
 
-adds-row : (s p o at : ℕ) → Adds 1 (row s p o at)
+pub adds-row : (s p o at : ℕ) → Adds 1 (row s p o at)
 adds-row s p o at =
     record {
       extends =
