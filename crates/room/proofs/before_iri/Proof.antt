@@ -1,0 +1,25 @@
+use borrow.Author.Needs.{needs}
+use Rattle.room.proofs.before_iri.Statement.{statement}
+use Rattle.room.proofs.before_iri.Tie as tie
+use Rattle.room.proofs.before_iri.Reads as reads
+use Rattle.room.proofs.before_iri.Lts as lts
+use Rattle.room.proofs.place_iri.Reads as place-iri-reads
+
+-- src/lib.rt:452:13
+place-iri-requires : tie.Need-place-iri-requires
+place-iri-requires c κs = search needs
+
+-- src/lib.rt:452:13
+returns : tie.Need-returns
+returns c = ?
+
+-- src/lib.rt:454:9
+returns-2 : tie.Need-returns-2
+returns-2 c = ?
+
+-- src/lib.rt:445:1
+returns-3 : tie.Need-returns-3
+returns-3 c = ?
+
+pub before-iri-spec : {M : Type 1} → statement M
+before-iri-spec = tie.close (tie.spec place-iri-requires returns returns-2 returns-3)

@@ -1,0 +1,21 @@
+use borrow.Author.Needs.{needs}
+use Rattle.room.proofs.behind_rows.Statement.{statement}
+use Rattle.room.proofs.behind_rows.Tie as tie
+use Rattle.room.proofs.behind_rows.Reads as reads
+use Rattle.room.proofs.behind_rows.Lts as lts
+use Rattle.room.proofs.place_rows.Reads as place-rows-reads
+
+-- src/lib.rt:495:9
+returns : tie.Need-returns
+returns c = ?
+
+-- src/lib.rt:497:5
+place-rows-requires : tie.Need-place-rows-requires
+place-rows-requires c κs = search needs
+
+-- src/lib.rt:490:1
+returns-2 : tie.Need-returns-2
+returns-2 c = ?
+
+pub behind-rows-spec : {M : Type 1} → statement M
+behind-rows-spec = tie.close (tie.spec returns place-rows-requires returns-2)

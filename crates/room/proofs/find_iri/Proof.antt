@@ -1,0 +1,42 @@
+use borrow.Author.Needs.{needs}
+use Rattle.room.proofs.find_iri.Statement.{statement}
+use Rattle.room.proofs.find_iri.Tie as tie
+use Rattle.room.proofs.find_iri.Reads as reads
+use Rattle.room.proofs.find_iri.Lts as lts
+use Rattle.form.proofs.hash_joined.Reads as hash-joined-reads
+use Rattle.index.proofs.find_name.Reads as find-name-reads
+
+-- src/lib.rt:64:33
+sub-hash-joined : tie.Need-sub-hash-joined
+sub-hash-joined c = search needs
+
+-- src/lib.rt:64:33
+part-hash-joined-start : tie.Need-part-hash-joined-start
+part-hash-joined-start c = search needs
+
+-- src/lib.rt:64:33
+part-hash-joined-end : tie.Need-part-hash-joined-end
+part-hash-joined-end c = search needs
+
+-- src/lib.rt:64:9
+hash-joined-requires : tie.Need-hash-joined-requires
+hash-joined-requires c κs = search needs
+
+-- src/lib.rt:65:5
+find-name-requires : tie.Need-find-name-requires
+find-name-requires c κs = ?
+
+-- src/lib.rt:51:1
+returns : tie.Need-returns
+returns c = ?
+
+pub find-iri-spec : {M : Type 1} → statement M
+find-iri-spec =
+    tie.close
+    (tie.spec
+    sub-hash-joined
+    part-hash-joined-start
+    part-hash-joined-end
+    hash-joined-requires
+    find-name-requires
+    returns)

@@ -1,0 +1,37 @@
+use borrow.Author.Needs.{needs}
+use Rattle.room.proofs.find_supplied.Statement.{statement}
+use Rattle.room.proofs.find_supplied.Tie as tie
+use Rattle.room.proofs.find_supplied.Reads as reads
+use Rattle.room.proofs.find_supplied.Lts as lts
+use Rattle.room.proofs.find_first.Reads as find-first-reads
+use Rattle.room.proofs.find_nil.Reads as find-nil-reads
+use Rattle.room.proofs.find_rest.Reads as find-rest-reads
+
+-- src/lib.rt:122:9
+find-first-requires : tie.Need-find-first-requires
+find-first-requires c κs = search needs
+
+-- src/lib.rt:122:9
+returns : tie.Need-returns
+returns c = ?
+
+-- src/lib.rt:125:9
+find-rest-requires : tie.Need-find-rest-requires
+find-rest-requires c κs = search needs
+
+-- src/lib.rt:125:9
+returns-2 : tie.Need-returns-2
+returns-2 c = ?
+
+-- src/lib.rt:127:5
+find-nil-requires : tie.Need-find-nil-requires
+find-nil-requires c κs = search needs
+
+-- src/lib.rt:117:1
+returns-3 : tie.Need-returns-3
+returns-3 c = ?
+
+pub find-supplied-spec : {M : Type 1} → statement M
+find-supplied-spec =
+    tie.close
+    (tie.spec find-first-requires returns find-rest-requires returns-2 find-nil-requires returns-3)

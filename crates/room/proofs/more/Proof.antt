@@ -1,0 +1,24 @@
+use borrow.Author.Needs.{needs}
+use Rattle.room.proofs.more.Statement.{statement}
+use Rattle.room.proofs.more.Tie as tie
+use Rattle.room.proofs.more.Reads as reads
+use Rattle.room.proofs.more.Lts as lts
+
+-- src/lib.rt:41:20
+add-t5 : tie.Need-add-t5
+add-t5 c = search needs
+
+-- src/lib.rt:42:20
+add-t6 : tie.Need-add-t6
+add-t6 c = search needs
+
+-- src/lib.rt:40:9
+returns : tie.Need-returns
+returns c = ?
+
+-- src/lib.rt:35:1
+returns-2 : tie.Need-returns-2
+returns-2 c = ?
+
+pub more-spec : {M : Type 1} → statement M
+more-spec = tie.close (tie.spec add-t5 add-t6 returns returns-2)

@@ -1,0 +1,20 @@
+use borrow.Author.Needs.{needs}
+use Rattle.room.proofs.place_iri.Statement.{statement}
+use Rattle.room.proofs.place_iri.Tie as tie
+use Rattle.room.proofs.place_iri.Reads as reads
+use Rattle.room.proofs.place_iri.Lts as lts
+
+-- src/lib.rt:427:9
+returns : tie.Need-returns
+returns c = search needs
+
+-- src/lib.rt:430:9
+returns-2 : tie.Need-returns-2
+returns-2 c = ?
+
+-- src/lib.rt:423:1
+returns-3 : tie.Need-returns-3
+returns-3 c = ?
+
+pub place-iri-spec : {M : Type 1} → statement M
+place-iri-spec = tie.close (tie.spec returns returns-2 returns-3)

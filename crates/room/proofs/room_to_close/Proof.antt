@@ -1,0 +1,72 @@
+use borrow.Author.Needs.{needs}
+use Rattle.room.proofs.room_to_close.Statement.{statement}
+use Rattle.room.proofs.room_to_close.Tie as tie
+use Rattle.room.proofs.room_to_close.Reads as reads
+use Rattle.room.proofs.room_to_close.Lts as lts
+use Rattle.room.proofs.at_least.Reads as at-least-reads
+use Rattle.room.proofs.close_rows.Reads as close-rows-reads
+use Rattle.room.proofs.counts_in.Reads as counts-in-reads
+use Rattle.room.proofs.refusal.Reads as refusal-reads
+use Rattle.room.proofs.rows_in.Reads as rows-in-reads
+use Rattle.room.proofs.tally_close.Reads as tally-close-reads
+use Rattle.room.proofs.tally_in.Reads as tally-in-reads
+
+-- src/lib.rt:685:17
+rows-in-requires : tie.Need-rows-in-requires
+rows-in-requires c κs = search needs
+
+-- src/lib.rt:685:31
+close-rows-requires : tie.Need-close-rows-requires
+close-rows-requires c κs = search needs
+
+-- src/lib.rt:685:17
+add-count : tie.Need-add-count
+add-count c = ?
+
+-- src/lib.rt:686:9
+tally-in-requires : tie.Need-tally-in-requires
+tally-in-requires c κs = search needs
+
+-- src/lib.rt:687:9
+at-least-requires : tie.Need-at-least-requires
+at-least-requires c κs = ?
+
+-- src/lib.rt:688:8
+refusal-requires : tie.Need-refusal-requires
+refusal-requires c κs = search needs
+
+-- src/lib.rt:689:9
+returns : tie.Need-returns
+returns c = ?
+
+-- src/lib.rt:691:49
+counts-in-requires : tie.Need-counts-in-requires
+counts-in-requires c κs = search needs
+
+-- src/lib.rt:691:9
+tally-close-requires : tie.Need-tally-close-requires
+tally-close-requires c κs = ?
+
+-- src/lib.rt:692:5
+refusal-requires-2 : tie.Need-refusal-requires-2
+refusal-requires-2 c κs = search needs
+
+-- src/lib.rt:674:1
+returns-2 : tie.Need-returns-2
+returns-2 c = ?
+
+pub room-to-close-spec : {M : Type 1} → statement M
+room-to-close-spec =
+    tie.close
+    (tie.spec
+    rows-in-requires
+    close-rows-requires
+    add-count
+    tally-in-requires
+    at-least-requires
+    refusal-requires
+    returns
+    counts-in-requires
+    tally-close-requires
+    refusal-requires-2
+    returns-2)

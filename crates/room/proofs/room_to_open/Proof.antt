@@ -1,0 +1,72 @@
+use borrow.Author.Needs.{needs}
+use Rattle.room.proofs.room_to_open.Statement.{statement}
+use Rattle.room.proofs.room_to_open.Tie as tie
+use Rattle.room.proofs.room_to_open.Reads as reads
+use Rattle.room.proofs.room_to_open.Lts as lts
+use Rattle.room.proofs.at_least.Reads as at-least-reads
+use Rattle.room.proofs.before_rows.Reads as before-rows-reads
+use Rattle.room.proofs.counts_in.Reads as counts-in-reads
+use Rattle.room.proofs.refusal.Reads as refusal-reads
+use Rattle.room.proofs.rows_in.Reads as rows-in-reads
+use Rattle.room.proofs.tally_before.Reads as tally-before-reads
+use Rattle.room.proofs.tally_in.Reads as tally-in-reads
+
+-- src/lib.rt:663:17
+rows-in-requires : tie.Need-rows-in-requires
+rows-in-requires c κs = search needs
+
+-- src/lib.rt:663:31
+before-rows-requires : tie.Need-before-rows-requires
+before-rows-requires c κs = search needs
+
+-- src/lib.rt:663:17
+add-count : tie.Need-add-count
+add-count c = ?
+
+-- src/lib.rt:664:9
+tally-in-requires : tie.Need-tally-in-requires
+tally-in-requires c κs = search needs
+
+-- src/lib.rt:665:9
+at-least-requires : tie.Need-at-least-requires
+at-least-requires c κs = ?
+
+-- src/lib.rt:666:8
+refusal-requires : tie.Need-refusal-requires
+refusal-requires c κs = search needs
+
+-- src/lib.rt:667:9
+returns : tie.Need-returns
+returns c = ?
+
+-- src/lib.rt:669:50
+counts-in-requires : tie.Need-counts-in-requires
+counts-in-requires c κs = search needs
+
+-- src/lib.rt:669:9
+tally-before-requires : tie.Need-tally-before-requires
+tally-before-requires c κs = ?
+
+-- src/lib.rt:670:5
+refusal-requires-2 : tie.Need-refusal-requires-2
+refusal-requires-2 c κs = search needs
+
+-- src/lib.rt:652:1
+returns-2 : tie.Need-returns-2
+returns-2 c = ?
+
+pub room-to-open-spec : {M : Type 1} → statement M
+room-to-open-spec =
+    tie.close
+    (tie.spec
+    rows-in-requires
+    before-rows-requires
+    add-count
+    tally-in-requires
+    at-least-requires
+    refusal-requires
+    returns
+    counts-in-requires
+    tally-before-requires
+    refusal-requires-2
+    returns-2)

@@ -1,0 +1,54 @@
+use borrow.Author.Needs.{needs}
+use Rattle.room.proofs.tally_iri.Statement.{statement}
+use Rattle.room.proofs.tally_iri.Tie as tie
+use Rattle.room.proofs.tally_iri.Reads as reads
+use Rattle.room.proofs.tally_iri.Lts as lts
+use Rattle.form.proofs.undone_length.Reads as undone-length-reads
+use Rattle.room.proofs.find_iri.Reads as find-iri-reads
+use Rattle.room.proofs.is_supplied.Reads as is-supplied-reads
+use Rattle.room.proofs.more.Reads as more-reads
+
+-- src/lib.rt:251:8
+is-supplied-requires : tie.Need-is-supplied-requires
+is-supplied-requires c κs = search needs
+
+-- src/lib.rt:252:9
+returns : tie.Need-returns
+returns c = ?
+
+-- src/lib.rt:257:9
+find-iri-requires : tie.Need-find-iri-requires
+find-iri-requires c κs = search needs
+
+-- src/lib.rt:258:16
+sub-more : tie.Need-sub-more
+sub-more c = search needs
+
+-- src/lib.rt:258:30
+undone-length-requires : tie.Need-undone-length-requires
+undone-length-requires c κs = search needs
+
+-- src/lib.rt:258:16
+add-more : tie.Need-add-more
+add-more c = ?
+
+-- src/lib.rt:258:5
+more-requires : tie.Need-more-requires
+more-requires c κs = ?
+
+-- src/lib.rt:238:1
+returns-2 : tie.Need-returns-2
+returns-2 c = ?
+
+pub tally-iri-spec : {M : Type 1} → statement M
+tally-iri-spec =
+    tie.close
+    (tie.spec
+    is-supplied-requires
+    returns
+    find-iri-requires
+    sub-more
+    undone-length-requires
+    add-more
+    more-requires
+    returns-2)

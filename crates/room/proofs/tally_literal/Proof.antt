@@ -1,0 +1,38 @@
+use borrow.Author.Needs.{needs}
+use Rattle.room.proofs.tally_literal.Statement.{statement}
+use Rattle.room.proofs.tally_literal.Tie as tie
+use Rattle.room.proofs.tally_literal.Reads as reads
+use Rattle.room.proofs.tally_literal.Lts as lts
+use Rattle.form.proofs.undone_length.Reads as undone-length-reads
+use Rattle.room.proofs.find_text.Reads as find-text-reads
+use Rattle.room.proofs.more.Reads as more-reads
+
+-- src/lib.rt:317:69
+slice-aggregate-find-text : tie.Need-slice-aggregate-find-text
+slice-aggregate-find-text c = search needs
+
+-- src/lib.rt:317:9
+find-text-requires : tie.Need-find-text-requires
+find-text-requires c κs = search needs
+
+-- src/lib.rt:318:16
+undone-length-requires : tie.Need-undone-length-requires
+undone-length-requires c κs = search needs
+
+-- src/lib.rt:318:5
+more-requires : tie.Need-more-requires
+more-requires c κs = search needs
+
+-- src/lib.rt:300:1
+returns : tie.Need-returns
+returns c = ?
+
+pub tally-literal-spec : {M : Type 1} → statement M
+tally-literal-spec =
+    tie.close
+    (tie.spec
+    slice-aggregate-find-text
+    find-text-requires
+    undone-length-requires
+    more-requires
+    returns)

@@ -1,0 +1,32 @@
+use borrow.Author.Needs.{needs}
+use Rattle.room.proofs.tally_tagged.Statement.{statement}
+use Rattle.room.proofs.tally_tagged.Tie as tie
+use Rattle.room.proofs.tally_tagged.Reads as reads
+use Rattle.room.proofs.tally_tagged.Lts as lts
+use Rattle.form.proofs.undone_length.Reads as undone-length-reads
+use Rattle.room.proofs.find_text.Reads as find-text-reads
+use Rattle.room.proofs.more.Reads as more-reads
+
+-- src/lib.rt:297:9
+find-text-requires : tie.Need-find-text-requires
+find-text-requires c κs = search needs
+
+-- src/lib.rt:298:16
+undone-length-requires : tie.Need-undone-length-requires
+undone-length-requires c κs = search needs
+
+-- src/lib.rt:298:16
+add-more : tie.Need-add-more
+add-more c = search needs
+
+-- src/lib.rt:298:5
+more-requires : tie.Need-more-requires
+more-requires c κs = search needs
+
+-- src/lib.rt:280:1
+returns : tie.Need-returns
+returns c = ?
+
+pub tally-tagged-spec : {M : Type 1} → statement M
+tally-tagged-spec =
+    tie.close (tie.spec find-text-requires undone-length-requires add-more more-requires returns)
