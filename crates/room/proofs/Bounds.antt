@@ -1,5 +1,5 @@
 -- How much a token asks for at most.
-use mathlib.Core.Path.{_≡_, refl}
+use mathlib.Core.Path.{_≡_, refl, ap}
 use mathlib.Core.List.{List, [], _∷_, _++_}
 use mathlib.Core.Bool.{Bool, true, false}
 use Prim.Native.Nat.{ℕ, _+_, _≤_}
@@ -19,7 +19,7 @@ use Rattle.state.specs.declared.Node.{Node}
 use Rattle.state.specs.Writes.{cells-of, node-iri}
 use Rattle.room.specs.declared.Tally.{Tally}
 use Rattle.room.specs.Asks.{supplied, cell-iri, end-iri, last-iri, spot-place, before-iri, behind-iri}
-use Rattle.room.specs.Counting.{tally, more, count-term, count-supply, is-supplied, count-iri, count-node, asks-first, count-behind, count-before, count-place, count-close}
+use Rattle.room.specs.Counting.{tally, more, count-term, count-supply, is-supplied, count-iri, count-node, asks-first, count-behind, count-before, count-place, count-close, Small}
 
 -- At most k terms and b bytes more.
 pub record Within (c d : Tally) (k b : ℕ) : Type 0 where
@@ -39,7 +39,13 @@ within-cond : (b : Bool) (c x y : Tally) (k a : ℕ) → Within c x k a → With
 within-cond true c x y k a X Y = X
 within-cond false c x y k a X Y = Y
 
-more-within : (c : Tally) (n size : ℕ) → Within c (more c n size) 1 size
+pub small-within : (c d r : Tally) (a k b e : ℕ) → Small c a → Within c d k b → r ≡ d → a + k ≤ e → a + b ≤ e → Small r e
+small-within c d r a k b e S W q h g = record {
+  terms = omega (arith, S .terms, W .terms, ap (λ (x : Tally). x .terms) q);
+  bytes = omega (arith, S .bytes, W .bytes, ap (λ (x : Tally). x .bytes) q);
+}
+
+pub more-within : (c : Tally) (n size : ℕ) → Within c (more c n size) 1 size
 unfolding more
 more-within c n size = within-cond (eqb n 0) c (tally (c .terms + 1) (c .bytes + size)) c 1 size (record { terms = omega arith; bytes = omega arith }) (within-none c 1 size)
 

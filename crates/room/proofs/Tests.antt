@@ -14,6 +14,7 @@ use Rattle.form.proofs.Forms.{joined-length}
 use Rattle.dataset.specs.Terms.{Term, iri, blank, literal, tagged, label}
 use Rattle.table.specs.Tables.{number, or-zero, term-bytes}
 use Rattle.terms.specs.declared.Counts.{Counts}
+use Rattle.terms.specs.Keeps.{findable}
 use Rattle.machine.specs.Read.{counted as at-most}
 use Rattle.machine.specs.Step.{Room}
 use Rattle.state.specs.declared.Spot.{Spot}
@@ -181,6 +182,10 @@ pub some-iri : (ts : List Term) (p : ℕ) (x : Text) (c r : Tally) (b : Bool) (n
     → size ≡ length x → r ≡ count-iri ts p x c
 unfolding count-iri
 some-iri ts p x c r b n size e h k l m = one-counted ts (iri x) c r n size k l (m ∙ sym (iri-bytes x)) ∙ rw (sym e ∙ h)
+
+pub label-findable : (s : Text) → 0 < length s → findable (blank (label s)) ≡ true
+label-findable [] h = absurd (omega arith)
+label-findable (b ∷ s) h = refl
 
 -- The length of the node's IRI.
 pub name-length : (n : Node) (work back : Text) (u : ℕ) → Named n work back → u ≡ length (undo (n .form) back) → n .end - n .start + u ≡ length (node-iri n work back)

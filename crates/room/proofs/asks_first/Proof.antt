@@ -1,3 +1,6 @@
+use Rattle.room.proofs.Tests.{first-none}
+use Rattle.room.proofs.Tests.{first-type}
+use Rattle.room.proofs.Tests.{first-iri}
 use borrow.Author.Needs.{needs}
 use Rattle.room.proofs.asks_first.Statement.{statement}
 use Rattle.room.proofs.asks_first.Tie as tie
@@ -11,7 +14,7 @@ is-first-requires c κs = search needs
 
 -- src/lib.rt:386:9
 returns : tie.Need-returns
-returns c = ?
+returns c = search first-iri
 
 -- src/lib.rt:389:9
 is-first-requires-2 : tie.Need-is-first-requires-2
@@ -19,11 +22,11 @@ is-first-requires-2 c κs = search needs
 
 -- src/lib.rt:389:9
 returns-2 : tie.Need-returns-2
-returns-2 c = ?
+returns-2 c = search first-type
 
 -- src/lib.rt:380:1
 returns-3 : tie.Need-returns-3
-returns-3 c = ?
+returns-3 c = search first-none
 
 pub asks-first-spec : {M : Type 1} → statement M
 asks-first-spec =

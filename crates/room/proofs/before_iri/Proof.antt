@@ -1,3 +1,6 @@
+use Rattle.room.proofs.Tests.{before-iri-none}
+use Rattle.room.proofs.Tests.{before-iri-later}
+use Rattle.room.proofs.Tests.{before-iri-first}
 use borrow.Author.Needs.{needs}
 use Rattle.room.proofs.before_iri.Statement.{statement}
 use Rattle.room.proofs.before_iri.Tie as tie
@@ -11,15 +14,15 @@ place-iri-requires c κs = search needs
 
 -- src/lib.rt:452:13
 returns : tie.Need-returns
-returns c = ?
+returns c = search before-iri-first
 
 -- src/lib.rt:454:9
 returns-2 : tie.Need-returns-2
-returns-2 c = ?
+returns-2 c = search before-iri-later
 
 -- src/lib.rt:445:1
 returns-3 : tie.Need-returns-3
-returns-3 c = ?
+returns-3 c = search before-iri-none
 
 pub before-iri-spec : {M : Type 1} → statement M
 before-iri-spec = tie.close (tie.spec place-iri-requires returns returns-2 returns-3)

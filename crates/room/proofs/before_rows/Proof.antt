@@ -1,3 +1,5 @@
+use Rattle.room.proofs.Tests.{before-rows-none}
+use Rattle.room.proofs.Tests.{before-rows-list}
 use borrow.Author.Needs.{needs}
 use Rattle.room.proofs.before_rows.Statement.{statement}
 use Rattle.room.proofs.before_rows.Tie as tie
@@ -11,11 +13,11 @@ close-rows-requires c κs = search needs
 
 -- src/lib.rt:474:9
 returns : tie.Need-returns
-returns c = ?
+returns c = search before-rows-list
 
 -- src/lib.rt:469:1
 returns-2 : tie.Need-returns-2
-returns-2 c = ?
+returns-2 c = search before-rows-none
 
 pub before-rows-spec : {M : Type 1} → statement M
 before-rows-spec = tie.close (tie.spec close-rows-requires returns returns-2)

@@ -1,3 +1,5 @@
+use Rattle.room.proofs.Tests.{behind-rows-none}
+use Rattle.room.proofs.Tests.{behind-rows-list}
 use borrow.Author.Needs.{needs}
 use Rattle.room.proofs.behind_rows.Statement.{statement}
 use Rattle.room.proofs.behind_rows.Tie as tie
@@ -7,7 +9,7 @@ use Rattle.room.proofs.place_rows.Reads as place-rows-reads
 
 -- src/lib.rt:495:9
 returns : tie.Need-returns
-returns c = ?
+returns c = search behind-rows-list
 
 -- src/lib.rt:497:5
 place-rows-requires : tie.Need-place-rows-requires
@@ -15,7 +17,7 @@ place-rows-requires c κs = search needs
 
 -- src/lib.rt:490:1
 returns-2 : tie.Need-returns-2
-returns-2 c = ?
+returns-2 c = search behind-rows-none
 
 pub behind-rows-spec : {M : Type 1} → statement M
 behind-rows-spec = tie.close (tie.spec returns place-rows-requires returns-2)

@@ -1,3 +1,5 @@
+use Rattle.room.proofs.Tests.{close-later}
+use Rattle.room.proofs.Tests.{close-first}
 use borrow.Author.Needs.{needs}
 use Rattle.room.proofs.close_rows.Statement.{statement}
 use Rattle.room.proofs.close_rows.Tie as tie
@@ -11,11 +13,11 @@ place-rows-requires c κs = search needs
 
 -- src/lib.rt:464:9
 returns : tie.Need-returns
-returns c = ?
+returns c = search close-first
 
 -- src/lib.rt:459:1
 returns-2 : tie.Need-returns-2
-returns-2 c = ?
+returns-2 c = search close-later
 
 pub close-rows-spec : {M : Type 1} → statement M
 close-rows-spec = tie.close (tie.spec place-rows-requires returns returns-2)

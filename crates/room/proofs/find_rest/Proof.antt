@@ -1,3 +1,5 @@
+use Rattle.form.specs.Form.{undo, joined}
+use Rattle.room.specs.Asks.{supplied}
 use borrow.Author.Needs.{needs}
 use Rattle.room.proofs.find_rest.Statement.{statement}
 use Rattle.room.proofs.find_rest.Tie as tie
@@ -15,7 +17,8 @@ find-iri-requires c κs = search needs
 
 -- src/lib.rt:84:1
 returns : tie.Need-returns
-returns c = ?
+unfolding supplied joined undo
+returns c = c .find-iri .ensures
 
 pub find-rest-spec : {M : Type 1} → statement M
 find-rest-spec = tie.close (tie.spec slice-aggregate-find-iri find-iri-requires returns)

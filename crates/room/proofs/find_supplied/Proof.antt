@@ -1,3 +1,6 @@
+use mathlib.Core.Path.{ap}
+use Rattle.room.specs.Asks.{supplied}
+use Rattle.room.proofs.Tests.{numbers-as, supplied-first, supplied-nil}
 use borrow.Author.Needs.{needs}
 use Rattle.room.proofs.find_supplied.Statement.{statement}
 use Rattle.room.proofs.find_supplied.Tie as tie
@@ -13,7 +16,7 @@ find-first-requires c κs = search needs
 
 -- src/lib.rt:122:9
 returns : tie.Need-returns
-returns c = ?
+returns c = numbers-as (c .before .before .before .before .before .args .work .now) (c .before .before .before .before .before .args .terms .now) (c .before .before .before .before .before .args .store .now) (c .before .before .before .before .before .args .counts) (supplied (c .before .before .before .before .before .args .p)) (supplied 1) (c .find-first .result) (supplied-first (c .before .before .before .before .before .args .p) (c .before .if1 .taken)) (c .find-first .ensures)
 
 -- src/lib.rt:125:9
 find-rest-requires : tie.Need-find-rest-requires
@@ -21,7 +24,7 @@ find-rest-requires c κs = search needs
 
 -- src/lib.rt:125:9
 returns-2 : tie.Need-returns-2
-returns-2 c = ?
+returns-2 c = numbers-as (c .before .before .before .before .before .before .args .work .now) (c .before .before .before .before .before .before .args .terms .now) (c .before .before .before .before .before .before .args .store .now) (c .before .before .before .before .before .before .args .counts) (supplied (c .before .before .before .before .before .before .args .p)) (supplied 2) (c .find-rest .result) (ap supplied (c .before .if2 .taken)) (c .find-rest .ensures)
 
 -- src/lib.rt:127:5
 find-nil-requires : tie.Need-find-nil-requires
@@ -29,7 +32,7 @@ find-nil-requires c κs = search needs
 
 -- src/lib.rt:117:1
 returns-3 : tie.Need-returns-3
-returns-3 c = ?
+returns-3 c = numbers-as (c .before .before .before .before .before .before .args .work .now) (c .before .before .before .before .before .before .args .terms .now) (c .before .before .before .before .before .before .args .store .now) (c .before .before .before .before .before .before .args .counts) (supplied (c .before .before .before .before .before .before .args .p)) (supplied 3) (c .find-nil .result) (supplied-nil (c .before .before .before .before .before .before .args .p) (c .before .before .if1 .left) (c .before .if2 .left)) (c .find-nil .ensures)
 
 pub find-supplied-spec : {M : Type 1} → statement M
 find-supplied-spec =

@@ -1,3 +1,6 @@
+use Rattle.form.specs.Form.{joined}
+use Rattle.limits.specs.Limits.{work-size}
+use Rattle.index.proofs.Indexes.{searchable, end-part}
 use borrow.Author.Needs.{needs}
 use Rattle.room.proofs.find_text.Statement.{statement}
 use Rattle.room.proofs.find_text.Tie as tie
@@ -37,11 +40,12 @@ slice-aggregate-find c = search needs
 
 -- src/lib.rt:203:5
 find-requires : tie.Need-find-requires
-find-requires c κs = ?
+find-requires c κs = (rw (end-part (c .before .before .before .before .work-size .result) work-size (c .before .before .before .before .before .before .before .before .before .before .args .work .now) (c .before .before .before .before .work-size .ensures)) (searchable (c .before .before .before .before .before .before .before .before .before .before .pre .1 .0) _ _ _ _ (c .before .before .before .before .before .before .before .before .before .before .pre .1 .1)), c .before .before .hash-joined .ensures .0)
 
 -- src/lib.rt:188:1
 returns : tie.Need-returns
-returns c = ?
+unfolding joined
+returns c = λ ts t H M f. c .find .ensures ts t (rw (end-part (c .before .before .before .before .before .work-size .result) work-size (c .before .before .before .before .before .before .before .before .before .before .before .args .work .now) (c .before .before .before .before .before .work-size .ensures)) H) M f
 
 pub find-text-spec : {M : Type 1} → statement M
 find-text-spec =

@@ -1,3 +1,6 @@
+use Rattle.room.proofs.Tests.{is-other}
+use Rattle.room.proofs.Tests.{is-rest-one}
+use Rattle.room.proofs.Tests.{is-first-one}
 use borrow.Author.Needs.{needs}
 use Rattle.room.proofs.is_supplied.Statement.{statement}
 use Rattle.room.proofs.is_supplied.Tie as tie
@@ -12,7 +15,7 @@ is-first-requires c κs = search needs
 
 -- src/lib.rt:179:9
 returns : tie.Need-returns
-returns c = ?
+returns c = search is-first-one
 
 -- src/lib.rt:182:9
 is-rest-requires : tie.Need-is-rest-requires
@@ -20,11 +23,11 @@ is-rest-requires c κs = search needs
 
 -- src/lib.rt:182:9
 returns-2 : tie.Need-returns-2
-returns-2 c = ?
+returns-2 c = search is-rest-one
 
 -- src/lib.rt:174:1
 returns-3 : tie.Need-returns-3
-returns-3 c = ?
+returns-3 c = search is-other
 
 pub is-supplied-spec : {M : Type 1} → statement M
 is-supplied-spec =

@@ -1,3 +1,5 @@
+use Rattle.room.proofs.Tests.{more-old}
+use Rattle.room.proofs.Tests.{more-new}
 use borrow.Author.Needs.{needs}
 use Rattle.room.proofs.more.Statement.{statement}
 use Rattle.room.proofs.more.Tie as tie
@@ -14,11 +16,11 @@ add-t6 c = search needs
 
 -- src/lib.rt:40:9
 returns : tie.Need-returns
-returns c = ?
+returns c = search more-new
 
 -- src/lib.rt:35:1
 returns-2 : tie.Need-returns-2
-returns-2 c = ?
+returns-2 c = search more-old
 
 pub more-spec : {M : Type 1} → statement M
 more-spec = tie.close (tie.spec add-t5 add-t6 returns returns-2)

@@ -1,3 +1,4 @@
+use Rattle.room.proofs.Tests.{no-supply, some-supply}
 use borrow.Author.Needs.{needs}
 use Rattle.room.proofs.tally_supply.Statement.{statement}
 use Rattle.room.proofs.tally_supply.Tie as tie
@@ -9,7 +10,7 @@ use Rattle.room.proofs.supplied_size.Reads as supplied-size-reads
 
 -- src/lib.rt:232:9
 returns : tie.Need-returns
-returns c = ?
+returns c = λ ts H. no-supply ts (c .before .before .before .before .args .p) (c .before .before .before .before .args .t) (c .if1 .taken)
 
 -- src/lib.rt:234:13
 find-supplied-requires : tie.Need-find-supplied-requires
@@ -25,7 +26,7 @@ more-requires c κs = search needs
 
 -- src/lib.rt:220:1
 returns-2 : tie.Need-returns-2
-returns-2 c = ?
+returns-2 c = λ ts H. some-supply ts (c .before .before .before .before .before .before .before .args .p) (c .before .before .before .before .before .before .before .args .t) (c .more .result) (c .before .before .find-supplied .result) (c .before .supplied-size .result) (c .before .before .before .if1 .left) (c .more .ensures) (c .before .before .find-supplied .ensures ts H) (c .before .supplied-size .ensures .0)
 
 pub tally-supply-spec : {M : Type 1} → statement M
 tally-supply-spec =
