@@ -12,7 +12,7 @@ use Rattle.text.proofs.Compare.{by}
 use Rattle.limits.specs.Limits.{work-size}
 use Rattle.dataset.specs.Terms.{Term}
 use Rattle.table.specs.Tables.{store-size}
-use Rattle.index.specs.Holds.{Holds}
+use Rattle.terms.specs.declared.Counts.{Counts}
 use Rattle.machine.specs.Memory.{Memory, Write}
 use Rattle.machine.specs.Read.{counted as at-most}
 use Rattle.machine.specs.Step.{Room}
@@ -58,61 +58,66 @@ module _ (work : Text) (t : Tables) (st : List ℕ) where
         counted-refusal (room-in t) k c (w m .1) (omega (arith, A .rows m, R .rows-held .size))
         (record { terms = C .terms ∙ sym (ap length (A .terms m)); bytes = C .bytes ∙ sym (ap store-size (A .terms m)) })
 
-  pub held : Represented work t st → Held work (t .terms) (t .store) (counts-of st)
-  held (old, (m, R)) = (R .usable .room, (m .terms, R .terms-held))
+  pub held : (q : Counts) → q ≡ counts-of st → Represented work t st → Held work (t .terms) (t .store) q
+  held q e (old, (m, R)) = rw e (R .usable .room, (m .terms, R .terms-held))
 
-  pub small : Represented work t st → (rows-in st ≤ 4294967295) × Small (tally-in st) 4294967295
-  small (old, (m, R)) = (
-    omega (arith, R .rows-held .size, R .fits .rows, most (length (t .rows) / 5)),
-    record {
-      terms = omega (arith, R .terms-held .keeps .count, R .fits .terms, most (length (t .terms) / 5));
-      bytes = omega (arith, R .terms-held .keeps .used, R .fits .store, most (length (t .store)));
-    },
-  )
+  pub rows-small : Represented work t st → rows-in st ≤ 4294967295
+  rows-small (old, (m, R)) = omega (arith, R .rows-held .size, R .fits .rows, most (length (t .rows) / 5))
 
-  -- A write whose terms are counted: a bound fits, or what is new was counted.
-  module _ (w : Write ℕ) (asks : List Ask) (n : ℕ) (A : Asks w asks n) (count : List Term → Tally) (C : (ts : List Term) → Counted (tally-in st) ts → Counted (count ts) (asked ts asks)) where
-    surely : (k b : ℕ) → ((ts : List Term) → Within (tally-in st) (count ts) k b) → (i : ℕ) (c : Tally) → i ≡ rows-in st + n → c ≡ tally (tally-in st .terms + k) (tally-in st .bytes + b)
+  pub tally-small : (u : Tally) → u ≡ tally-in st → Represented work t st → Small u 4294967295
+  tally-small u e (old, (m, R)) =
+      rw e
+      (record {
+        terms = omega (arith, R .terms-held .keeps .count, R .fits .terms, most (length (t .terms) / 5));
+        bytes = omega (arith, R .terms-held .keeps .used, R .fits .store, most (length (t .store)));
+      })
+
+  -- A write whose terms are counted, from the tally u on: a bound fits, or what is new was counted.
+  module _ (w : Write ℕ) (asks : List Ask) (n : ℕ) (A : Asks w asks n) (count : List Term → Tally → Tally) (C : (ts : List Term) (c : Tally) → Counted c ts → Counted (count ts c) (asked ts asks)) where
+    surely : (k b : ℕ) → ((ts : List Term) (c : Tally) → Within c (count ts c) k b) → (i : ℕ) (u c : Tally) → i ≡ rows-in st + n → u ≡ tally-in st → c ≡ tally (u .terms + k) (u .bytes + b)
         → refusal-of (room-in t) i c ≡ 0 → Answers work t st w 0
-    surely k b W i c e h z = λ old m R.
-        sym (enough-more (room-in t) i c (count (m .terms)) z (omega (arith, W (m .terms) .terms, ap (λ (x : Tally). x .terms) h)) (omega (arith, W (m .terms) .bytes, ap (λ (x : Tally). x .bytes) h)))
-        ∙ answered old m R w asks n i (count (m .terms)) A e (C (m .terms) (start old m R))
+    surely k b W i u c e f h z = λ old m R.
+        let B : Within u (count (m .terms) u) k b = W (m .terms) u in
+        sym (enough-more (room-in t) i c (count (m .terms) u) z (omega (arith, B .terms, ap (λ (x : Tally). x .terms) h)) (omega (arith, B .bytes, ap (λ (x : Tally). x .bytes) h)))
+        ∙ answered old m R w asks n i (count (m .terms) u) A e (C (m .terms) u (rw f (start old m R)))
 
-    exactly : (i : ℕ) (c : Tally) (r : ℕ) → i ≡ rows-in st + n → Tallies work (t .terms) (t .store) (counts-of st) count c → r ≡ refusal-of (room-in t) i c → Answers work t st w r
-    exactly i c r e T h = λ old m R.
-        h ∙ (ap (refusal-of (room-in t) i) (T (m .terms) (R .terms-held)) ∙ answered old m R w asks n i (count (m .terms)) A e (C (m .terms) (start old m R)))
+    exactly : (i : ℕ) (u c : Tally) (q : Counts) (r : ℕ) → i ≡ rows-in st + n → u ≡ tally-in st → q ≡ counts-of st → Tallies work (t .terms) (t .store) q (λ ts. count ts u) c
+        → r ≡ refusal-of (room-in t) i c → Answers work t st w r
+    exactly i u c q r e f g T h = λ old m R.
+        h ∙ (ap (refusal-of (room-in t) i) (T (m .terms) (rw g (R .terms-held))) ∙ answered old m R w asks n i (count (m .terms) u) A e (C (m .terms) u (rw f (start old m R))))
 
   module _ (s : Spot) where
-    pub open-surely : (i : ℕ) (c : Tally) → i ≡ rows-in st + before-rows s → c ≡ tally (tally-in st .terms + 2) (tally-in st .bytes + 48) → refusal-of (room-in t) i c ≡ 0 → Answers work t st (opened-at s) 0
+    pub open-surely : (i : ℕ) (u c : Tally) → i ≡ rows-in st + before-rows s → u ≡ tally-in st → c ≡ tally (u .terms + 2) (u .bytes + 48) → refusal-of (room-in t) i c ≡ 0
+        → Answers work t st (opened-at s) 0
     open-surely =
-        surely (opened-at s) (before-node s) (before-rows s) (opened-asks s) (λ ts. count-before ts s (tally-in st)) (λ ts C. opening-counted ts s (tally-in st) C) 2 48 (λ ts. before-within ts s (tally-in st))
+        surely (opened-at s) (before-node s) (before-rows s) (opened-asks s) (λ ts c. count-before ts s c) (λ ts c C. opening-counted ts s c C) 2 48 (λ ts c. before-within ts s c)
 
-    pub open-exactly : (i : ℕ) (c : Tally) (r : ℕ) → i ≡ rows-in st + before-rows s → Tallies work (t .terms) (t .store) (counts-of st) (λ ts. count-before ts s (tally-in st)) c
-        → r ≡ refusal-of (room-in t) i c → Answers work t st (opened-at s) r
-    open-exactly = exactly (opened-at s) (before-node s) (before-rows s) (opened-asks s) (λ ts. count-before ts s (tally-in st)) (λ ts C. opening-counted ts s (tally-in st) C)
+    pub open-exactly : (i : ℕ) (u c : Tally) (q : Counts) (r : ℕ) → i ≡ rows-in st + before-rows s → u ≡ tally-in st → q ≡ counts-of st
+        → Tallies work (t .terms) (t .store) q (λ ts. count-before ts s u) c → r ≡ refusal-of (room-in t) i c → Answers work t st (opened-at s) r
+    open-exactly = exactly (opened-at s) (before-node s) (before-rows s) (opened-asks s) (λ ts c. count-before ts s c) (λ ts c C. opening-counted ts s c C)
 
-    pub close-surely : (i : ℕ) (c : Tally) → i ≡ rows-in st + close-rows s → c ≡ tally (tally-in st .terms + 2) (tally-in st .bytes + 96) → refusal-of (room-in t) i c ≡ 0 → Answers work t st (closed s) 0
-    close-surely =
-        surely (closed s) (to-close s) (close-rows s) (closed-asks s) (λ ts. count-close ts s (tally-in st)) (λ ts C. close-counted ts s (tally-in st) C) 2 96 (λ ts. close-within ts s (tally-in st))
+    pub close-surely : (i : ℕ) (u c : Tally) → i ≡ rows-in st + close-rows s → u ≡ tally-in st → c ≡ tally (u .terms + 2) (u .bytes + 96) → refusal-of (room-in t) i c ≡ 0
+        → Answers work t st (closed s) 0
+    close-surely = surely (closed s) (to-close s) (close-rows s) (closed-asks s) (λ ts c. count-close ts s c) (λ ts c C. close-counted ts s c C) 2 96 (λ ts c. close-within ts s c)
 
-    pub close-exactly : (i : ℕ) (c : Tally) (r : ℕ) → i ≡ rows-in st + close-rows s → Tallies work (t .terms) (t .store) (counts-of st) (λ ts. count-close ts s (tally-in st)) c
-        → r ≡ refusal-of (room-in t) i c → Answers work t st (closed s) r
-    close-exactly = exactly (closed s) (to-close s) (close-rows s) (closed-asks s) (λ ts. count-close ts s (tally-in st)) (λ ts C. close-counted ts s (tally-in st) C)
+    pub close-exactly : (i : ℕ) (u c : Tally) (q : Counts) (r : ℕ) → i ≡ rows-in st + close-rows s → u ≡ tally-in st → q ≡ counts-of st
+        → Tallies work (t .terms) (t .store) q (λ ts. count-close ts s u) c → r ≡ refusal-of (room-in t) i c → Answers work t st (closed s) r
+    close-exactly = exactly (closed s) (to-close s) (close-rows s) (closed-asks s) (λ ts c. count-close ts s c) (λ ts c C. close-counted ts s c C)
 
     module _ (n : Node) (back text tag : Text) where
       abbrev write : Write ℕ
       write = placed s (node-write n work back text tag (s .at))
 
-      pub place-surely : length (node-iri n work back) ≤ 1024 → (i : ℕ) (c : Tally) → i ≡ rows-in st + (before-rows s + behind-rows s)
-          → c ≡ tally (tally-in st .terms + 5) (tally-in st .bytes + (1120 + (length text + length tag))) → refusal-of (room-in t) i c ≡ 0
+      pub place-surely : length (node-iri n work back) ≤ 1024 → (i : ℕ) (u c : Tally) → i ≡ rows-in st + (before-rows s + behind-rows s) → u ≡ tally-in st
+          → c ≡ tally (u .terms + 5) (u .bytes + (1120 + (length text + length tag))) → refusal-of (room-in t) i c ≡ 0
           → Answers work t st (placed s (node-write n work back text tag (s .at))) 0
       place-surely short =
-          surely write (to-place s n work back text tag) (before-rows s + behind-rows s) (placed-asks s n work back text tag) (λ ts. count-place ts s n work back text tag (tally-in st))
-          (λ ts C. place-counted ts s (tally-in st) C n work back text tag) 5 (1120 + (length text + length tag)) (λ ts. place-within ts s n work back text tag (tally-in st) short)
+          surely write (to-place s n work back text tag) (before-rows s + behind-rows s) (placed-asks s n work back text tag) (λ ts c. count-place ts s n work back text tag c)
+          (λ ts c C. place-counted ts s c C n work back text tag) 5 (1120 + (length text + length tag)) (λ ts c. place-within ts s n work back text tag c short)
 
-      pub place-exactly : (i : ℕ) (c : Tally) (r : ℕ) → i ≡ rows-in st + (before-rows s + behind-rows s)
-          → Tallies work (t .terms) (t .store) (counts-of st) (λ ts. count-place ts s n work back text tag (tally-in st)) c → r ≡ refusal-of (room-in t) i c
+      pub place-exactly : (i : ℕ) (u c : Tally) (q : Counts) (r : ℕ) → i ≡ rows-in st + (before-rows s + behind-rows s) → u ≡ tally-in st → q ≡ counts-of st
+          → Tallies work (t .terms) (t .store) q (λ ts. count-place ts s n work back text tag u) c → r ≡ refusal-of (room-in t) i c
           → Answers work t st (placed s (node-write n work back text tag (s .at))) r
       place-exactly =
-          exactly write (to-place s n work back text tag) (before-rows s + behind-rows s) (placed-asks s n work back text tag) (λ ts. count-place ts s n work back text tag (tally-in st))
-          (λ ts C. place-counted ts s (tally-in st) C n work back text tag)
+          exactly write (to-place s n work back text tag) (before-rows s + behind-rows s) (placed-asks s n work back text tag) (λ ts c. count-place ts s n work back text tag c)
+          (λ ts c C. place-counted ts s c C n work back text tag)

@@ -9,6 +9,7 @@ use lib.ListN.{length, take, drop, length-append, length-drop}
 use lib.Seq.{length-take-le}
 use borrow.Author.Tests.{eq-eqb, ne-eqb, le-leb, lt-leb, lt-ltb, le-ltb}
 use Rattle.text.specs.Text.{Text, cond, same-text}
+use Rattle.text.proofs.Compare.{by}
 use Rattle.form.specs.Form.{undo, joined}
 use Rattle.form.proofs.Forms.{joined-length}
 use Rattle.dataset.specs.Terms.{Term, iri, blank, literal, tagged, label}
@@ -16,6 +17,7 @@ use Rattle.table.specs.Tables.{number, or-zero, term-bytes}
 use Rattle.terms.specs.declared.Counts.{Counts}
 use Rattle.terms.specs.Keeps.{findable}
 use Rattle.machine.specs.Read.{counted as at-most}
+use Rattle.machine.specs.Frame.{Place, top, subject-before, object-of, element-of, Cells, no-cell, cells}
 use Rattle.machine.specs.Step.{Room}
 use Rattle.state.specs.declared.Spot.{Spot}
 use Rattle.state.specs.declared.Node.{Node}
@@ -40,6 +42,16 @@ pub iri-object : (x y : ℕ) → (x ≡ 0 → ⊥) → (y ≡ 0 → ⊥) → 0 �
 iri-object zero y h g = absurd (h refl)
 iri-object (suc x) zero h g = absurd (g refl)
 iri-object (suc x) (suc y) h g = refl
+
+place-rows-few : (p : Place) → place-rows p ≤ 1
+place-rows-few top = omega arith
+place-rows-few (subject-before e) = omega arith
+place-rows-few (object-of s p) = omega arith
+place-rows-few (element-of c) = omega arith
+
+cell-rows-few : (p : Place) (cs : Cells) → cell-rows p cs ≤ 1
+cell-rows-few p no-cell = place-rows-few p
+cell-rows-few p (cells h l) = omega arith
 
 module _ (s : Spot) where
   pub close-first : (r : ℕ) → s .last ≡ 0 → r ≡ place-rows (spot-place s) → r ≡ close-rows s
@@ -246,6 +258,12 @@ module _ (ts : List Term) (p q : ℕ) (n : Node) (work back : Text) (c : Tally) 
   unfolding count-behind
   behind-supply b r h g e k l = rw (ne-eqb q 0 h, ne-eqb p 1 g, sym e ∙ k) l
 
+-- All parts of a node at its place.
+pub all-parts : (ts : List Term) (s : Spot) (n : Node) (work back text tag : Text) (c b d r : Tally) (p q : ℕ) → p ≡ before-iri s → q ≡ behind-iri s → b ≡ count-before ts s c
+    → d ≡ count-node ts p n work back text tag b → r ≡ count-behind ts p q n work back d → r ≡ count-place ts s n work back text tag c
+unfolding count-place
+all-parts ts s n work back text tag c b d r p q e f g h k = k ∙ rw (h, g, e, f)
+
 -- ---- Room
 
 pub few : (n : ℕ) → n ≤ 4294967295 → n ≡ at-most n
@@ -270,3 +288,15 @@ module _ (room : Room) (n : ℕ) (c : Tally) (a b d : ℕ) where
   pub enough : a ≡ room .rows → n ≤ a → b ≡ room .terms → c .terms ≤ b → d ≡ room .store → c .bytes ≤ d → 0 ≡ refusal-of room n c
   unfolding refusal-of
   enough e h f g k l = rw (le-ltb (room .rows) n (omega arith), le-ltb (room .terms) (c .terms) (omega arith), le-ltb (room .store) (c .bytes) (omega arith))
+
+-- At most two rows.
+pub few-rows : (s : Spot) → (before-rows s ≤ 1) × (behind-rows s ≤ 1)
+unfolding before-rows behind-rows
+few-rows s = (
+  by (s .list) (λ e. rw e (cell-rows-few (spot-place s) (cells-of (s .last)))) (λ e. rw e (omega arith)),
+  by (s .list) (λ e. rw e (omega arith)) (λ e. rw e (place-rows-few (spot-place s))),
+)
+
+pub few-end-rows : (s : Spot) → close-rows s ≤ 1
+unfolding close-rows
+few-end-rows s = cell-rows-few (spot-place s) (cells-of (s .last))

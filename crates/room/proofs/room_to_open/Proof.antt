@@ -1,3 +1,9 @@
+use Prim.Native.Nat.{_+_}
+use mathlib.Core.Path.{sym, _∙_}
+use Rattle.room.proofs.Tests.{few-rows}
+use native.Mathlib.Omega.{arith}
+use Rattle.state.specs.Represents.{tables}
+use Rattle.room.proofs.Refusing.{held, rows-small, tally-small, open-surely, open-exactly}
 use borrow.Author.Needs.{needs}
 use Rattle.room.proofs.room_to_open.Statement.{statement}
 use Rattle.room.proofs.room_to_open.Tie as tie
@@ -21,7 +27,7 @@ before-rows-requires c κs = search needs
 
 -- src/lib.rt:663:17
 add-count : tie.Need-add-count
-add-count c = ?
+add-count c = omega (arith, c .before-rows .ensures, few-rows (c .before .before .before .before .before .before .args .spot), c .before .rows-in .ensures, rows-small (c .before .before .before .before .before .before .args .work .now) (tables (c .before .before .before .before .before .before .args .rows .now) (c .before .before .before .before .before .before .args .terms .now) (c .before .before .before .before .before .before .args .store .now)) (c .before .before .before .before .before .before .args .st .now) (c .before .before .before .before .before .before .pre))
 
 -- src/lib.rt:664:9
 tally-in-requires : tie.Need-tally-in-requires
@@ -29,7 +35,7 @@ tally-in-requires c κs = search needs
 
 -- src/lib.rt:665:9
 at-least-requires : tie.Need-at-least-requires
-at-least-requires c κs = ?
+at-least-requires c κs = (tally-small (c .before .before .before .before .before .before .before .args .work .now) (tables (c .before .before .before .before .before .before .before .args .rows .now) (c .before .before .before .before .before .before .before .args .terms .now) (c .before .before .before .before .before .before .before .args .store .now)) (c .before .before .before .before .before .before .before .args .st .now) (c .tally-in .result) (c .tally-in .ensures) (c .before .before .before .before .before .before .before .pre), (omega arith, omega (arith)))
 
 -- src/lib.rt:666:8
 refusal-requires : tie.Need-refusal-requires
@@ -37,7 +43,7 @@ refusal-requires c κs = search needs
 
 -- src/lib.rt:667:9
 returns : tie.Need-returns
-returns c = ?
+returns c = open-surely (c .before .before .before .before .before .before .before .before .before .before .args .work .now) (tables (c .before .before .before .before .before .before .before .before .before .before .args .rows .now) (c .before .before .before .before .before .before .before .before .before .before .args .terms .now) (c .before .before .before .before .before .before .before .before .before .before .args .store .now)) (c .before .before .before .before .before .before .before .before .before .before .args .st .now) (c .before .before .before .before .before .before .before .before .before .before .args .spot)   (c .before .before .before .before .before .rows-in .result + c .before .before .before .before .before-rows .result)  (c .before .before .before .tally-in .result) (c .before .before .at-least .result) (omega (arith, c .before .before .before .before .before .rows-in .ensures, c .before .before .before .before .before-rows .ensures)) (c .before .before .before .tally-in .ensures) (c .before .before .at-least .ensures) (sym (c .before .refusal .ensures) ∙ c .if1 .taken)
 
 -- src/lib.rt:669:50
 counts-in-requires : tie.Need-counts-in-requires
@@ -45,7 +51,7 @@ counts-in-requires c κs = search needs
 
 -- src/lib.rt:669:9
 tally-before-requires : tie.Need-tally-before-requires
-tally-before-requires c κs = ?
+tally-before-requires c κs = (held (c .before .before .before .before .before .before .before .before .before .before .before .args .work .now) (tables (c .before .before .before .before .before .before .before .before .before .before .before .args .rows .now) (c .before .before .before .before .before .before .before .before .before .before .before .args .terms .now) (c .before .before .before .before .before .before .before .before .before .before .before .args .store .now)) (c .before .before .before .before .before .before .before .before .before .before .before .args .st .now) (c .counts-in .result) (c .counts-in .ensures) (c .before .before .before .before .before .before .before .before .before .before .before .pre), tally-small (c .before .before .before .before .before .before .before .before .before .before .before .args .work .now) (tables (c .before .before .before .before .before .before .before .before .before .before .before .args .rows .now) (c .before .before .before .before .before .before .before .before .before .before .before .args .terms .now) (c .before .before .before .before .before .before .before .before .before .before .before .args .store .now)) (c .before .before .before .before .before .before .before .before .before .before .before .args .st .now) (c .before .before .before .before .tally-in .result) (c .before .before .before .before .tally-in .ensures) (c .before .before .before .before .before .before .before .before .before .before .before .pre))
 
 -- src/lib.rt:670:5
 refusal-requires-2 : tie.Need-refusal-requires-2
@@ -53,7 +59,7 @@ refusal-requires-2 c κs = search needs
 
 -- src/lib.rt:652:1
 returns-2 : tie.Need-returns-2
-returns-2 c = ?
+returns-2 c = open-exactly (c .before .before .before .before .before .before .before .before .before .before .before .before .before .args .work .now) (tables (c .before .before .before .before .before .before .before .before .before .before .before .before .before .args .rows .now) (c .before .before .before .before .before .before .before .before .before .before .before .before .before .args .terms .now) (c .before .before .before .before .before .before .before .before .before .before .before .before .before .args .store .now)) (c .before .before .before .before .before .before .before .before .before .before .before .before .before .args .st .now) (c .before .before .before .before .before .before .before .before .before .before .before .before .before .args .spot)  (c .before .before .before .before .before .before .before .before .rows-in .result + c .before .before .before .before .before .before .before .before-rows .result)  (c .before .before .before .before .before .before .tally-in .result) (c .before .tally-before .result) (c .before .before .counts-in .result) (c .refusal2 .result) (omega (arith, c .before .before .before .before .before .before .before .before .rows-in .ensures, c .before .before .before .before .before .before .before .before-rows .ensures)) (c .before .before .before .before .before .before .tally-in .ensures) (c .before .before .counts-in .ensures) (c .before .tally-before .ensures) (c .refusal2 .ensures)
 
 pub room-to-open-spec : {M : Type 1} → statement M
 room-to-open-spec =

@@ -1,3 +1,9 @@
+use Prim.Native.Nat.{_+_}
+use mathlib.Core.Path.{sym, _∙_}
+use Rattle.room.proofs.Tests.{few-rows}
+use native.Mathlib.Omega.{arith}
+use Rattle.state.specs.Represents.{tables}
+use Rattle.room.proofs.Refusing.{held, rows-small, tally-small, place-surely, place-exactly}
 use borrow.Author.Needs.{needs}
 use Rattle.room.proofs.room_to_place.Statement.{statement}
 use Rattle.room.proofs.room_to_place.Tie as tie
@@ -26,11 +32,11 @@ behind-rows-requires c κs = search needs
 
 -- src/lib.rt:641:32
 add-count : tie.Need-add-count
-add-count c = ?
+add-count c = omega (arith, c .before .before-rows .ensures, c .behind-rows .ensures, few-rows (c .before .before .before .before .before .before .before .before .before .before .args .spot) .0, few-rows (c .before .before .before .before .before .before .before .before .before .before .args .spot) .1)
 
 -- src/lib.rt:641:17
 add-count-2 : tie.Need-add-count-2
-add-count-2 c = ?
+add-count-2 c = omega (arith, c .before .before-rows .ensures, c .behind-rows .ensures, few-rows (c .before .before .before .before .before .before .before .before .before .before .args .spot) .0, few-rows (c .before .before .before .before .before .before .before .before .before .before .args .spot) .1, c .before .before .rows-in .ensures, rows-small (c .before .before .before .before .before .before .before .before .before .before .args .work .now) (tables (c .before .before .before .before .before .before .before .before .before .before .args .rows .now) (c .before .before .before .before .before .before .before .before .before .before .args .terms .now) (c .before .before .before .before .before .before .before .before .before .before .args .store .now)) (c .before .before .before .before .before .before .before .before .before .before .args .st .now) (c .before .before .before .before .before .before .before .before .before .before .pre .0))
 
 -- src/lib.rt:642:9
 tally-in-requires : tie.Need-tally-in-requires
@@ -46,7 +52,7 @@ add-at-least-2 c = search needs
 
 -- src/lib.rt:643:9
 at-least-requires : tie.Need-at-least-requires
-at-least-requires c κs = ?
+at-least-requires c κs = (tally-small (c .before .before .before .before .before .before .before .before .before .before .before .args .work .now) (tables (c .before .before .before .before .before .before .before .before .before .before .before .args .rows .now) (c .before .before .before .before .before .before .before .before .before .before .before .args .terms .now) (c .before .before .before .before .before .before .before .before .before .before .before .args .store .now)) (c .before .before .before .before .before .before .before .before .before .before .before .args .st .now) (c .tally-in .result) (c .tally-in .ensures) (c .before .before .before .before .before .before .before .before .before .before .before .pre .0), (omega arith, omega (arith, c .before .before .before .before .before .before .before .before .before .before .before .pre .1 .text-slice, c .before .before .before .before .before .before .before .before .before .before .before .pre .1 .tag-short)))
 
 -- src/lib.rt:644:8
 refusal-requires : tie.Need-refusal-requires
@@ -54,7 +60,7 @@ refusal-requires c κs = search needs
 
 -- src/lib.rt:645:9
 returns : tie.Need-returns
-returns c = ?
+returns c = place-surely (c .before .before .before .before .before .before .before .before .before .before .before .before .before .before .args .work .now) (tables (c .before .before .before .before .before .before .before .before .before .before .before .before .before .before .args .rows .now) (c .before .before .before .before .before .before .before .before .before .before .before .before .before .before .args .terms .now) (c .before .before .before .before .before .before .before .before .before .before .before .before .before .before .args .store .now)) (c .before .before .before .before .before .before .before .before .before .before .before .before .before .before .args .st .now) (c .before .before .before .before .before .before .before .before .before .before .before .before .before .before .args .spot) (c .before .before .before .before .before .before .before .before .before .before .before .before .before .before .args .node) (c .before .before .before .before .before .before .before .before .before .before .before .before .before .before .args .back .now) (c .before .before .before .before .before .before .before .before .before .before .before .before .before .before .args .text .now) (c .before .before .before .before .before .before .before .before .before .before .before .before .before .before .args .tag .now) (c .before .before .before .before .before .before .before .before .before .before .before .before .before .before .pre .1 .short) (c .before .before .before .before .before .before .rows-in .result + (c .before .before .before .before .before .before-rows .result + c .before .before .before .before .behind-rows .result))  (c .before .before .before .tally-in .result) (c .before .before .at-least .result) (omega (arith, c .before .before .before .before .before .before .rows-in .ensures, c .before .before .before .before .before .before-rows .ensures, c .before .before .before .before .behind-rows .ensures)) (c .before .before .before .tally-in .ensures) (c .before .before .at-least .ensures) (sym (c .before .refusal .ensures) ∙ c .if1 .taken)
 
 -- src/lib.rt:647:49
 counts-in-requires : tie.Need-counts-in-requires
@@ -62,7 +68,7 @@ counts-in-requires c κs = search needs
 
 -- src/lib.rt:647:9
 tally-place-requires : tie.Need-tally-place-requires
-tally-place-requires c κs = ?
+tally-place-requires c κs = (held (c .before .before .before .before .before .before .before .before .before .before .before .before .before .before .before .args .work .now) (tables (c .before .before .before .before .before .before .before .before .before .before .before .before .before .before .before .args .rows .now) (c .before .before .before .before .before .before .before .before .before .before .before .before .before .before .before .args .terms .now) (c .before .before .before .before .before .before .before .before .before .before .before .before .before .before .before .args .store .now)) (c .before .before .before .before .before .before .before .before .before .before .before .before .before .before .before .args .st .now) (c .counts-in .result) (c .counts-in .ensures) (c .before .before .before .before .before .before .before .before .before .before .before .before .before .before .before .pre .0), (c .before .before .before .before .before .before .before .before .before .before .before .before .before .before .before .pre .1, tally-small (c .before .before .before .before .before .before .before .before .before .before .before .before .before .before .before .args .work .now) (tables (c .before .before .before .before .before .before .before .before .before .before .before .before .before .before .before .args .rows .now) (c .before .before .before .before .before .before .before .before .before .before .before .before .before .before .before .args .terms .now) (c .before .before .before .before .before .before .before .before .before .before .before .before .before .before .before .args .store .now)) (c .before .before .before .before .before .before .before .before .before .before .before .before .before .before .before .args .st .now) (c .before .before .before .before .tally-in .result) (c .before .before .before .before .tally-in .ensures) (c .before .before .before .before .before .before .before .before .before .before .before .before .before .before .before .pre .0)))
 
 -- src/lib.rt:648:5
 refusal-requires-2 : tie.Need-refusal-requires-2
@@ -70,7 +76,7 @@ refusal-requires-2 c κs = search needs
 
 -- src/lib.rt:626:1
 returns-2 : tie.Need-returns-2
-returns-2 c = ?
+returns-2 c = place-exactly (c .before .before .before .before .before .before .before .before .before .before .before .before .before .before .before .before .before .args .work .now) (tables (c .before .before .before .before .before .before .before .before .before .before .before .before .before .before .before .before .before .args .rows .now) (c .before .before .before .before .before .before .before .before .before .before .before .before .before .before .before .before .before .args .terms .now) (c .before .before .before .before .before .before .before .before .before .before .before .before .before .before .before .before .before .args .store .now)) (c .before .before .before .before .before .before .before .before .before .before .before .before .before .before .before .before .before .args .st .now) (c .before .before .before .before .before .before .before .before .before .before .before .before .before .before .before .before .before .args .spot) (c .before .before .before .before .before .before .before .before .before .before .before .before .before .before .before .before .before .args .node) (c .before .before .before .before .before .before .before .before .before .before .before .before .before .before .before .before .before .args .back .now) (c .before .before .before .before .before .before .before .before .before .before .before .before .before .before .before .before .before .args .text .now) (c .before .before .before .before .before .before .before .before .before .before .before .before .before .before .before .before .before .args .tag .now) (c .before .before .before .before .before .before .before .before .before .rows-in .result + (c .before .before .before .before .before .before .before .before .before-rows .result + c .before .before .before .before .before .before .before .behind-rows .result))  (c .before .before .before .before .before .before .tally-in .result) (c .before .tally-place .result) (c .before .before .counts-in .result) (c .refusal2 .result) (omega (arith, c .before .before .before .before .before .before .before .before .before .rows-in .ensures, c .before .before .before .before .before .before .before .before .before-rows .ensures, c .before .before .before .before .before .before .before .behind-rows .ensures)) (c .before .before .before .before .before .before .tally-in .ensures) (c .before .before .counts-in .ensures) (c .before .tally-place .ensures) (c .refusal2 .ensures)
 
 pub room-to-place-spec : {M : Type 1} → statement M
 room-to-place-spec =
