@@ -1,10 +1,9 @@
 -- Whether a term is among others, as terms are added.
 use mathlib.Core.Path.{_≡_, refl, sym, ap, _∙_}
 use mathlib.Core.List.{List, [], _∷_, _++_}
-use mathlib.Core.Bool.{Bool, true, false}
+use mathlib.Core.Bool.{true, false}
 use mathlib.Core.Option.{Option, none, some}
-use Prim.Native.Nat.{ℕ, suc}
-use lib.ListN.{length}
+use Prim.Native.Nat.{ℕ}
 use Rattle.text.specs.Text.{is-none}
 use Rattle.text.proofs.Compare.{contrary}
 use Rattle.dataset.specs.Terms.{Term}

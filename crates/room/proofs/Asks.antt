@@ -3,7 +3,7 @@ use mathlib.Core.Path.{_≡_, refl, sym, ap, _∙_}
 use mathlib.Core.List.{List, [], _∷_, _++_}
 use mathlib.Core.Bool.{Bool, true, false}
 use mathlib.Core.Option.{Option, none, some}
-use Prim.Native.Nat.{ℕ, zero, suc, _+_}
+use Prim.Native.Nat.{ℕ, _+_}
 use native.Mathlib.Omega.{arith}
 use lib.Dec.{eqb}
 use lib.ListN.{length, length-append}
@@ -11,13 +11,13 @@ use Rattle.text.specs.Text.{Text, cond}
 use Rattle.form.specs.Form.{undo}
 use Rattle.dataset.specs.Terms.{Term, iri, blank, literal, tagged, label, bracket, cell, rdf-first, rdf-rest, rdf-nil}
 use Rattle.table.specs.Tables.{number}
-use Rattle.machine.specs.Memory.{Memory, Write, return, _>>=_, _>>_, done, term-by, term, new-term, typed, row}
+use Rattle.machine.specs.Memory.{Memory, Write, return, _>>=_, done, term-by, term, new-term, row}
 use Rattle.machine.specs.Frame.{Place, top, subject-before, object-of, element-of, Cells, no-cell, cells}
 use Rattle.machine.specs.Rules.{hold, new-cell, end-list}
 use Rattle.state.specs.declared.Spot.{Spot}
 use Rattle.state.specs.declared.Node.{Node}
-use Rattle.state.specs.Writes.{place-of, cells-of, node-iri, node-write, begin, placed, opened-at, closed}
-use Rattle.room.specs.Asks.{Ask, fresh, shared, with-by, asked, supplied, supply, place-iri, place-rows, cell-iri, cell-rows, end-iri, last-iri, spot-place, before-iri, before-rows, before-node, behind-iri, behind-rows, for-node, to-place, to-close, close-rows}
+use Rattle.state.specs.Writes.{cells-of, node-iri, node-write, begin, placed, opened-at, closed}
+use Rattle.room.specs.Asks.{Ask, fresh, shared, with-by, asked, supplied, supply, place-iri, place-rows, cell-iri, cell-rows, end-iri, last-iri, spot-place, before-rows, before-node, behind-iri, behind-rows, for-node, to-place, to-close, close-rows}
 
 pub asked-append : (ts : List Term) (xs ys : List Ask) → asked ts (xs ++ ys) ≡ asked (asked ts xs) ys
 unfolding asked

@@ -3,11 +3,11 @@ use mathlib.Core.Path.{_≡_, refl, sym, ap, subst, _∙_}
 use mathlib.Core.List.{List, [], _∷_, _++_}
 use mathlib.Core.Bool.{Bool, true, false}
 use mathlib.Core.Option.{Option, none, some}
-use Prim.Native.Nat.{ℕ, zero, suc, _+_, _≤_, _<_}
+use Prim.Native.Nat.{ℕ, zero, suc, _+_, _≤_}
 use native.Mathlib.Omega.{arith}
 use lib.Dec.{eqb}
 use lib.ListN.{length, length-append}
-use borrow.Author.Tests.{eqb-true, eqb-false, eq-eqb, ne-eqb}
+use borrow.Author.Tests.{eqb-true, ne-eqb}
 use Rattle.text.specs.Text.{Text, cond, same-text, is-none}
 use Rattle.text.proofs.Compare.{by, contrary, same-eq, same-refl}
 use Rattle.form.specs.Form.{undo}
@@ -18,9 +18,9 @@ use Rattle.table.proofs.Store.{last-size}
 use Rattle.machine.specs.Frame.{Place, top, subject-before, object-of, element-of, Cells, no-cell, cells}
 use Rattle.state.specs.declared.Spot.{Spot}
 use Rattle.state.specs.declared.Node.{Node}
-use Rattle.state.specs.Writes.{place-of, cells-of, node-iri}
+use Rattle.state.specs.Writes.{cells-of, node-iri}
 use Rattle.room.specs.declared.Tally.{Tally}
-use Rattle.room.specs.Asks.{Ask, fresh, shared, with-by, with-term, asked, supplied, supply, place-iri, cell-iri, end-iri, last-iri, spot-place, before-iri, before-node, behind-iri, for-node, to-place, to-close}
+use Rattle.room.specs.Asks.{Ask, fresh, shared, with-term, asked, supplied, supply, place-iri, cell-iri, end-iri, last-iri, spot-place, before-iri, before-node, behind-iri, for-node, to-place, to-close}
 use Rattle.room.specs.Counting.{tally, more, count-term, count-supply, is-supplied, count-iri, count-node, has-iri, asks-first, count-behind, count-before, count-place, count-close}
 use Rattle.room.proofs.Asks.{asked-append}
 use Rattle.room.proofs.Among.{Same, Has, none-of, same-more, same-with, with-has, has-itself, asked-has}
@@ -173,7 +173,7 @@ module _ (ts us : List Term) (n : Node) (work back text tag : Text) (a : ℕ) wh
       (λ o. cond-same (eqb (n .kind) 2) (shared (blank (label text)) ∷ []) _ (λ _. same-with ts us first (blank (label text)) S refl)
       (λ _. cond-same (eqb (n .kind) 3) (shared (iri (node-iri n work back)) ∷ shared (literal (undo (n .text) text) (node-iri n work back)) ∷ []) _
       (λ k. same-with ts (with-term (iri (node-iri n work back)) us) first (literal (undo (n .text) text) (node-iri n work back))
-          (same-with ts us first (iri (node-iri n work back)) S (other-iri e (rw (o, k)))) refl)
+      (same-with ts us first (iri (node-iri n work back)) S (other-iri e (rw (o, k)))) refl)
       (λ _. cond-same (eqb (n .kind) 4) (shared (tagged (undo (n .text) text) tag) ∷ []) (fresh (blank (bracket a)) ∷ []) (λ _. same-with ts us first (tagged (undo (n .text) text) tag) S refl)
       (λ _. same-more ts us first (blank (bracket a)) S refl))))
 

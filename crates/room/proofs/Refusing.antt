@@ -1,15 +1,13 @@
 -- The answers: what is counted tells whether there is room.
-use mathlib.Core.Path.{_≡_, refl, sym, ap, _∙_}
-use mathlib.Core.List.{List, [], _∷_}
-use mathlib.Core.Bool.{Bool, true, false}
-use Prim.Native.Nat.{ℕ, zero, suc, _+_, _/_, _≤_, _<_}
+use mathlib.Core.Path.{_≡_, sym, ap, _∙_}
+use mathlib.Core.List.{List}
+use Prim.Native.Nat.{ℕ, _+_, _/_, _≤_}
 use native.Mathlib.Omega.{arith}
 use lib.Dec.{ltb, leb}
-use lib.ListN.{length, getD, drop}
-use borrow.Author.Tests.{ltb-true, ltb-false, le-ltb, leb-true, leb-false}
-use Rattle.text.specs.Text.{Text, cond}
+use lib.ListN.{length}
+use borrow.Author.Tests.{ltb-false, le-ltb, leb-true}
+use Rattle.text.specs.Text.{Text}
 use Rattle.text.proofs.Compare.{by}
-use Rattle.limits.specs.Limits.{work-size}
 use Rattle.dataset.specs.Terms.{Term}
 use Rattle.table.specs.Tables.{store-size}
 use Rattle.terms.specs.declared.Counts.{Counts}
@@ -18,12 +16,12 @@ use Rattle.machine.specs.Read.{counted as at-most}
 use Rattle.machine.specs.Step.{Room}
 use Rattle.state.specs.declared.Spot.{Spot}
 use Rattle.state.specs.declared.Node.{Node}
-use Rattle.state.specs.Words.{rows-word, terms-word, used-word, counts-of}
+use Rattle.state.specs.Words.{counts-of}
 use Rattle.state.specs.Represents.{Tables, room-in, Represents, Represented, room-refusal}
-use Rattle.state.specs.Writes.{node-iri, node-write, placed, opened-at, closed, NodeFits}
+use Rattle.state.specs.Writes.{node-iri, node-write, placed, opened-at, closed}
 use Rattle.room.specs.declared.Tally.{Tally}
 use Rattle.room.specs.Asks.{Ask, asked, before-node, before-rows, behind-rows, to-place, to-close, close-rows}
-use Rattle.room.specs.Counting.{tally, count-before, count-place, count-close, Held, Tallies, Answers, Small, Named, rows-in, tally-in, refusal-of}
+use Rattle.room.specs.Counting.{tally, count-before, count-place, count-close, Held, Tallies, Answers, Small, rows-in, tally-in, refusal-of}
 use Rattle.room.proofs.Asks.{Asks, opened-asks, closed-asks, placed-asks}
 use Rattle.room.proofs.Counting.{Counted, opening-counted, place-counted, close-counted}
 use Rattle.room.proofs.Bounds.{Within, before-within, place-within, close-within}

@@ -4,13 +4,12 @@ use mathlib.Core.List.{List, [], _∷_}
 use mathlib.Core.Bool.{Bool, true, false}
 use Prim.Native.Nat.{ℕ, zero, suc, _+_, _-_, _≤_, _<_}
 use native.Mathlib.Omega.{arith}
-use lib.Dec.{eqb, ltb}
-use lib.ListN.{length, take, drop, length-append, length-drop}
+use lib.ListN.{length, take, drop, length-drop}
 use lib.Seq.{length-take-le}
 use borrow.Author.Tests.{eq-eqb, ne-eqb, le-leb, lt-leb, lt-ltb, le-ltb}
-use Rattle.text.specs.Text.{Text, cond, same-text}
+use Rattle.text.specs.Text.{Text}
 use Rattle.text.proofs.Compare.{by}
-use Rattle.form.specs.Form.{undo, joined}
+use Rattle.form.specs.Form.{undo}
 use Rattle.form.proofs.Forms.{joined-length}
 use Rattle.dataset.specs.Terms.{Term, iri, blank, literal, tagged, label}
 use Rattle.table.specs.Tables.{number, or-zero, term-bytes}

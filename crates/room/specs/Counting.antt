@@ -9,7 +9,7 @@ use Rattle.text.specs.Text.{Text, cond, same-text}
 use Rattle.limits.specs.Limits.{iri-limit, work-size}
 use Rattle.form.specs.Form.{undo}
 use Rattle.dataset.specs.Terms.{Term, iri, blank, literal, tagged, label}
-use Rattle.table.specs.Tables.{number, or-zero, term-bytes, store-size}
+use Rattle.table.specs.Tables.{number, or-zero, term-bytes}
 use Rattle.terms.specs.declared.Counts.{Counts}
 use Rattle.index.specs.Holds.{Holds}
 use Rattle.machine.specs.Memory.{Memory, Write}

@@ -229,7 +229,11 @@ fn tally_supply(
     if p == 0 {
         return t;
     }
-    more(t, find_supplied(work, terms, store, counts, p), supplied_size(p))
+    more(
+        t,
+        find_supplied(work, terms, store, counts, p),
+        supplied_size(p),
+    )
 }
 
 // With the node's IRI, behind p.
@@ -271,7 +275,16 @@ fn tally_label(
         kind: 2,
         datatype: 0,
     };
-    let n = find_text(work, terms, store, counts, sort, Form::Plain, text, &text[..0]);
+    let n = find_text(
+        work,
+        terms,
+        store,
+        counts,
+        sort,
+        Form::Plain,
+        text,
+        &text[..0],
+    );
     more(t, n, text.len())
 }
 
@@ -535,7 +548,17 @@ fn tally_place(
     let p = before_iri(spot);
     let b = tally_before(work, terms, store, counts, spot, t);
     let n = tally_node(work, terms, store, counts, p, node, back, text, tag, b);
-    tally_behind(work, terms, store, counts, p, behind_iri(spot), node, back, n)
+    tally_behind(
+        work,
+        terms,
+        store,
+        counts,
+        p,
+        behind_iri(spot),
+        node,
+        back,
+        n,
+    )
 }
 
 fn tally_close(
@@ -611,8 +634,8 @@ fn counts_in(st: &[usize; Layout::WORDS]) -> Counts
     }
 }
 
-// No token asks for more than so many terms and bytes.
-fn at_least(t: Tally, terms: usize, bytes: usize) -> Tally
+// The tally with so many terms and bytes more.
+fn raised(t: Tally, terms: usize, bytes: usize) -> Tally
     requires { ⌜ Small t 4294967295 × ((terms ≤ 5) × (bytes ≤ 4194304)) ⌝ }
     ensures { λ r. ⌜ r ≡ tally (t .terms + terms) (t .bytes + bytes) ⌝ }
 {
@@ -640,11 +663,22 @@ pub fn room_to_place(
 {
     let count = rows_in(st) + (before_rows(spot) + behind_rows(spot));
     let t = tally_in(st);
-    let most = at_least(t, 5, 1120 + (text.len() + tag.len()));
+    let most = raised(t, 5, 1120 + (text.len() + tag.len()));
     if refusal(rows, terms, store, count, most) == 0 {
         return 0;
     }
-    let exact = tally_place(work, terms, store, counts_in(st), spot, node, back, text, tag, t);
+    let exact = tally_place(
+        work,
+        terms,
+        store,
+        counts_in(st),
+        spot,
+        node,
+        back,
+        text,
+        tag,
+        t,
+    );
     refusal(rows, terms, store, count, exact)
 }
 
@@ -662,7 +696,7 @@ pub fn room_to_open(
 {
     let count = rows_in(st) + before_rows(spot);
     let t = tally_in(st);
-    let most = at_least(t, 2, 48);
+    let most = raised(t, 2, 48);
     if refusal(rows, terms, store, count, most) == 0 {
         return 0;
     }
@@ -684,7 +718,7 @@ pub fn room_to_close(
 {
     let count = rows_in(st) + close_rows(spot);
     let t = tally_in(st);
-    let most = at_least(t, 2, 96);
+    let most = raised(t, 2, 96);
     if refusal(rows, terms, store, count, most) == 0 {
         return 0;
     }

@@ -4,23 +4,16 @@ use Rattle.room.proofs.Tests.{before-iri-first}
 use borrow.Author.Needs.{needs}
 use Rattle.room.proofs.before_iri.Statement.{statement}
 use Rattle.room.proofs.before_iri.Tie as tie
-use Rattle.room.proofs.before_iri.Reads as reads
-use Rattle.room.proofs.before_iri.Lts as lts
-use Rattle.room.proofs.place_iri.Reads as place-iri-reads
 
--- src/lib.rt:452:13
 place-iri-requires : tie.Need-place-iri-requires
 place-iri-requires c κs = search needs
 
--- src/lib.rt:452:13
 returns : tie.Need-returns
 returns c = search before-iri-first
 
--- src/lib.rt:454:9
 returns-2 : tie.Need-returns-2
 returns-2 c = search before-iri-later
 
--- src/lib.rt:445:1
 returns-3 : tie.Need-returns-3
 returns-3 c = search before-iri-none
 

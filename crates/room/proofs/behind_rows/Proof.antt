@@ -3,19 +3,13 @@ use Rattle.room.proofs.Tests.{behind-rows-list}
 use borrow.Author.Needs.{needs}
 use Rattle.room.proofs.behind_rows.Statement.{statement}
 use Rattle.room.proofs.behind_rows.Tie as tie
-use Rattle.room.proofs.behind_rows.Reads as reads
-use Rattle.room.proofs.behind_rows.Lts as lts
-use Rattle.room.proofs.place_rows.Reads as place-rows-reads
 
--- src/lib.rt:495:9
 returns : tie.Need-returns
 returns c = search behind-rows-list
 
--- src/lib.rt:497:5
 place-rows-requires : tie.Need-place-rows-requires
 place-rows-requires c κs = search needs
 
--- src/lib.rt:490:1
 returns-2 : tie.Need-returns-2
 returns-2 c = search behind-rows-none
 

@@ -3,19 +3,13 @@ use Rattle.room.proofs.Tests.{close-first}
 use borrow.Author.Needs.{needs}
 use Rattle.room.proofs.close_rows.Statement.{statement}
 use Rattle.room.proofs.close_rows.Tie as tie
-use Rattle.room.proofs.close_rows.Reads as reads
-use Rattle.room.proofs.close_rows.Lts as lts
-use Rattle.room.proofs.place_rows.Reads as place-rows-reads
 
--- src/lib.rt:464:9
 place-rows-requires : tie.Need-place-rows-requires
 place-rows-requires c κs = search needs
 
--- src/lib.rt:464:9
 returns : tie.Need-returns
 returns c = search close-first
 
--- src/lib.rt:459:1
 returns-2 : tie.Need-returns-2
 returns-2 c = search close-later
 

@@ -4,45 +4,31 @@ use Rattle.index.proofs.Indexes.{searchable, end-part}
 use borrow.Author.Needs.{needs}
 use Rattle.room.proofs.find_text.Statement.{statement}
 use Rattle.room.proofs.find_text.Tie as tie
-use Rattle.room.proofs.find_text.Reads as reads
-use Rattle.room.proofs.find_text.Lts as lts
-use Rattle.form.proofs.hash_joined.Reads as hash-joined-reads
-use Rattle.index.proofs.find.Reads as find-reads
-use Rattle.limits.proofs.Limits.work_size.Reads as work-size-reads
 
--- src/lib.rt:201:9
 work-size-requires : tie.Need-work-size-requires
 work-size-requires c κs = search needs
 
--- src/lib.rt:202:33
 slice-aggregate-hash-joined : tie.Need-slice-aggregate-hash-joined
 slice-aggregate-hash-joined c = search needs
 
--- src/lib.rt:202:9
 hash-joined-requires : tie.Need-hash-joined-requires
 hash-joined-requires c κs = search needs
 
--- src/lib.rt:204:9
 sub-find : tie.Need-sub-find
 sub-find c = search needs
 
--- src/lib.rt:204:9
 part-find-start : tie.Need-part-find-start
 part-find-start c = search needs
 
--- src/lib.rt:204:9
 part-find-end : tie.Need-part-find-end
 part-find-end c = search needs
 
--- src/lib.rt:210:9
 slice-aggregate-find : tie.Need-slice-aggregate-find
 slice-aggregate-find c = search needs
 
--- src/lib.rt:203:5
 find-requires : tie.Need-find-requires
 find-requires c κs = (rw (end-part (c .before .before .before .before .work-size .result) work-size (c .before .before .before .before .before .before .before .before .before .before .args .work .now) (c .before .before .before .before .work-size .ensures)) (searchable (c .before .before .before .before .before .before .before .before .before .before .pre .1 .0) _ _ _ _ (c .before .before .before .before .before .before .before .before .before .before .pre .1 .1)), c .before .before .hash-joined .ensures .0)
 
--- src/lib.rt:188:1
 returns : tie.Need-returns
 unfolding joined
 returns c = λ ts t H M f. c .find .ensures ts t (rw (end-part (c .before .before .before .before .before .work-size .result) work-size (c .before .before .before .before .before .before .before .before .before .before .before .args .work .now) (c .before .before .before .before .before .work-size .ensures)) H) M f

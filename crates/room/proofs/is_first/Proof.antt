@@ -3,31 +3,22 @@ use Rattle.room.specs.Asks.{supplied}
 use borrow.Author.Needs.{needs}
 use Rattle.room.proofs.is_first.Statement.{statement}
 use Rattle.room.proofs.is_first.Tie as tie
-use Rattle.room.proofs.is_first.Reads as reads
-use Rattle.room.proofs.is_first.Lts as lts
-use Rattle.form.proofs.same_joined.Reads as same-joined-reads
 
--- src/lib.rt:151:9
 sub-same-joined : tie.Need-sub-same-joined
 sub-same-joined c = search needs
 
--- src/lib.rt:151:9
 part-same-joined-start : tie.Need-part-same-joined-start
 part-same-joined-start c = search needs
 
--- src/lib.rt:151:9
 part-same-joined-end : tie.Need-part-same-joined-end
 part-same-joined-end c = search needs
 
--- src/lib.rt:154:9
 slice-aggregate-same-joined : tie.Need-slice-aggregate-same-joined
 slice-aggregate-same-joined c = search needs
 
--- src/lib.rt:150:5
 same-joined-requires : tie.Need-same-joined-requires
 same-joined-requires c κs = search needs
 
--- src/lib.rt:143:1
 returns : tie.Need-returns
 unfolding is-supplied supplied
 returns c = c .same-joined .ensures

@@ -3,22 +3,16 @@ use Rattle.room.proofs.Tests.{more-new}
 use borrow.Author.Needs.{needs}
 use Rattle.room.proofs.more.Statement.{statement}
 use Rattle.room.proofs.more.Tie as tie
-use Rattle.room.proofs.more.Reads as reads
-use Rattle.room.proofs.more.Lts as lts
 
--- src/lib.rt:41:20
 add-t5 : tie.Need-add-t5
 add-t5 c = search needs
 
--- src/lib.rt:42:20
 add-t6 : tie.Need-add-t6
 add-t6 c = search needs
 
--- src/lib.rt:40:9
 returns : tie.Need-returns
 returns c = search more-new
 
--- src/lib.rt:35:1
 returns-2 : tie.Need-returns-2
 returns-2 c = search more-old
 

@@ -3,18 +3,13 @@ use Rattle.room.proofs.Tests.{iri-element}
 use borrow.Author.Needs.{needs}
 use Rattle.room.proofs.place_iri.Statement.{statement}
 use Rattle.room.proofs.place_iri.Tie as tie
-use Rattle.room.proofs.place_iri.Reads as reads
-use Rattle.room.proofs.place_iri.Lts as lts
 
--- src/lib.rt:427:9
 returns : tie.Need-returns
 returns c = search needs
 
--- src/lib.rt:430:9
 returns-2 : tie.Need-returns-2
 returns-2 c = search iri-element
 
--- src/lib.rt:423:1
 returns-3 : tie.Need-returns-3
 returns-3 c = search iri-object
 

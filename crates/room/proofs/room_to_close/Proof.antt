@@ -7,59 +7,39 @@ use Rattle.room.proofs.Refusing.{held, rows-small, tally-small, close-s
 use borrow.Author.Needs.{needs}
 use Rattle.room.proofs.room_to_close.Statement.{statement}
 use Rattle.room.proofs.room_to_close.Tie as tie
-use Rattle.room.proofs.room_to_close.Reads as reads
-use Rattle.room.proofs.room_to_close.Lts as lts
-use Rattle.room.proofs.at_least.Reads as at-least-reads
-use Rattle.room.proofs.close_rows.Reads as close-rows-reads
-use Rattle.room.proofs.counts_in.Reads as counts-in-reads
-use Rattle.room.proofs.refusal.Reads as refusal-reads
-use Rattle.room.proofs.rows_in.Reads as rows-in-reads
-use Rattle.room.proofs.tally_close.Reads as tally-close-reads
-use Rattle.room.proofs.tally_in.Reads as tally-in-reads
 
--- src/lib.rt:685:17
 rows-in-requires : tie.Need-rows-in-requires
 rows-in-requires c κs = search needs
 
--- src/lib.rt:685:31
 close-rows-requires : tie.Need-close-rows-requires
 close-rows-requires c κs = search needs
 
--- src/lib.rt:685:17
 add-count : tie.Need-add-count
 add-count c = omega (arith, c .close-rows .ensures, few-end-rows (c .before .before .before .before .before .before .args .spot), c .before .rows-in .ensures, rows-small (c .before .before .before .before .before .before .args .work .now) (tables (c .before .before .before .before .before .before .args .rows .now) (c .before .before .before .before .before .before .args .terms .now) (c .before .before .before .before .before .before .args .store .now)) (c .before .before .before .before .before .before .args .st .now) (c .before .before .before .before .before .before .pre))
 
--- src/lib.rt:686:9
 tally-in-requires : tie.Need-tally-in-requires
 tally-in-requires c κs = search needs
 
--- src/lib.rt:687:9
-at-least-requires : tie.Need-at-least-requires
-at-least-requires c κs = (tally-small (c .before .before .before .before .before .before .before .args .work .now) (tables (c .before .before .before .before .before .before .before .args .rows .now) (c .before .before .before .before .before .before .before .args .terms .now) (c .before .before .before .before .before .before .before .args .store .now)) (c .before .before .before .before .before .before .before .args .st .now) (c .tally-in .result) (c .tally-in .ensures) (c .before .before .before .before .before .before .before .pre), (omega arith, omega (arith)))
+raised-requires : tie.Need-raised-requires
+raised-requires c κs = (tally-small (c .before .before .before .before .before .before .before .args .work .now) (tables (c .before .before .before .before .before .before .before .args .rows .now) (c .before .before .before .before .before .before .before .args .terms .now) (c .before .before .before .before .before .before .before .args .store .now)) (c .before .before .before .before .before .before .before .args .st .now) (c .tally-in .result) (c .tally-in .ensures) (c .before .before .before .before .before .before .before .pre), (omega arith, omega (arith)))
 
--- src/lib.rt:688:8
 refusal-requires : tie.Need-refusal-requires
 refusal-requires c κs = search needs
 
--- src/lib.rt:689:9
 returns : tie.Need-returns
-returns c = close-surely (c .before .before .before .before .before .before .before .before .before .before .args .work .now) (tables (c .before .before .before .before .before .before .before .before .before .before .args .rows .now) (c .before .before .before .before .before .before .before .before .before .before .args .terms .now) (c .before .before .before .before .before .before .before .before .before .before .args .store .now)) (c .before .before .before .before .before .before .before .before .before .before .args .st .now) (c .before .before .before .before .before .before .before .before .before .before .args .spot)   (c .before .before .before .before .before .rows-in .result + c .before .before .before .before .close-rows .result)  (c .before .before .before .tally-in .result) (c .before .before .at-least .result) (omega (arith, c .before .before .before .before .before .rows-in .ensures, c .before .before .before .before .close-rows .ensures)) (c .before .before .before .tally-in .ensures) (c .before .before .at-least .ensures) (sym (c .before .refusal .ensures) ∙ c .if1 .taken)
+returns c = close-surely (c .before .before .before .before .before .before .before .before .before .before .args .work .now) (tables (c .before .before .before .before .before .before .before .before .before .before .args .rows .now) (c .before .before .before .before .before .before .before .before .before .before .args .terms .now) (c .before .before .before .before .before .before .before .before .before .before .args .store .now)) (c .before .before .before .before .before .before .before .before .before .before .args .st .now) (c .before .before .before .before .before .before .before .before .before .before .args .spot) (c .before .before .before .before .before .rows-in .result + c .before .before .before .before .close-rows .result) (c .before .before .before .tally-in .result) (c .before .before .raised .result) (omega (arith, c .before .before .before .before .before .rows-in .ensures, c .before .before .before .before .close-rows .ensures)) (c .before .before .before .tally-in .ensures) (c .before .before .raised .ensures) (sym (c .before .refusal .ensures) ∙ c .if1 .taken)
 
--- src/lib.rt:691:49
 counts-in-requires : tie.Need-counts-in-requires
 counts-in-requires c κs = search needs
 
--- src/lib.rt:691:9
 tally-close-requires : tie.Need-tally-close-requires
 tally-close-requires c κs = (held (c .before .before .before .before .before .before .before .before .before .before .before .args .work .now) (tables (c .before .before .before .before .before .before .before .before .before .before .before .args .rows .now) (c .before .before .before .before .before .before .before .before .before .before .before .args .terms .now) (c .before .before .before .before .before .before .before .before .before .before .before .args .store .now)) (c .before .before .before .before .before .before .before .before .before .before .before .args .st .now) (c .counts-in .result) (c .counts-in .ensures) (c .before .before .before .before .before .before .before .before .before .before .before .pre), tally-small (c .before .before .before .before .before .before .before .before .before .before .before .args .work .now) (tables (c .before .before .before .before .before .before .before .before .before .before .before .args .rows .now) (c .before .before .before .before .before .before .before .before .before .before .before .args .terms .now) (c .before .before .before .before .before .before .before .before .before .before .before .args .store .now)) (c .before .before .before .before .before .before .before .before .before .before .before .args .st .now) (c .before .before .before .before .tally-in .result) (c .before .before .before .before .tally-in .ensures) (c .before .before .before .before .before .before .before .before .before .before .before .pre))
 
--- src/lib.rt:692:5
 refusal-requires-2 : tie.Need-refusal-requires-2
 refusal-requires-2 c κs = search needs
 
--- src/lib.rt:674:1
 returns-2 : tie.Need-returns-2
-returns-2 c = close-exactly (c .before .before .before .before .before .before .before .before .before .before .before .before .before .args .work .now) (tables (c .before .before .before .before .before .before .before .before .before .before .before .before .before .args .rows .now) (c .before .before .before .before .before .before .before .before .before .before .before .before .before .args .terms .now) (c .before .before .before .before .before .before .before .before .before .before .before .before .before .args .store .now)) (c .before .before .before .before .before .before .before .before .before .before .before .before .before .args .st .now) (c .before .before .before .before .before .before .before .before .before .before .before .before .before .args .spot)  (c .before .before .before .before .before .before .before .before .rows-in .result + c .before .before .before .before .before .before .before .close-rows .result)  (c .before .before .before .before .before .before .tally-in .result) (c .before .tally-close .result) (c .before .before .counts-in .result) (c .refusal2 .result) (omega (arith, c .before .before .before .before .before .before .before .before .rows-in .ensures, c .before .before .before .before .before .before .before .close-rows .ensures)) (c .before .before .before .before .before .before .tally-in .ensures) (c .before .before .counts-in .ensures) (c .before .tally-close .ensures) (c .refusal2 .ensures)
+returns-2 c = close-exactly (c .before .before .before .before .before .before .before .before .before .before .before .before .before .args .work .now) (tables (c .before .before .before .before .before .before .before .before .before .before .before .before .before .args .rows .now) (c .before .before .before .before .before .before .before .before .before .before .before .before .before .args .terms .now) (c .before .before .before .before .before .before .before .before .before .before .before .before .before .args .store .now)) (c .before .before .before .before .before .before .before .before .before .before .before .before .before .args .st .now) (c .before .before .before .before .before .before .before .before .before .before .before .before .before .args .spot) (c .before .before .before .before .before .before .before .before .rows-in .result + c .before .before .before .before .before .before .before .close-rows .result) (c .before .before .before .before .before .before .tally-in .result) (c .before .tally-close .result) (c .before .before .counts-in .result) (c .refusal2 .result) (omega (arith, c .before .before .before .before .before .before .before .before .rows-in .ensures, c .before .before .before .before .before .before .before .close-rows .ensures)) (c .before .before .before .before .before .before .tally-in .ensures) (c .before .before .counts-in .ensures) (c .before .tally-close .ensures) (c .refusal2 .ensures)
 
 pub room-to-close-spec : {M : Type 1} → statement M
 room-to-close-spec =
@@ -69,7 +49,7 @@ room-to-close-spec =
     close-rows-requires
     add-count
     tally-in-requires
-    at-least-requires
+    raised-requires
     refusal-requires
     returns
     counts-in-requires

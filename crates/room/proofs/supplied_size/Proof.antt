@@ -1,21 +1,15 @@
 use mathlib.Core.Path.{ap}
 use Rattle.room.specs.Asks.{supplied}
 use Rattle.room.proofs.Tests.{sized, size-first, size-rest, size-nil, supplied-nil}
-use borrow.Author.Needs.{needs}
 use Rattle.room.proofs.supplied_size.Statement.{statement}
 use Rattle.room.proofs.supplied_size.Tie as tie
-use Rattle.room.proofs.supplied_size.Reads as reads
-use Rattle.room.proofs.supplied_size.Lts as lts
 
--- src/lib.rt:134:9
 returns : tie.Need-returns
 returns c = sized (c .before .args .p) 48 1 (ap supplied (c .if1 .taken)) size-first
 
--- src/lib.rt:137:9
 returns-2 : tie.Need-returns-2
 returns-2 c = sized (c .before .before .args .p) 47 2 (ap supplied (c .if2 .taken)) size-rest
 
--- src/lib.rt:130:1
 returns-3 : tie.Need-returns-3
 returns-3 c = sized (c .before .before .args .p) 46 3 (supplied-nil (c .before .before .args .p) (c .before .if1 .left) (c .if2 .left)) size-nil
 

@@ -2,32 +2,22 @@ use Rattle.room.proofs.Tests.{behind-nothing, behind-first, behind-name
 use borrow.Author.Needs.{needs}
 use Rattle.room.proofs.tally_behind.Statement.{statement}
 use Rattle.room.proofs.tally_behind.Tie as tie
-use Rattle.room.proofs.tally_behind.Reads as reads
-use Rattle.room.proofs.tally_behind.Lts as lts
-use Rattle.room.proofs.asks_first.Reads as asks-first-reads
-use Rattle.room.proofs.tally_supply.Reads as tally-supply-reads
 
--- src/lib.rt:410:9
 returns : tie.Need-returns
 returns c = λ ts H. behind-nothing ts (c .before .before .before .before .before .args .p) (c .before .before .before .before .before .args .q) (c .before .before .before .before .before .args .node) (c .before .before .before .before .before .args .work .now) (c .before .before .before .before .before .args .back .now) (c .before .before .before .before .before .args .t) (c .if1 .taken)
 
--- src/lib.rt:413:9
 returns-2 : tie.Need-returns-2
 returns-2 c = λ ts H. behind-first ts (c .before .before .before .before .before .before .args .p) (c .before .before .before .before .before .before .args .q) (c .before .before .before .before .before .before .args .node) (c .before .before .before .before .before .before .args .work .now) (c .before .before .before .before .before .before .args .back .now) (c .before .before .before .before .before .before .args .t) (c .before .if1 .left) (c .if2 .taken)
 
--- src/lib.rt:415:8
 asks-first-requires : tie.Need-asks-first-requires
 asks-first-requires c κs = search needs
 
--- src/lib.rt:416:9
 returns-3 : tie.Need-returns-3
 returns-3 c = λ ts H. behind-named ts (c .before .before .before .before .before .before .before .before .args .p) (c .before .before .before .before .before .before .before .before .args .q) (c .before .before .before .before .before .before .before .before .args .node) (c .before .before .before .before .before .before .before .before .args .work .now) (c .before .before .before .before .before .before .before .before .args .back .now) (c .before .before .before .before .before .before .before .before .args .t) (c .before .asks-first .result) (c .before .before .before .if1 .left) (c .before .before .if2 .left) (c .before .asks-first .ensures) (c .if3 .taken)
 
--- src/lib.rt:418:5
 tally-supply-requires : tie.Need-tally-supply-requires
 tally-supply-requires c κs = search needs
 
--- src/lib.rt:395:1
 returns-4 : tie.Need-returns-4
 returns-4 c = λ ts H. behind-supply ts (c .before .before .before .before .before .before .before .before .before .args .p) (c .before .before .before .before .before .before .before .before .before .args .q) (c .before .before .before .before .before .before .before .before .before .args .node) (c .before .before .before .before .before .before .before .before .before .args .work .now) (c .before .before .before .before .before .before .before .before .before .args .back .now) (c .before .before .before .before .before .before .before .before .before .args .t) (c .before .before .asks-first .result) (c .tally-supply .result) (c .before .before .before .before .if1 .left) (c .before .before .before .if2 .left) (c .before .before .asks-first .ensures) (c .before .if3 .left) (c .tally-supply .ensures ts H)
 

@@ -5,42 +5,28 @@ use Rattle.room.proofs.Tests.{no-iri, some-iri, name-length}
 use borrow.Author.Needs.{needs}
 use Rattle.room.proofs.tally_iri.Statement.{statement}
 use Rattle.room.proofs.tally_iri.Tie as tie
-use Rattle.room.proofs.tally_iri.Reads as reads
-use Rattle.room.proofs.tally_iri.Lts as lts
-use Rattle.form.proofs.undone_length.Reads as undone-length-reads
-use Rattle.room.proofs.find_iri.Reads as find-iri-reads
-use Rattle.room.proofs.is_supplied.Reads as is-supplied-reads
-use Rattle.room.proofs.more.Reads as more-reads
 
--- src/lib.rt:251:8
 is-supplied-requires : tie.Need-is-supplied-requires
 is-supplied-requires c κs = search needs
 
--- src/lib.rt:252:9
 returns : tie.Need-returns
 returns c = λ ts H. no-iri ts (c .before .before .before .before .before .before .args .p) (node-iri (c .before .before .before .before .before .before .args .node) (c .before .before .before .before .before .before .args .work .now) (c .before .before .before .before .before .before .args .back .now)) (c .before .before .before .before .before .before .args .t) (c .before .is-supplied .result) (c .before .is-supplied .ensures) (c .if1 .taken)
 
--- src/lib.rt:257:9
 find-iri-requires : tie.Need-find-iri-requires
 find-iri-requires c κs = search needs
 
--- src/lib.rt:258:16
 sub-more : tie.Need-sub-more
 sub-more c = search needs
 
--- src/lib.rt:258:30
 undone-length-requires : tie.Need-undone-length-requires
 undone-length-requires c κs = search needs
 
--- src/lib.rt:258:16
 add-more : tie.Need-add-more
 add-more c = omega (arith, name-length (c .before .before .before .before .before .before .before .before .args .node) (c .before .before .before .before .before .before .before .before .args .work .now) (c .before .before .before .before .before .before .before .before .args .back .now) (c .undone-length .result) (c .before .before .before .before .before .before .before .before .pre .1 .0) (c .undone-length .ensures), c .before .before .before .before .before .before .before .before .pre .1 .0 .short)
 
--- src/lib.rt:258:5
 more-requires : tie.Need-more-requires
 more-requires c κs = (record { terms = omega (arith, c .before .before .before .before .before .before .before .before .pre .1 .1 .terms); bytes = omega (arith, c .before .before .before .before .before .before .before .before .pre .1 .1 .bytes) }, omega (arith, name-length (c .before .before .before .before .before .before .before .before .args .node) (c .before .before .before .before .before .before .before .before .args .work .now) (c .before .before .before .before .before .before .before .before .args .back .now) (c .undone-length .result) (c .before .before .before .before .before .before .before .before .pre .1 .0) (c .undone-length .ensures), c .before .before .before .before .before .before .before .before .pre .1 .0 .short))
 
--- src/lib.rt:238:1
 returns-2 : tie.Need-returns-2
 returns-2 c = λ ts H. some-iri ts (c .before .before .before .before .before .before .before .before .before .args .p) (node-iri (c .before .before .before .before .before .before .before .before .before .args .node) (c .before .before .before .before .before .before .before .before .before .args .work .now) (c .before .before .before .before .before .before .before .before .before .args .back .now)) (c .before .before .before .before .before .before .before .before .before .args .t) (c .more .result) (c .before .before .before .before .is-supplied .result) (c .before .before .find-iri .result) (c .before .before .before .before .before .before .before .before .before .args .node .end - c .before .before .before .before .before .before .before .before .before .args .node .start + c .before .undone-length .result) (c .before .before .before .before .is-supplied .ensures) (c .before .before .before .if1 .left) (c .more .ensures) (c .before .before .find-iri .ensures ts H) (name-length (c .before .before .before .before .before .before .before .before .before .args .node) (c .before .before .before .before .before .before .before .before .before .args .work .now) (c .before .before .before .before .before .before .before .before .before .args .back .now) (c .before .undone-length .result) (c .before .before .before .before .before .before .before .before .before .pre .1 .0) (c .before .undone-length .ensures))
 

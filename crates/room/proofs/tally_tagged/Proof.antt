@@ -2,36 +2,26 @@ use Prim.Native.Nat.{_+_}
 use lib.ListN.{length, length-append}
 use Rattle.form.specs.Form.{undo}
 use Rattle.terms.specs.Keeps.{Means}
-use Rattle.dataset.specs.Terms.{iri, blank, label, literal, tagged}
+use Rattle.dataset.specs.Terms.{tagged}
 use mathlib.Core.Path.{refl}
 use native.Mathlib.Omega.{arith}
 use Rattle.room.proofs.Tests.{one-counted}
 use borrow.Author.Needs.{needs}
 use Rattle.room.proofs.tally_tagged.Statement.{statement}
 use Rattle.room.proofs.tally_tagged.Tie as tie
-use Rattle.room.proofs.tally_tagged.Reads as reads
-use Rattle.room.proofs.tally_tagged.Lts as lts
-use Rattle.form.proofs.undone_length.Reads as undone-length-reads
-use Rattle.room.proofs.find_text.Reads as find-text-reads
-use Rattle.room.proofs.more.Reads as more-reads
 
--- src/lib.rt:297:9
 find-text-requires : tie.Need-find-text-requires
 find-text-requires c κs = search needs
 
--- src/lib.rt:298:16
 undone-length-requires : tie.Need-undone-length-requires
 undone-length-requires c κs = search needs
 
--- src/lib.rt:298:16
 add-more : tie.Need-add-more
 add-more c = search needs
 
--- src/lib.rt:298:5
 more-requires : tie.Need-more-requires
 more-requires c κs = search needs
 
--- src/lib.rt:280:1
 returns : tie.Need-returns
 unfolding Means
 returns c = λ ts H. one-counted ts (tagged (undo (c .before .before .before .before .before .before .before .before .args .form) (c .before .before .before .before .before .before .before .before .args .text .now)) (c .before .before .before .before .before .before .before .before .args .tag .now)) (c .before .before .before .before .before .before .before .before .args .t) (c .more .result) (c .before .before .find-text .result) (c .before .undone-length .result + length (c .before .before .before .before .before .before .before .before .args .tag .now)) (c .more .ensures) (c .before .before .find-text .ensures ts (tagged (undo (c .before .before .before .before .before .before .before .before .args .form) (c .before .before .before .before .before .before .before .before .args .text .now)) (c .before .before .before .before .before .before .before .before .args .tag .now)) H (refl, (refl, refl)) refl) (omega (arith, length-append (undo (c .before .before .before .before .before .before .before .before .args .form) (c .before .before .before .before .before .before .before .before .args .text .now)) (c .before .before .before .before .before .before .before .before .args .tag .now), c .before .undone-length .ensures))
