@@ -431,6 +431,7 @@ fn tally_behind(
 
 // ---- Places
 
+// The IRI that is supplied where a node is held at its place, and the rows that this makes.
 fn place_iri(x: usize, y: usize) -> usize
     ensures { λ r. ⌜ r ≡ place-iri (place-of x y) ⌝ }
 {
@@ -452,7 +453,7 @@ fn place_rows(x: usize, y: usize) -> usize
     1
 }
 
-// What is supplied for a list's new cell, and what its row counts.
+// The same for a list's new cell. The end of a list makes as many rows as a new cell would.
 fn before_iri(spot: Spot) -> usize
     ensures { λ r. ⌜ r ≡ before-iri spot ⌝ }
 {
