@@ -1,0 +1,6 @@
+pub mod Asks
+pub mod Among
+pub mod Counting
+pub mod Bounds
+pub mod Tests
+pub mod Refusing
