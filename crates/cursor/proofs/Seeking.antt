@@ -111,6 +111,8 @@ module _ (doc : Text) (at b clear : ℕ) (r : Next) (size : length doc ≤ 10485
           token = λ y x. record {
             known = rw k (t .known);
             some-byte = rw (p .len-is) (t .some-byte);
+            here-valid = rw (p .at-is) (t .here-valid);
+            matched = rw (p .at-is, p .len-is, k) (t .matched);
             valid = rw (p .at-is, p .len-is) (t .valid);
             clear = rw (p .at-is, p .len-is, p .clear-is) (t .clear);
           };

@@ -314,12 +314,19 @@ module _ (doc : Text) (at b : ℕ) (v : first-bad (drop at doc) ≡ none) (e : b
         fin [] g w = absurd (none-empty (go [] (token-at []) refl w))
         fin (c ∷ cs) g w = cut-some c cs g (go (c ∷ cs) (token-at (c ∷ cs)) refl w)
 
+-- What was answered is what matched.
+hit-of : (m : Match) (k n : ℕ) → tok k n ≡ answer m → (k ≡ 0 → ⊥) → m ≡ hit k n
+hit-of nothing k n e z = absurd (z (ap (λ (t : Token). t .kind) e))
+hit-of (hit j x) k n e z = ap₂ hit (ap (λ (t : Token). t .kind) (sym e)) (ap (λ (t : Token). t .len) (sym e))
+
 -- ---- What a reader does at a place: the blanks, and the token after them
 
 -- A token was read: it is the first of the tokens left, and what follows it may be read in the same way.
 pub record Cut (doc : Text) (at b : ℕ) (r : Next) : Type 0 where
   pub tokens : rest doc at ≡ token (record { kind = kind-of-code (r .kind); start = at + b; text = take (r .len) (drop (at + b) doc) }) ∷ rest doc (at + b + r .len)
   pub valid : first-bad (drop (at + b + r .len) doc) ≡ none
+  pub here-valid : first-bad (drop (at + b) doc) ≡ none
+  pub matched : token-at (decode (drop (at + b) doc)) ≡ hit (r .kind) (r .len)
   pub known : r .kind ≤ 30
   pub some-byte : 0 < r .len
   pub clear : Clear (drop (at + b + r .len) doc) (r .clear)
@@ -334,6 +341,8 @@ module _ (doc : Text) (at b clear : ℕ) (r : Next) (v : first-bad (drop at doc)
       record {
         tokens = t .0;
         valid = t .1 .0;
+        here-valid = blanks-valid doc at b v (g .right v);
+        matched = hit-of (token-at (decode (drop (at + b) doc))) (r .kind) (r .len) right z;
         known = t .1 .1 .0;
         some-byte = t .1 .1 .1;
         clear =

@@ -19,6 +19,8 @@ module _ (doc : Text) (st st' : List ℕ) (same : (k : ℕ) → kind-word ≤ k 
       record {
         known = rw (same 71 (omega arith) (omega arith)) (t .known);
         some-byte = rw (same 73 (omega arith) (omega arith)) (t .some-byte);
+        here-valid = rw (same 72 (omega arith) (omega arith)) (t .here-valid);
+        matched = rw (same 71 (omega arith) (omega arith), same 72 (omega arith) (omega arith), same 73 (omega arith) (omega arith)) (t .matched);
         valid = rw (same 72 (omega arith) (omega arith), same 73 (omega arith) (omega arith)) (t .valid);
         clear = rw (same 72 (omega arith) (omega arith), same 73 (omega arith) (omega arith), same 74 (omega arith) (omega arith)) (t .clear);
       }

@@ -8,8 +8,10 @@ use lib.Dec.{eqb}
 use lib.ListN.{length, getD, take, drop}
 use Rattle.text.specs.Text.{Text, cond}
 use Rattle.limits.specs.Limits.{document-limit}
-use Rattle.utf8.specs.Utf8.{first-bad}
+use Rattle.utf8.specs.Utf8.{decode, first-bad}
 use Rattle.token.specs.Kind.{kind-of-code}
+use Rattle.token.specs.Regular.{hit}
+use Rattle.token.specs.Terminals.{token-at}
 use Rattle.token.specs.Tokens.{Token, Lexeme, token, unreadable}
 use Rattle.lexer.specs.Rest.{rest}
 use Rattle.lexer_words.specs.Ahead.{Clear}
@@ -35,6 +37,8 @@ ahead doc kind at len =
 pub record TokenHere (doc : Text) (st : List ℕ) : Type 0 where
   pub known : getD st kind-word 0 ≤ 30
   pub some-byte : 0 < getD st len-word 0
+  pub here-valid : first-bad (drop (getD st at-word 0) doc) ≡ none
+  pub matched : token-at (decode (drop (getD st at-word 0) doc)) ≡ hit (getD st kind-word 0) (getD st len-word 0)
   pub valid : first-bad (drop (getD st at-word 0 + getD st len-word 0) doc) ≡ none
   pub clear : Clear (drop (getD st at-word 0 + getD st len-word 0) doc) (getD st clear-word 0)
 
