@@ -42,8 +42,8 @@ counted-refusal : (room : Room) (n : ℕ) (c : Tally) (m : Memory) → n ≡ len
 unfolding refusal-of room-refusal
 counted-refusal room n c m e C = rw (e, C .terms, C .bytes)
 
-most : (n : ℕ) → at-most n ≤ 4294967295
-most n = by (leb n 4294967295) (λ e. rw e (leb-true n 4294967295 e)) (λ e. rw e (omega arith))
+most : (n : ℕ) → at-most n ≤ 4294967294
+most n = by (leb n 4294967294) (λ e. rw e (leb-true n 4294967294 e)) (λ e. rw e (omega arith))
 
 module _ (work : Text) (t : Tables) (st : List ℕ) where
   module _ (old : Tables) (m : Memory) (R : Represents old m work t st) where
@@ -59,10 +59,10 @@ module _ (work : Text) (t : Tables) (st : List ℕ) where
   pub held : (q : Counts) → q ≡ counts-of st → Represented work t st → Held work (t .terms) (t .store) q
   held q e (old, (m, R)) = rw e (R .usable .room, (m .terms, R .terms-held))
 
-  pub rows-small : Represented work t st → rows-in st ≤ 4294967295
+  pub rows-small : Represented work t st → rows-in st ≤ 4294967294
   rows-small (old, (m, R)) = omega (arith, R .rows-held .size, R .fits .rows, most (length (t .rows) / 5))
 
-  pub tally-small : (u : Tally) → u ≡ tally-in st → Represented work t st → Small u 4294967295
+  pub tally-small : (u : Tally) → u ≡ tally-in st → Represented work t st → Small u 4294967294
   tally-small u e (old, (m, R)) =
       rw e
       (record {

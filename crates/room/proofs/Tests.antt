@@ -265,11 +265,11 @@ all-parts ts s n work back text tag c b d r p q e f g h k = k ∙ rw (h, g, e, f
 
 -- ---- Room
 
-pub few : (n : ℕ) → n ≤ 4294967295 → n ≡ at-most n
-few n h = rw (le-leb n 4294967295 h)
+pub few : (n : ℕ) → n ≤ 4294967294 → n ≡ at-most n
+few n h = rw (le-leb n 4294967294 h)
 
-pub many : (n : ℕ) → 4294967295 < n → 4294967295 ≡ at-most n
-many n h = rw (lt-leb n 4294967295 h)
+pub many : (n : ℕ) → 4294967294 < n → 4294967294 ≡ at-most n
+many n h = rw (lt-leb n 4294967294 h)
 
 module _ (room : Room) (n : ℕ) (c : Tally) (a b d : ℕ) where
   pub no-rows : a ≡ room .rows → a < n → 14 ≡ refusal-of room n c

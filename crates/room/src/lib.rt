@@ -520,7 +520,7 @@ fn tally_before(
     spot: Spot,
     t: Tally,
 ) -> Tally
-    requires { ⌜ Held (now work) (now terms) (now store) counts × Small t 4294967295 ⌝ }
+    requires { ⌜ Held (now work) (now terms) (now store) counts × Small t 4294967294 ⌝ }
     ensures { λ r. ⌜ Tallies (now (work .entry)) (now (terms .entry)) (now (store .entry)) counts (λ ts. count-before ts spot t) r ⌝ }
 {
     let list = spot.list;
@@ -543,7 +543,7 @@ fn tally_place(
     tag: &[u8],
     t: Tally,
 ) -> Tally
-    requires { ⌜ Held (now work) (now terms) (now store) counts × (NodeFits node (now work) (now back) (now text) (now tag) × Small t 4294967295) ⌝ }
+    requires { ⌜ Held (now work) (now terms) (now store) counts × (NodeFits node (now work) (now back) (now text) (now tag) × Small t 4294967294) ⌝ }
     ensures { λ r. ⌜ Tallies (now (work .entry)) (now (terms .entry)) (now (store .entry)) counts (λ ts. count-place ts spot node (now (work .entry)) (now (back .entry)) (now (text .entry)) (now (tag .entry)) t) r ⌝ }
 {
     let p = before_iri(spot);
@@ -570,7 +570,7 @@ fn tally_close(
     spot: Spot,
     t: Tally,
 ) -> Tally
-    requires { ⌜ Held (now work) (now terms) (now store) counts × Small t 4294967295 ⌝ }
+    requires { ⌜ Held (now work) (now terms) (now store) counts × Small t 4294967294 ⌝ }
     ensures { λ r. ⌜ Tallies (now (work .entry)) (now (terms .entry)) (now (store .entry)) counts (λ ts. count-close ts spot t) r ⌝ }
 {
     let last = spot.last;
@@ -588,10 +588,10 @@ fn tally_close(
 fn at_most(n: usize) -> usize
     ensures { λ r. ⌜ r ≡ at-most n ⌝ }
 {
-    if n <= 4294967295 {
+    if n <= 4294967294 {
         return n;
     }
-    4294967295
+    4294967294
 }
 
 // The answer where there would be so many rows, and so many terms and bytes.
@@ -637,7 +637,7 @@ fn counts_in(st: &[usize; Layout::WORDS]) -> Counts
 
 // The tally with so many terms and bytes more.
 fn raised(t: Tally, terms: usize, bytes: usize) -> Tally
-    requires { ⌜ Small t 4294967295 × ((terms ≤ 5) × (bytes ≤ 4194304)) ⌝ }
+    requires { ⌜ Small t 4294967294 × ((terms ≤ 5) × (bytes ≤ 4194304)) ⌝ }
     ensures { λ r. ⌜ r ≡ tally (t .terms + terms) (t .bytes + bytes) ⌝ }
 {
     Tally {

@@ -55,8 +55,8 @@ Means ts sort x g (tagged s h) = (sort .kind ≡ tagged-kind) × ((s ≡ x) × (
 
 -- The numbers of one term more, with so many bytes, fit 32 bits.
 pub record Small (c : Counts) (sort : Sort) (bytes : ℕ) : Type 0 where
-  pub terms : c .terms < 4294967295
-  pub used : c .used + bytes < 4294967296
+  pub terms : c .terms < 4294967294
+  pub used : c .used + bytes < 4294967295
   pub blanks : c .blanks < 4294967296
   pub kind : sort .kind < 4294967296
   pub datatype : sort .datatype < 4294967296

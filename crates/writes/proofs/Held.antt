@@ -33,11 +33,11 @@ use Rattle.writes.specs.Steps.{CountsSet}
 
 -- ---- Room
 
-pub counted-room : (n : ℕ) → (counted n ≤ n) × (counted n ≤ 4294967295)
-counted-room n = by (leb n 4294967295) (λ e. rw e (omega arith, leb-true n 4294967295 e)) (λ e. rw e (omega (arith, leb-false n 4294967295 e), omega arith))
+pub counted-room : (n : ℕ) → (counted n ≤ n) × (counted n ≤ 4294967294)
+counted-room n = by (leb n 4294967294) (λ e. rw e (omega arith, leb-true n 4294967294 e)) (λ e. rw e (omega (arith, leb-false n 4294967294 e), omega arith))
 
-room-counted : (k n : ℕ) → k ≤ n → k ≤ 4294967295 → k ≤ counted n
-room-counted k n h l = by (leb n 4294967295) (λ e. rw e h) (λ e. rw e l)
+room-counted : (k n : ℕ) → k ≤ n → k ≤ 4294967294 → k ≤ counted n
+room-counted k n h l = by (leb n 4294967294) (λ e. rw e h) (λ e. rw e l)
 
 few-blanks : (ts : List Term) → blank-count ts ≤ length ts
 unfolding blank-count
@@ -119,14 +119,14 @@ module _ (old : Tables) (m : Memory) (work work' : Text) (rows terms terms' : Li
 -- ---- A row more
 
 pub row-room : (old : Tables) (m : Memory) (work : Text) (rows terms : List ℕ) (store : Text) (st : List ℕ) (s p o at : ℕ) → Represents old m work (tables rows terms store) st
-    → Fits (room-in (tables rows terms store)) (row s p o at m .1) → (5 * getD st rows-word 0 + 5 ≤ length rows) × (getD st rows-word 0 < 4294967295)
+    → Fits (room-in (tables rows terms store)) (row s p o at m .1) → (5 * getD st rows-word 0 + 5 ≤ length rows) × (getD st rows-word 0 < 4294967294)
 row-room old m work rows terms store st s p o at R F =
     let r : Row = record { graph = m .graph; subject = s; predicate = p; object = o; position = at } in
     let count : getD st rows-word 0 + 1 ≤ counted (length rows / 5) = omega (arith, F .rows, length-append (m .rows) (r ∷ []), R .rows-held .size) in
     (omega (arith, count, counted-room (length rows / 5) .0), omega (arith, count, counted-room (length rows / 5) .1))
 
 pub held-row : (old : Tables) (m : Memory) (work : Text) (rows rows' terms : List ℕ) (store : Text) (st : List ℕ) (s p o at : ℕ) → Represents old m work (tables rows terms store) st
-    → 5 * getD st rows-word 0 + 5 ≤ length rows → getD st rows-word 0 < 4294967295 → RowAdded rows rows' (getD st rows-word 0) (getD st graph-word 0 ∷ s ∷ p ∷ o ∷ at ∷ [])
+    → 5 * getD st rows-word 0 + 5 ≤ length rows → getD st rows-word 0 < 4294967294 → RowAdded rows rows' (getD st rows-word 0) (getD st graph-word 0 ∷ s ∷ p ∷ o ∷ at ∷ [])
     → Represents old (row s p o at m .1) work (tables rows' terms store) (set st rows-word (getD st rows-word 0 + 1))
 unfolding row-words
 held-row old m work rows rows' terms store st s p o at R room small A =

@@ -17,7 +17,7 @@ use Rattle.writes.specs.Steps.{RowReady, RowWrites}
 use Rattle.writes.proofs.Held.{row-room, held-row, held-node}
 
 module _ (s p o at : ℕ) (rows st : List ℕ) (r : RowReady s p o at rows st) where
-  pub room-for-row : (5 * getD st rows-word 0 + 5 ≤ length rows) × (getD st rows-word 0 < 4294967295)
+  pub room-for-row : (5 * getD st rows-word 0 + 5 ≤ length rows) × (getD st rows-word 0 < 4294967294)
   room-for-row = row-room (r .ready .old) (r .ready .memory) (r .work) rows (r .terms) (r .store) st s p o at (r .ready .represents) (r .ready .fits)
 
   pub row-small : (i : ℕ) → getD (getD st graph-word 0 ∷ s ∷ p ∷ o ∷ at ∷ []) i 0 < 4294967296

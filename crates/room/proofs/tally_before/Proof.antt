@@ -13,7 +13,7 @@ before-iri-requires : tie.Need-before-iri-requires
 before-iri-requires c κs = search needs
 
 tally-supply-requires : tie.Need-tally-supply-requires
-tally-supply-requires c κs = (c .before .before .before .before .before .before .pre .0, small-within (c .before .before .before .before .before .before .args .t) (more (c .before .before .before .before .before .before .args .t) 0 0) (c .before .more .result) 4294967295 1 0 8000000000 (c .before .before .before .before .before .before .pre .1) (more-within (c .before .before .before .before .before .before .args .t) 0 0) (c .before .more .ensures) (omega arith) (omega arith))
+tally-supply-requires c κs = (c .before .before .before .before .before .before .pre .0, small-within (c .before .before .before .before .before .before .args .t) (more (c .before .before .before .before .before .before .args .t) 0 0) (c .before .more .result) 4294967294 1 0 8000000000 (c .before .before .before .before .before .before .pre .1) (more-within (c .before .before .before .before .before .before .args .t) 0 0) (c .before .more .ensures) (omega arith) (omega arith))
 
 returns : tie.Need-returns
 returns c = λ ts H. before-list (c .before .before .before .before .before .before .before .args .spot) ts (c .before .before .before .before .before .before .before .args .t) (c .before .before .more .result) (c .tally-supply .result) (c .before .before-iri .result) (c .before .before .before .if1 .taken) (c .before .before-iri .ensures) (c .before .before .more .ensures) (c .tally-supply .ensures ts H)
