@@ -98,7 +98,6 @@ there-end at n h = rw (le-ltb at n h)
 module _ (doc : Text) (at b clear : ℕ) (r : Next) (size : length doc ≤ 1048576) (within : at ≤ length doc) (v : first-bad (drop at doc) ≡ none) (c : Clear (drop at doc) clear)
     (g : BlanksAt (drop at doc) b) (m : NextAt (drop (at + b) doc) (clear - b) r) (h : b ≤ length doc - at) (hn : r .len ≤ length doc - (at + b)) (st st' : List ℕ)
     (p : Put st st' (kind-there (r .kind) (at + b) (length doc)) (at + b) (r .len) (r .clear)) where
-
   sought-token : (r .kind ≡ 0 → ⊥) → Sought doc at st st'
   sought-token z =
       let t = read-token doc at b clear r v c g m z in

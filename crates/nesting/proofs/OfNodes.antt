@@ -52,8 +52,7 @@ module _ (doc : Text) (a : Held) (ready : Ready doc a) where
       let h : among term-kinds (here doc a .kind) ≡ true = among-code term-kinds (getD (a .st) kind-word 0) z (t .known) ∙ v in
       let h' : among (kw-a ∷ term-kinds) (here doc a .kind) ≡ true = among-code (kw-a ∷ term-kinds) (getD (a .st) kind-word 0) z (t .known) ∙ term-call (getD (a .st) kind-word 0) v in
       let (w, q) = term-rule (here doc a) (here doc a .kind) h' in
-      let D = P w q .gives .does in
-      (
+      let D = P w q .gives .does in (
         term-fills doc a b r ready t z P h,
         record { depth = λ e. D .done e .depth ∙ term-depth (here doc a) (getD (a .st) depth-word 0) h'; later = λ e. D .done e .later },
       )
@@ -120,8 +119,8 @@ module _ (doc : Text) (a : Held) (ready : Ready doc a) where
     pub bracket-inside : r ≡ 0 → (d : Held) (q : ℕ) → Inside doc b d q → Fills doc a d q × Steady a d q
     bracket-inside z d q n = (
       (λ f g s.
-      comes-then doc (on-top (f ∷ [])) (on-top (bracket (slot-place a) (getD (b .st) node-word 0) ∷ g ∷ [])) (on-top (g ∷ [])) a b d r q (to-bracket f g s) z
-      (comes-within doc (λ x. g ∷ x) (on-top (bracket (slot-place a) (getD (b .st) node-word 0) ∷ [])) (on-top []) b d q (n .reads (slot-place a) (s .no-node) (s .no-properties)))),
+          comes-then doc (on-top (f ∷ [])) (on-top (bracket (slot-place a) (getD (b .st) node-word 0) ∷ g ∷ [])) (on-top (g ∷ [])) a b d r q (to-bracket f g s) z
+          (comes-within doc (λ x. g ∷ x) (on-top (bracket (slot-place a) (getD (b .st) node-word 0) ∷ [])) (on-top []) b d q (n .reads (slot-place a) (s .no-node) (s .no-properties)))),
       record { depth = λ y. omega (arith, n .depth y, bracket-depth z); later = λ y. omega (arith, N .gives .does .done z .later, n .reads (object-of 1 1) (λ i. refl) (λ i. refl) .later y) },
     )
 
@@ -173,9 +172,18 @@ module _ (doc : Text) (a : Held) (ready : Ready doc a) where
       y-there = E .y-is ∙ rw (list-word-same, D .done z .spot 79 (omega arith))
 
       pub list-call : Spotted a → (Ready doc b' × Spotted b') × (0 < getD u' depth-word 0)
-      list-call s = ((list-ready, record { x = by (eqb (getD (a .st) list-word 0) 0) (λ e. rw (x-there, e) (s .x)) (λ e. rw (x-there, e) (omega (arith, next-small doc a ready)));
-        y = by (eqb (getD (a .st) list-word 0) 0) (λ e. rw (y-there, e) (s .y)) (λ e. rw (y-there, e) (omega arith));
-        opened = rw (E .opened-is) (omega (arith, place-small doc a ready)); last = rw (E .last-is) (omega arith) }), omega (arith, list-depth))
+      list-call s = (
+        (
+          list-ready,
+          record {
+            x = by (eqb (getD (a .st) list-word 0) 0) (λ e. rw (x-there, e) (s .x)) (λ e. rw (x-there, e) (omega (arith, next-small doc a ready)));
+            y = by (eqb (getD (a .st) list-word 0) 0) (λ e. rw (y-there, e) (s .y)) (λ e. rw (y-there, e) (omega arith));
+            opened = rw (E .opened-is) (omega (arith, place-small doc a ready));
+            last = rw (E .last-is) (omega arith);
+          },
+        ),
+        omega (arith, list-depth),
+      )
 
       belongs-slot : (f g : Frame) → Slot doc a f g → Belongs (slot-place a) (getD u' x-word 0) (getD u' y-word 0)
       belongs-slot f g s =
@@ -188,13 +196,13 @@ module _ (doc : Text) (a : Held) (ready : Ready doc a) where
       pub list-elements : (d : Held) (q : ℕ) → Lists doc b' d q → Fills doc a d q × Steady a d q
       list-elements d q L = (
         (λ f g s.
-        let R : Reads doc (list (slot-place a) (getD (a .st) at-word 0) no-cell ∷ []) [] b' d q =
-        subst (λ (x : List Frame). Reads doc (list (slot-place a) (getD (a .st) at-word 0) no-cell ∷ []) x b' d q) (s .no-node (list-node b' d))
-        (subst (λ (o : ℕ). Reads doc (list (slot-place a) o no-cell ∷ []) (after-node (slot-place a) (list-node b' d)) b' d q) (E .opened-is ∙ eat) (L .reads (slot-place a) (belongs-slot f g s))) in
-        comes-then doc (on-top (f ∷ [])) (on-top (list (slot-place a) (getD (a .st) at-word 0) no-cell ∷ g ∷ [])) (on-top (g ∷ [])) a b d r q (to-list f g s) z
-        (comes-then doc (on-top (list (slot-place a) (getD (a .st) at-word 0) no-cell ∷ g ∷ [])) (on-top (list (slot-place a) (getD (a .st) at-word 0) no-cell ∷ g ∷ [])) (on-top (g ∷ [])) b b' d 0 q
-        (comes-aimed doc work rows terms store u u' (E .before) (E .words) (on-top (list (slot-place a) (getD (a .st) at-word 0) no-cell ∷ g ∷ [])) ready-b) refl
-        (comes-within doc (λ x. g ∷ x) (on-top (list (slot-place a) (getD (a .st) at-word 0) no-cell ∷ [])) (on-top []) b' d q R))),
+            let R : Reads doc (list (slot-place a) (getD (a .st) at-word 0) no-cell ∷ []) [] b' d q =
+            subst (λ (x : List Frame). Reads doc (list (slot-place a) (getD (a .st) at-word 0) no-cell ∷ []) x b' d q) (s .no-node (list-node b' d))
+            (subst (λ (o : ℕ). Reads doc (list (slot-place a) o no-cell ∷ []) (after-node (slot-place a) (list-node b' d)) b' d q) (E .opened-is ∙ eat) (L .reads (slot-place a) (belongs-slot f g s))) in
+            comes-then doc (on-top (f ∷ [])) (on-top (list (slot-place a) (getD (a .st) at-word 0) no-cell ∷ g ∷ [])) (on-top (g ∷ [])) a b d r q (to-list f g s) z
+            (comes-then doc (on-top (list (slot-place a) (getD (a .st) at-word 0) no-cell ∷ g ∷ [])) (on-top (list (slot-place a) (getD (a .st) at-word 0) no-cell ∷ g ∷ [])) (on-top (g ∷ [])) b b' d 0 q
+            (comes-aimed doc work rows terms store u u' (E .before) (E .words) (on-top (list (slot-place a) (getD (a .st) at-word 0) no-cell ∷ g ∷ [])) ready-b) refl
+            (comes-within doc (λ x. g ∷ x) (on-top (list (slot-place a) (getD (a .st) at-word 0) no-cell ∷ [])) (on-top []) b' d q R))),
         record { depth = λ y. omega (arith, L .depth y, list-depth); later = λ y. omega (arith, D .done z .later, E .before 72 (omega arith), later-list y) },
       )
         where

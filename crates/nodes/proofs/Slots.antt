@@ -239,7 +239,7 @@ module _ (doc : Text) (a b : Held) (r : ℕ) (ready : Ready doc a) (here-token :
           s .rules (here doc a .kind) tied (rw k) ∙ rw k,
           λ old m x. (
             rw (s .opens old m x, s .begins old m x),
-            λ y. rw (s .opens old m x) (ap (λ (n : ℕ). bracket (slot-place a) n ∷ g ∷ []) (sym (G .node y old m x) )),
+            λ y. rw (s .opens old m x) (ap (λ (n : ℕ). bracket (slot-place a) n ∷ g ∷ []) (sym (G .node y old m x))),
           ),
         ),
       ))

@@ -37,18 +37,7 @@ pub fn place(
     if r != 0 {
         return r;
     }
-    writes::write_placed(
-        work,
-        rows,
-        terms,
-        store,
-        st,
-        spot,
-        node,
-        back,
-        text,
-        tag,
-    );
+    writes::write_placed(work, rows, terms, store, st, spot, node, back, text, tag);
     0
 }
 

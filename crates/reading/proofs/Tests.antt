@@ -39,7 +39,6 @@ refusal-some ts z = go (first-refusal ts) z
 
 -- ---- Kinds
 
-
 pub code-back : (k : ℕ) → (k ≡ 0 → ⊥) → k ≤ 30 → kind-code (kind-of-code k) ≡ k
 code-back zero z h = absurd (z refl)
 code-back (suc n) z h = eqb-true (kind-code (kind-of-code (suc n))) (suc n) (is-true (eqb (kind-code (kind-of-code (suc n))) (suc n)) (below-at (λ i. eqb (kind-code (kind-of-code (suc i))) (suc i)) 30 tt n (omega arith)))

@@ -1,3 +1,4 @@
+use Rattle.placing.proofs.Putting.{put-ready, put-asked, put-refused, put-written}
 use borrow.Author.Needs.{needs}
 use Rattle.placing.proofs.close.Statement.{statement}
 use Rattle.placing.proofs.close.Tie as tie
@@ -56,7 +57,7 @@ part-room-to-close-end-4 c = search needs
 
 -- src/lib.rt:87:9
 room-to-close-requires : tie.Need-room-to-close-requires
-room-to-close-requires c κs = search needs
+room-to-close-requires c κs = put-asked _ _ _ _ _ (c .before .before .before .before .before .before .before .before .before .before .before .before .before .pre .0)
 
 -- src/lib.rt:89:9
 same-length : tie.Need-same-length
@@ -76,11 +77,11 @@ same-length-4 c = search needs
 
 -- src/lib.rt:89:9
 returns : tie.Need-returns
-returns c = search needs
+returns c = search put-refused
 
 -- src/lib.rt:91:5
 write-closed-requires : tie.Need-write-closed-requires
-write-closed-requires c κs = search needs
+write-closed-requires c κs = (put-ready _ _ _ _ _ _ _ (c .before .before .before .before .before .before .room-to-close .ensures) (c .before .before .before .before .before .if1 .left) (c .before .before .before .before .before .before .before .before .before .before .before .before .before .before .before .before .before .before .before .before .pre .0), c .before .before .before .before .before .before .before .before .before .before .before .before .before .before .before .before .before .before .before .before .pre .1)
 
 -- src/lib.rt:76:1
 same-length-5 : tie.Need-same-length-5
@@ -100,7 +101,7 @@ same-length-8 c = search needs
 
 -- src/lib.rt:76:1
 returns-2 : tie.Need-returns-2
-returns-2 c = search needs
+returns-2 c = search put-written
 
 pub close-spec : {M : Type 1} → statement M
 close-spec =

@@ -1,3 +1,4 @@
+use Rattle.placing.proofs.Putting.{put-ready, put-asked, put-refused, put-written}
 use borrow.Author.Needs.{needs}
 use Rattle.placing.proofs.open.Statement.{statement}
 use Rattle.placing.proofs.open.Tie as tie
@@ -56,7 +57,7 @@ part-room-to-open-end-4 c = search needs
 
 -- src/lib.rt:67:9
 room-to-open-requires : tie.Need-room-to-open-requires
-room-to-open-requires c κs = search needs
+room-to-open-requires c κs = put-asked _ _ _ _ _ (c .before .before .before .before .before .before .before .before .before .before .before .before .before .pre .0)
 
 -- src/lib.rt:69:9
 same-length : tie.Need-same-length
@@ -76,11 +77,11 @@ same-length-4 c = search needs
 
 -- src/lib.rt:69:9
 returns : tie.Need-returns
-returns c = search needs
+returns c = search put-refused
 
 -- src/lib.rt:71:5
 write-opened-requires : tie.Need-write-opened-requires
-write-opened-requires c κs = search needs
+write-opened-requires c κs = (put-ready _ _ _ _ _ _ _ (c .before .before .before .before .before .before .room-to-open .ensures) (c .before .before .before .before .before .if1 .left) (c .before .before .before .before .before .before .before .before .before .before .before .before .before .before .before .before .before .before .before .before .pre .0), c .before .before .before .before .before .before .before .before .before .before .before .before .before .before .before .before .before .before .before .before .pre .1)
 
 -- src/lib.rt:56:1
 same-length-5 : tie.Need-same-length-5
@@ -100,7 +101,7 @@ same-length-8 c = search needs
 
 -- src/lib.rt:56:1
 returns-2 : tie.Need-returns-2
-returns-2 c = search needs
+returns-2 c = search put-written
 
 pub open-spec : {M : Type 1} → statement M
 open-spec =

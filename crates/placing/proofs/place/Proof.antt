@@ -1,3 +1,4 @@
+use Rattle.placing.proofs.Putting.{put-ready-node, put-asked, put-node, put-refused-node, put-written-node}
 use borrow.Author.Needs.{needs}
 use Rattle.placing.proofs.place.Statement.{statement}
 use Rattle.placing.proofs.place.Tie as tie
@@ -56,7 +57,7 @@ part-room-to-place-end-4 c = search needs
 
 -- src/lib.rt:25:9
 room-to-place-requires : tie.Need-room-to-place-requires
-room-to-place-requires c κs = search needs
+room-to-place-requires c κs = (put-asked _ _ _ _ _ (c .before .before .before .before .before .before .before .before .before .before .before .before .before .before .before .before .pre .0), put-node _ _ _ _ _ (c .before .before .before .before .before .before .before .before .before .before .before .before .before .before .before .before .pre .1 .1))
 
 -- src/lib.rt:38:9
 same-length : tie.Need-same-length
@@ -76,11 +77,11 @@ same-length-4 c = search needs
 
 -- src/lib.rt:38:9
 returns : tie.Need-returns
-returns c = search needs
+returns c = search put-refused-node
 
 -- src/lib.rt:40:5
 write-placed-requires : tie.Need-write-placed-requires
-write-placed-requires c κs = search needs
+write-placed-requires c κs = (put-ready-node _ _ _ _ _ _ _ _ _ _ _ (c .before .before .before .before .before .before .room-to-place .ensures) (c .before .before .before .before .before .if1 .left) (c .before .before .before .before .before .before .before .before .before .before .before .before .before .before .before .before .before .before .before .before .before .before .before .pre .0), c .before .before .before .before .before .before .before .before .before .before .before .before .before .before .before .before .before .before .before .before .before .before .before .pre .1)
 
 -- src/lib.rt:10:1
 same-length-5 : tie.Need-same-length-5
@@ -100,7 +101,7 @@ same-length-8 c = search needs
 
 -- src/lib.rt:10:1
 returns-2 : tie.Need-returns-2
-returns-2 c = search needs
+returns-2 c = search put-written-node
 
 pub place-spec : {M : Type 1} → statement M
 place-spec =
