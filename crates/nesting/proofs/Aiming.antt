@@ -2,7 +2,7 @@
 use mathlib.Core.Path.{_≡_, refl, sym, ap, _∙_, subst}
 use mathlib.Core.Logic.{inl, inr}
 use mathlib.Core.List.{List, [], _∷_}
-use mathlib.Core.Bool.{Bool, true}
+use mathlib.Core.Bool.{Bool, true, false, not}
 use Prim.Native.Nat.{ℕ, suc, _+_, _-_, _/_, _≤_, _<_}
 use native.Mathlib.Omega.{arith}
 use borrow.Author.Tests.{leb-true}
@@ -10,7 +10,7 @@ use lib.Dec.{leb}
 use lib.ListN.{length, getD}
 use denote.Ref.{RefT}
 use Rattle.text.specs.Text.{Text, cond}
-use Rattle.text.proofs.Compare.{by}
+use Rattle.text.proofs.Compare.{by, contrary}
 use Rattle.machine.specs.Frame.{Open}
 use Rattle.machine.specs.Memory.{Memory}
 use Rattle.machine.specs.Read.{counted}
@@ -69,3 +69,30 @@ next-small doc a r =
 -- A place in the document fits.
 pub place-small : (doc : Text) (a : Held) → Ready doc a → getD (a .st) at-word 0 < 4294967296
 place-small doc a r = omega (arith, r .cursor .inside, r .cursor .size)
+
+-- ---- What routines ask for
+
+pub ready-words : (doc : Text) (a : Held) → Ready doc a → length (a .st) ≡ 90
+ready-words doc a r = let (old, (m, h)) = r .holds in h .usable .words
+
+pub unexpected-call : (doc : Text) (a : Held) → Ready doc a → Cursor doc (a .st) × (length (a .st) ≡ 90)
+unexpected-call doc a r = (r .cursor, ready-words doc a r)
+
+pub pass-call : (doc : Text) (a : Held) (k : ℕ) → Ready doc a → getD (a .st) kind-word 0 ≡ k → (k ≡ 0 → ⊥) → (k ≡ 31 → ⊥) → (Cursor doc (a .st) × TokenHere doc (a .st)) × (length (a .st) ≡ 90)
+pass-call doc a k r e z y = ((r .cursor, r .cursor .token (λ h. z (sym e ∙ h)) (λ h. y (sym e ∙ h))), ready-words doc a r)
+
+pub leave-call : (doc : Text) (a : Held) (k : ℕ) → Ready doc a → getD (a .st) kind-word 0 ≡ k → (k ≡ 0 → ⊥) → (k ≡ 31 → ⊥) → 0 < getD (a .st) depth-word 0 → (Cursor doc (a .st) × TokenHere doc (a .st)) × ((length (a .st) ≡ 90) × (0 < getD (a .st) depth-word 0))
+leave-call doc a k r e z y d = let w = pass-call doc a k r e z y in (w .0, (w .1, d))
+
+-- A test that was turned round.
+pub negated : (b : Bool) → not b ≡ true → b ≡ false
+negated true e = contrary (sym e)
+negated false e = refl
+
+pub affirmed : (b : Bool) → not b ≡ false → b ≡ true
+affirmed true e = refl
+affirmed false e = contrary e
+
+-- The cursor has gone on, within the document.
+pub less-left : (doc : Text) (a b : Held) → Ready doc b → getD (a .st) at-word 0 < getD (b .st) at-word 0 → length doc - getD (b .st) at-word 0 < length doc - getD (a .st) at-word 0
+less-left doc a b r h = omega (arith, r .cursor .inside)

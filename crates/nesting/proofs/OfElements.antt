@@ -19,7 +19,7 @@ use Rattle.nodes.proofs.Passing.{depth-closing}
 use Rattle.nodes.proofs.Slots.{element-slot, list-closes, cell-or-nil}
 use Rattle.nesting.specs.Nesting.{Lists, list-node}
 use Rattle.nesting.proofs.Skipping.{token-there}
-use Rattle.nesting.proofs.Aiming.{comes-aimed, ready-aimed, spotted, next-small}
+use Rattle.nesting.proofs.Aiming.{comes-aimed, ready-aimed, spotted, next-small, less-left}
 
 -- What is known of the list's first cell: where there is none yet, all is as at the start.
 abbrev pub Head : Cells → Held → Held → Type 0
@@ -80,6 +80,9 @@ module _ (doc : Text) (a₀ : Held) (spot : Spotted a₀) (work rows terms store
 
   pub elements-small : getD st' terms-word 0 + 1 < 4294967296
   elements-small = next-small doc a1 ready-1
+
+  pub elements-close-call : getD st' kind-word 0 ≡ 25 → 0 < getD (a₀ .st) depth-word 0 → (Ready doc a1 × Spotted a1) × ((getD st' kind-word 0 ≡ 25) × (0 < getD st' depth-word 0))
+  elements-close-call k d = (elements-ready, (k, omega (arith, elements-depth)))
 
   to-aimed : (place : Place) → Belongs place x y → Reads doc (list place opened no-cell ∷ []) (list place opened (I .cs) ∷ []) a₀ a1 0
   to-aimed place b =
@@ -189,5 +192,5 @@ module _ (doc : Text) (a₀ : Held) (spot : Spotted a₀) (work rows terms store
         head-new no-cell h c ec = (omega (arith, aim .before 67 (omega arith), h .1), ((λ y. k (aim .before 71 (omega arith) ∙ (h .0 ∙ y))), omega (arith, elements-small)))
         head-new (cells head l) h c ec = h
 
-    pub elements-less : r ≡ 0 → getD st at-word 0 < getD (b .st) at-word 0
-    elements-less z = omega (arith, N .1 .later z, aim .before 72 (omega arith))
+    pub elements-less : r ≡ 0 → length doc - getD (b .st) at-word 0 < length doc - getD st at-word 0
+    elements-less z = let (place, q) = some-place x y in less-left doc a b (to-element place q .ready z) (omega (arith, N .1 .later z, aim .before 72 (omega arith)))

@@ -110,8 +110,8 @@ module _ (doc : Text) (a : Held) (ready : Ready doc a) where
     pub bracket-depth : r ≡ 0 → getD (b .st) depth-word 0 ≡ getD (a .st) depth-word 0 + 1
     bracket-depth z = N .gives .does .done z .depth ∙ deeper 22 k refl
 
-    pub bracket-call : r ≡ 0 → (Ready doc b × (getD (b .st) node-word 0 < 4294967296)) × (0 < getD (b .st) depth-word 0)
-    bracket-call z = ((bracket-ready z, N .gives .small z), omega (arith, bracket-depth z))
+    pub bracket-call : r ≡ 0 → (Ready doc b × (getD (b .st) node-word 0 < 4294967296)) × ((0 < getD (b .st) node-word 0) × (0 < getD (b .st) depth-word 0))
+    bracket-call z = ((bracket-ready z, N .gives .small z), (N .positive z, omega (arith, bracket-depth z)))
       where
         bracket-ready : r ≡ 0 → Ready doc b
         bracket-ready z = ready-does doc (placed (spot-of a) (new-term (blank (bracket-node (getD (a .st) at-word 0))))) a b r ready (token-there doc (a .st) 22 (ready .cursor) k (λ h. omega arith) (λ h. omega arith)) (λ h. omega arith) (N .gives .does) z
@@ -148,12 +148,15 @@ module _ (doc : Text) (a : Held) (ready : Ready doc a) where
       record { depth = λ y. absurd (z y); later = λ y. absurd (z y) },
     )
 
+    pub list-open : r ≡ 0 → Ready doc b
+    list-open z = ready-does doc (opened-at (spot-of a)) a b r ready (token-there doc (a .st) 24 (ready .cursor) k (λ h. omega arith) (λ h. omega arith)) (λ h. omega arith) D z
+
     module _ (z : r ≡ 0) (u' : List ℕ) (at cell : ℕ) (eat : at ≡ getD (a .st) at-word 0) (ecell : cell ≡ getD (a .st) terms-word 0 + 1) (E : Entered u u' at cell) where
       abbrev b' : Held
       b' = held work rows terms store u'
 
       ready-b : Ready doc b
-      ready-b = ready-does doc (opened-at (spot-of a)) a b r ready (token-there doc (a .st) 24 (ready .cursor) k (λ h. omega arith) (λ h. omega arith)) (λ h. omega arith) D z
+      ready-b = list-open z
 
       pub list-ready : Ready doc b'
       list-ready = ready-aimed doc work rows terms store u u' (E .before) (E .words) ready-b

@@ -19,7 +19,7 @@ use Rattle.nodes.proofs.Passing.{Quiet, passed-same}
 use Rattle.nodes.proofs.Slots.{object-slot}
 use Rattle.nesting.specs.Nesting.{Objects}
 use Rattle.nesting.proofs.Skipping.{token-there}
-use Rattle.nesting.proofs.Aiming.{comes-aimed, ready-aimed, spotted}
+use Rattle.nesting.proofs.Aiming.{comes-aimed, ready-aimed, spotted, less-left}
 
 -- Before the next object.
 pub record ObjectsInv (doc : Text) (a₀ a : Held) (s p : ℕ) : Type 0 where
@@ -98,5 +98,5 @@ module _ (doc : Text) (a₀ : Held) (work₁ rows₁ terms₁ store₁ : RefT (L
       }
 
   -- The cursor has gone on.
-  pub objects-less : getD st at-word 0 < getD u' at-word 0
-  objects-less = omega (arith, P .later, N .1 .later z, aim .before 72 (omega arith))
+  pub objects-less : length doc - getD u' at-word 0 < length doc - getD st at-word 0
+  objects-less = less-left doc (held work₁ rows₁ terms₁ store₁ st) b' (comma full-stop .ready refl) (omega (arith, P .later, N .1 .later z, aim .before 72 (omega arith)))

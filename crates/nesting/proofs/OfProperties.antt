@@ -22,7 +22,7 @@ use Rattle.nodes.proofs.Predicates.{verb-reads, verb-is-term, term-depth, verbs
 use Rattle.nodes.proofs.Slots.{term-rule}
 use Rattle.nesting.specs.Nesting.{Objects, Listed, Properties, Skips}
 use Rattle.nesting.proofs.Skipping.{token-there}
-use Rattle.nesting.proofs.Aiming.{comes-aimed, ready-aimed, spotted}
+use Rattle.nesting.proofs.Aiming.{comes-aimed, ready-aimed, spotted, less-left}
 
 -- What is open where the next predicate is awaited: at first f; later what is open behind a semicolon, and the frames after it.
 pub record Awaits (doc : Text) (f : Frame) (s : ℕ) (e : Ending) (after : List Frame) (a₀ a : Held) : Type 0 where
@@ -115,6 +115,9 @@ module _ (doc : Text) (a₀ : Held) (work rows terms store : RefT (List ℕ)) (s
           steady = record { depth = λ y. absurd (z y); later = λ y. absurd (z y) };
         }
 
+    pub depth-objects : r ≡ 0 → getD (b .st) depth-word 0 ≡ getD (a₀ .st) depth-word 0
+    depth-objects z = depth-verb z
+
     -- What its objects may be called with.
     pub objects-call : r ≡ 0 → (s < 4294967296) → 0 < s → (p : ℕ) → p ≡ getD (b .st) node-word 0 → (Ready doc b × ((s < 4294967296) × (p < 4294967296))) × ((0 < s) × (0 < p))
     objects-call z hs h0 p ep =
@@ -150,11 +153,11 @@ module _ (doc : Text) (a₀ : Held) (work rows terms store : RefT (List ℕ)) (s
             steady = steady-objects;
           })
 
-      pub skips-call : q ≡ 0 → (Cursor doc (d .st) × (length (d .st) ≡ 90))
-      skips-call y =
+      pub skips-call : q ≡ 0 → getD (d .st) kind-word 0 ≡ 21 → (Cursor doc (d .st) × (length (d .st) ≡ 90)) × (getD (d .st) kind-word 0 ≡ 21)
+      skips-call y k =
           let R = to-objects (after-semicolon s full-stop) full-stop [] (verbs-semicolon s full-stop) .ready y in
           let (old, (m, h)) = R .holds in
-          (R .cursor, h .usable .words)
+          ((R .cursor, h .usable .words), k)
 
 -- Semicolons, and then more or not.
 module _ (doc : Text) (a₀ : Held) (work₁ rows₁ terms₁ store₁ : RefT (List ℕ)) (st st' : List ℕ) (s : ℕ) (I : PropertiesInv doc a₀ (held work₁ rows₁ terms₁ store₁ st) s) (aim : Aimed st st' 0 0 0 0 0)
@@ -202,5 +205,5 @@ module _ (doc : Text) (a₀ : Held) (work₁ rows₁ terms₁ store₁ : RefT (L
             };
       }
 
-  pub properties-less : getD st at-word 0 < getD u' at-word 0
-  properties-less = omega (arith, S .later, O .steady .later y, further doc a₀ work₁ rows₁ terms₁ store₁ st st' s I aim b r P z)
+  pub properties-less : length doc - getD u' at-word 0 < length doc - getD st at-word 0
+  properties-less = less-left doc (held work₁ rows₁ terms₁ store₁ st) d' (to-semicolon (after-semicolon s full-stop) full-stop [] (verbs-semicolon s full-stop) .ready refl) (omega (arith, S .later, O .steady .later y, further doc a₀ work₁ rows₁ terms₁ store₁ st st' s I aim b r P z))
