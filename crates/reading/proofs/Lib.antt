@@ -2,3 +2,4 @@ pub mod Tests
 pub mod Compose
 pub mod Steps
 pub mod Frames
+pub mod Turning

@@ -206,6 +206,24 @@ here-token : (doc : Text) (a : Held) → TokenHere doc (a .st) → (getD (a .st)
 unfolding refusal-here
 here-token doc a h p q = rw (ne-eqb (getD (a .st) kind-word 0) 31 q, no-character-code (here doc a) (getD (a .st) kind-word 0) refl p (h .known))
 
+-- Where nothing that is open takes what stands at the cursor, the machine refuses it.
+module _ (doc : Text) (a : Held) (ready : Ready doc a) (mode : Mode) (o : Open) (m : Memory) where
+  pub stopped-here : ((getD (a .st) kind-word 0 ≡ 0 → ⊥) → TokenHere doc (a .st) → (tied : Bool) → find-rule (here doc a .kind) (rules (here doc a) tied mode o) ≡ none) → ((n : ℕ) (m : Memory) → at-end o n m ≡ refused 8 n)
+      → goes mode doc a o m ≡ refused (refusal-here doc (a .st)) (getD (a .st) at-word 0)
+  stopped-here none-there ended =
+      by (eqb (getD (a .st) kind-word 0) 31) (λ p. goes-unread doc a mode o m (eqb-true (getD (a .st) kind-word 0) 31 p))
+      (λ p. by (eqb (getD (a .st) kind-word 0) 0) (λ q. at-the-end (eqb-true (getD (a .st) kind-word 0) 0 q)) (λ q. at-token (eqb-false (getD (a .st) kind-word 0) 0 q) (eqb-false (getD (a .st) kind-word 0) 31 p)))
+    where
+      at-the-end : getD (a .st) kind-word 0 ≡ 0 → goes mode doc a o m ≡ refused (refusal-here doc (a .st)) (getD (a .st) at-word 0)
+      at-the-end p = goes-ended doc a mode o m p ∙ ended (length doc) m ∙ ap₂ refused (here-end doc (a .st) p) (sym (ready .cursor .at-end p))
+
+      at-token : (getD (a .st) kind-word 0 ≡ 0 → ⊥) → (getD (a .st) kind-word 0 ≡ 31 → ⊥) → goes mode doc a o m ≡ refused (refusal-here doc (a .st)) (getD (a .st) at-word 0)
+      at-token p q =
+          let h = ready .cursor .token p q in
+          goes-step doc a h p mode o m
+          ∙ ap (onward _) (step-none mode (room-in (tables-of a)) o (getD (a .st) depth-word 0) m (here doc a) (tied-here doc a h p) (none-there p h (tied-here doc a h p)))
+          ∙ ap (λ (x : ℕ). refused x (getD (a .st) at-word 0)) (sym (here-token doc a h p q))
+
 module _ {I : Type 0} (doc : Text) (F G : I → Open) (a : Held) (ready : Ready doc a) where
   -- Nothing that is open takes what stands at the cursor.
   pub record NoRule : Type 0 where
@@ -215,29 +233,8 @@ module _ {I : Type 0} (doc : Text) (F G : I → Open) (a : Held) (ready : Ready 
   pub refused-comes : (r : ℕ) → r ≡ refusal-here doc (a .st) → NoRule → Comes doc F G a a r
   refused-comes r e none-there = record {
     same = same-all a;
-    ready = λ z. absurd (nonzero (sym e ∙ z));
-    later = λ z. absurd (nonzero (sym e ∙ z));
-    on = λ z. absurd (nonzero (sym e ∙ z));
-    stop = λ z mode old m x i. rw e (stopped mode m i);
+    ready = λ z. absurd (here-some doc (a .st) (sym e ∙ z));
+    later = λ z. absurd (here-some doc (a .st) (sym e ∙ z));
+    on = λ z. absurd (here-some doc (a .st) (sym e ∙ z));
+    stop = λ z mode old m x i. rw e (stopped-here doc a ready mode (F i) m (λ p h tied. none-there .token p h mode i tied) (λ n m′. none-there .ended i n m′));
   }
-    where
-      nonzero : refusal-here doc (a .st) ≡ 0 → ⊥
-      nonzero z = here-some doc (a .st) z
-
-      stopped : (mode : Mode) (m : Memory) (i : I) → goes mode doc a (F i) m ≡ refused (refusal-here doc (a .st)) (getD (a .st) at-word 0)
-      stopped mode m i =
-          by (eqb (getD (a .st) kind-word 0) 31) (λ p. unread mode m i (eqb-true (getD (a .st) kind-word 0) 31 p))
-          (λ p. by (eqb (getD (a .st) kind-word 0) 0) (λ q. ended mode m i (eqb-true (getD (a .st) kind-word 0) 0 q)) (λ q. taken mode m i (eqb-false (getD (a .st) kind-word 0) 0 q) (eqb-false (getD (a .st) kind-word 0) 31 p)))
-        where
-          unread : (mode : Mode) (m : Memory) (i : I) → getD (a .st) kind-word 0 ≡ 31 → goes mode doc a (F i) m ≡ refused (refusal-here doc (a .st)) (getD (a .st) at-word 0)
-          unread mode m i p = goes-unread doc a mode (F i) m p
-
-          ended : (mode : Mode) (m : Memory) (i : I) → getD (a .st) kind-word 0 ≡ 0 → goes mode doc a (F i) m ≡ refused (refusal-here doc (a .st)) (getD (a .st) at-word 0)
-          ended mode m i p = goes-ended doc a mode (F i) m p ∙ none-there .ended i (length doc) m ∙ ap₂ refused (here-end doc (a .st) p) (sym (ready .cursor .at-end p))
-
-          taken : (mode : Mode) (m : Memory) (i : I) → (getD (a .st) kind-word 0 ≡ 0 → ⊥) → (getD (a .st) kind-word 0 ≡ 31 → ⊥) → goes mode doc a (F i) m ≡ refused (refusal-here doc (a .st)) (getD (a .st) at-word 0)
-          taken mode m i p q =
-              let h = ready .cursor .token p q in
-              goes-step doc a h p mode (F i) m
-              ∙ ap (onward _) (step-none mode (room-in (tables-of a)) (F i) (getD (a .st) depth-word 0) m (here doc a) (tied-here doc a h p) (none-there .token p h mode i (tied-here doc a h p)))
-              ∙ ap (λ (x : ℕ). refused x (getD (a .st) at-word 0)) (sym (here-token doc a h p q))

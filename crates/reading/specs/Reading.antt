@@ -101,6 +101,19 @@ on-top fs k = statement (fs ++ k)
 abbrev pub Reads : Text → List Frame → List Frame → Held → Held → ℕ → Type 0
 Reads doc fs gs a b r = Comes doc (on-top fs) (on-top gs) a b r
 
+-- The same in one mode, for all that is open: between statements the rules depend on the mode.
+pub record TurnsTo (mode : Mode) (doc : Text) (old : Tables) (o p : Open) (a b : Held) (m : Memory) : Type 0 where
+  pub after : Memory
+  pub holding : Holding old after b
+  pub same : goes mode doc a o m ≡ goes mode doc b p after
+
+pub record Turns (mode : Mode) (doc : Text) (o p : Open) (a b : Held) (r : ℕ) : Type 0 where
+  pub same : Same a b
+  pub ready : r ≡ 0 → Ready doc b
+  pub later : r ≡ 0 → getD (a .st) at-word 0 ≤ getD (b .st) at-word 0
+  pub on : r ≡ 0 → (old : Tables) (m : Memory) → Holding old m a → TurnsTo mode doc old o p a b m
+  pub stop : (r ≡ 0 → ⊥) → (old : Tables) (m : Memory) → Holding old m a → goes mode doc a o m ≡ refused r (getD (b .st) at-word 0)
+
 -- ---- One token
 
 -- The refusals that a token which a statement's rule takes may meet, in number order; m is the memory that it makes.
