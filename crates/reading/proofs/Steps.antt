@@ -55,11 +55,11 @@ module _ (mode : Mode) (room : Room) (o : Open) (depth : ℕ) (m : Memory) (t : 
   unfolding step
   step-tests = rw e (ap (λ (x : Option ℕ). answer x (t .start) then-state) tests-short)
 
-  step-on : token-refusal room depth (m .environment) t (v m .1) ≡ 0 → step mode room now-state t tied ≡ go then-state
+  pub step-on : token-refusal room depth (m .environment) t (v m .1) ≡ 0 → step mode room now-state t tied ≡ go then-state
   unfolding token-refusal
   step-on z = step-tests ∙ ap (λ (x : Option ℕ). answer x (t .start) then-state) (refusal-none short refl z)
 
-  step-stop : (token-refusal room depth (m .environment) t (v m .1) ≡ 0 → ⊥) → step mode room now-state t tied ≡ stop (token-refusal room depth (m .environment) t (v m .1)) (t .start)
+  pub step-stop : (token-refusal room depth (m .environment) t (v m .1) ≡ 0 → ⊥) → step mode room now-state t tied ≡ stop (token-refusal room depth (m .environment) t (v m .1)) (t .start)
   unfolding token-refusal
   step-stop z = step-tests ∙ ap (λ (x : Option ℕ). answer x (t .start) then-state) (refusal-some short z)
 

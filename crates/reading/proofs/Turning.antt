@@ -14,18 +14,20 @@ use Rattle.token.specs.Tokens.{Token, Lexeme}
 use Rattle.grammar.specs.Productions.{Mode}
 use Rattle.lexer.specs.Rest.{rest}
 use Rattle.table.specs.Tables.{or-zero}
+use Rattle.dataset.specs.Constructors.{nothing}
 use Rattle.machine.specs.Memory.{Memory, Write}
 use Rattle.machine.specs.Frame.{Open, statement}
 use Rattle.machine.specs.Rules.{find-rule, rules}
 use Rattle.machine.specs.Refusals.{new-depth}
-use Rattle.machine.specs.Step.{Room, State, Test, first-refusal, tests, answer, step, Next, go, stop, refused, at-end, onward, run}
+use Rattle.machine.specs.Step.{Room, State, Test, first-refusal, awaited-by, tests, answer, step, Next, go, stop, refused, at-end, onward, run}
 use Rattle.state.specs.Words.{kind-word, at-word, len-word, depth-word}
 use Rattle.state.specs.Cursor.{left, Cursor, TokenHere}
 use Rattle.state.specs.Represents.{Tables, room-in}
-use Rattle.reading.specs.Reading.{Held, tables-of, here, Holding, goes, Ready, Same, Comes, TurnsTo, Turns, refusal-here}
+use Rattle.reading.specs.Reading.{Held, tables-of, here, Holding, goes, Ready, Same, Comes, TurnsTo, Turns, refusal-here, token-refusal, Does}
 use Rattle.reading.proofs.Tests.{positive, refusal-none, refusal-some}
 use Rattle.reading.proofs.Compose.{same-all, same-both, room-same}
-use Rattle.reading.proofs.Steps.{goes-step, tied-here, stopped-here, here-some}
+use Rattle.reading.proofs.Steps.{goes-step, tied-here, stopped-here, here-some, step-on, step-stop}
+use Rattle.reading.proofs.Frames.{ready-does}
 
 module _ (mode : Mode) (doc : Text) where
   pub turns-comes : {I : Type 0} (F G : I → Open) (a b : Held) (r : ℕ) → Comes doc F G a b r → (i : I) → Turns mode doc (F i) (G i) a b r
@@ -131,3 +133,30 @@ module _ (mode : Mode) (doc : Text) (o p : Open) (a b : Held) (r : ℕ) (h : Tok
           goes-step doc a h z mode o m
           ∙ ap (onward _) (stepped m ∙ ap (λ (y : Option ℕ). answer y (here doc a .start) (state-then v m)) (refusal-some (tests (room-in (tables-of a)) (state-at m) (here doc a) (some v) (state-then v m)) (λ y. e (same ∙ y))))
           ∙ ap₂ refused (sym same) (sym (t .place e))
+
+-- A routine that does what a statement's rule says in this mode.
+module _ (mode : Mode) (doc : Text) (w : Write ℕ) (o p : Open) (a b : Held) (r : ℕ) (ready : Ready doc a) (h : TokenHere doc (a .st)) (z : getD (a .st) kind-word 0 ≡ 0 → ⊥) (D : Does doc w a b r) (f : awaited-by o ≡ nothing) where
+  pub turns-does : (v : Write Open) → find-rule (here doc a .kind) (rules (here doc a) (tied-here doc a h z) mode o) ≡ some v → ((old : Tables) (m : Memory) → Holding old m a → (v m .1 ≡ w m .1) × (r ≡ 0 → v m .0 ≡ p)) → Turns mode doc o p a b r
+  turns-does v e q =
+      record {
+        same = D .same;
+        ready = ready-does doc w a b r ready h z D;
+        later = λ y. omega (arith, D .done y .later);
+        on = λ y old m x. record { after = w m .1; holding = D .done y .holding old m x; same = on-one y old m x };
+        stop = λ y old m x. stop-one y old m x;
+      }
+    where
+      on-one : r ≡ 0 → (old : Tables) (m : Memory) → Holding old m a → goes mode doc a o m ≡ goes mode doc b p (w m .1)
+      on-one y old m x =
+          goes-step doc a h z mode o m
+          ∙ ap (onward _) (step-on mode (room-in (tables-of a)) o (getD (a .st) depth-word 0) m (here doc a) (tied-here doc a h z) v e f (rw (q old m x .0) (sym (D .refusal old m x) ∙ y)))
+          ∙ ap₂ (λ (l : List Lexeme) (s : State). run mode (room-in (tables-of a)) (length doc) l s) (D .done y .tokens)
+          (ap₂ (λ (u : Open) (m′ : Memory). record { open-now = u; depth = new-depth (getD (a .st) depth-word 0) (here doc a); memory = m′ }) (q old m x .1 y) (q old m x .0))
+          ∙ sym (goes-from mode doc a b p (w m .1) (D .same) (D .done y .depth))
+
+      stop-one : (r ≡ 0 → ⊥) → (old : Tables) (m : Memory) → Holding old m a → goes mode doc a o m ≡ refused r (getD (b .st) at-word 0)
+      stop-one y old m x =
+          let same : r ≡ token-refusal (room-in (tables-of a)) (getD (a .st) depth-word 0) (m .environment) (here doc a) (v m .1) = D .refusal old m x ∙ rw (q old m x .0) in
+          goes-step doc a h z mode o m
+          ∙ ap (onward _) (step-stop mode (room-in (tables-of a)) o (getD (a .st) depth-word 0) m (here doc a) (tied-here doc a h z) v e f (λ g. y (same ∙ g)))
+          ∙ ap₂ refused (sym same) (sym (D .place y))

@@ -1,0 +1,458 @@
+// Statements, directives and graphs, to the end of the document.
+ghost use mathlib.Core.Path.{_≡_};
+ghost use mathlib.Core.List.{_∷_};
+ghost use mathlib.Core.Bool.{true};
+ghost use Prim.Native.Nat.{ℕ, _≤_, _<_};
+ghost use lib.ListN.{length, getD};
+ghost use Rattle.dataset.specs.Terms.{blank, bracket};
+ghost use Rattle.machine.specs.Memory.{new-term};
+ghost use Rattle.machine.specs.Read.{mode-of};
+ghost use Rattle.state.specs.Words.{kind-word, at-word, depth-word, x-word, list-word};
+ghost use Rattle.state.specs.Writes.{placed, opened-at};
+ghost use Rattle.reading.specs.Reading.{code-among, held, Ready, Does};
+ghost use Rattle.nodes.specs.Nodes.{spot-of, Spotted, Numbers, PutsTerm, term-kinds, verb-kinds};
+ghost use Rattle.token.specs.Kind.{kw-a};
+ghost use Rattle.nesting.specs.Nesting.{Lists, Properties};
+ghost use Rattle.statements.specs.Statements.{label-kinds, directive-kinds, Directs, Subject, Predicates, Block, Statement, ReadsAll};
+use scope::Layout;
+use state::Words;
+
+pub fn put_term(
+    doc: &&[u8],
+    work: &mut &mut [u8],
+    rows: &mut &mut [u32],
+    terms: &mut &mut [u32],
+    store: &mut &mut [u8],
+    st: &mut [usize; Layout::WORDS],
+) -> u8
+    requires { ⌜ (Ready (now (now doc)) (held (now work) (now rows) (now terms) (now store) (now st)) × Spotted (held (now work) (now rows) (now terms) (now store) (now st))) × (code-among (kw-a ∷ term-kinds) (getD (now st) kind-word 0) ≡ true) ⌝ }
+    ensures { λ r. ⌜ PutsTerm (now (now (doc .entry))) (held (now (work .entry)) (now (rows .entry)) (now (terms .entry)) (now (store .entry)) (now (st .entry))) (held (now (work .exit)) (now (rows .exit)) (now (terms .exit)) (now (store .exit)) (now (st .exit))) r ⌝ }
+{
+    0
+}
+
+pub fn put_bracket(
+    doc: &&[u8],
+    work: &mut &mut [u8],
+    rows: &mut &mut [u32],
+    terms: &mut &mut [u32],
+    store: &mut &mut [u8],
+    st: &mut [usize; Layout::WORDS],
+) -> u8
+    requires { ⌜ (Ready (now (now doc)) (held (now work) (now rows) (now terms) (now store) (now st)) × Spotted (held (now work) (now rows) (now terms) (now store) (now st))) × (getD (now st) kind-word 0 ≡ 22) ⌝ }
+    ensures { λ r. ⌜ Numbers (now (now (doc .entry))) (placed (spot-of (held (now (work .entry)) (now (rows .entry)) (now (terms .entry)) (now (store .entry)) (now (st .entry)))) (new-term (blank (bracket (getD (now (st .entry)) at-word 0))))) (held (now (work .entry)) (now (rows .entry)) (now (terms .entry)) (now (store .entry)) (now (st .entry))) (held (now (work .exit)) (now (rows .exit)) (now (terms .exit)) (now (store .exit)) (now (st .exit))) r ⌝ }
+{
+    0
+}
+
+pub fn put_paren(
+    doc: &&[u8],
+    work: &mut &mut [u8],
+    rows: &mut &mut [u32],
+    terms: &mut &mut [u32],
+    store: &mut &mut [u8],
+    st: &mut [usize; Layout::WORDS],
+) -> u8
+    requires { ⌜ (Ready (now (now doc)) (held (now work) (now rows) (now terms) (now store) (now st)) × Spotted (held (now work) (now rows) (now terms) (now store) (now st))) × (getD (now st) kind-word 0 ≡ 24) ⌝ }
+    ensures { λ r. ⌜ Does (now (now (doc .entry))) (opened-at (spot-of (held (now (work .entry)) (now (rows .entry)) (now (terms .entry)) (now (store .entry)) (now (st .entry))))) (held (now (work .entry)) (now (rows .entry)) (now (terms .entry)) (now (store .entry)) (now (st .entry))) (held (now (work .exit)) (now (rows .exit)) (now (terms .exit)) (now (store .exit)) (now (st .exit))) r ⌝ }
+{
+    0
+}
+
+pub fn properties(
+    doc: &&[u8],
+    work: &mut &mut [u8],
+    rows: &mut &mut [u32],
+    terms: &mut &mut [u32],
+    store: &mut &mut [u8],
+    st: &mut [usize; Layout::WORDS],
+    s: usize,
+) -> u8
+    requires { ⌜ (Ready (now (now doc)) (held (now work) (now rows) (now terms) (now store) (now st)) × (s < 4294967296)) × ((0 < s) × (code-among verb-kinds (getD (now st) kind-word 0) ≡ true)) ⌝ }
+    ensures { λ r. ⌜ Properties (now (now (doc .entry))) (held (now (work .entry)) (now (rows .entry)) (now (terms .entry)) (now (store .entry)) (now (st .entry))) (held (now (work .exit)) (now (rows .exit)) (now (terms .exit)) (now (store .exit)) (now (st .exit))) s r ⌝ }
+{
+    0
+}
+
+pub fn elements(
+    doc: &&[u8],
+    work: &mut &mut [u8],
+    rows: &mut &mut [u32],
+    terms: &mut &mut [u32],
+    store: &mut &mut [u8],
+    st: &mut [usize; Layout::WORDS],
+) -> u8
+    requires { ⌜ (Ready (now (now doc)) (held (now work) (now rows) (now terms) (now store) (now st)) × Spotted (held (now work) (now rows) (now terms) (now store) (now st))) × (0 < getD (now st) depth-word 0) ⌝ }
+    ensures { λ r. ⌜ Lists (now (now (doc .entry))) (held (now (work .entry)) (now (rows .entry)) (now (terms .entry)) (now (store .entry)) (now (st .entry))) (held (now (work .exit)) (now (rows .exit)) (now (terms .exit)) (now (store .exit)) (now (st .exit))) r ⌝ }
+{
+    0
+}
+
+pub fn directive(
+    doc: &&[u8],
+    work: &mut &mut [u8],
+    rows: &mut &mut [u32],
+    terms: &mut &mut [u32],
+    store: &mut &mut [u8],
+    st: &mut [usize; Layout::WORDS],
+) -> u8
+    requires { ⌜ Ready (now (now doc)) (held (now work) (now rows) (now terms) (now store) (now st)) × (code-among directive-kinds (getD (now st) kind-word 0) ≡ true) ⌝ }
+    ensures { λ r. ⌜ Directs (now (now (doc .entry))) (held (now (work .entry)) (now (rows .entry)) (now (terms .entry)) (now (store .entry)) (now (st .entry))) (held (now (work .exit)) (now (rows .exit)) (now (terms .exit)) (now (store .exit)) (now (st .exit))) r ⌝ }
+{
+    0
+}
+
+// Whether a token of this kind is a graph's label, or a subject, by itself.
+fn is_label(kind: usize) -> bool
+    ensures { λ r. ⌜ r ≡ code-among label-kinds kind ⌝ }
+{
+    match kind {
+        1 => true,
+        2 => true,
+        3 => true,
+        4 => true,
+        _ => false,
+    }
+}
+
+fn is_directive(kind: usize) -> bool
+    ensures { λ r. ⌜ r ≡ code-among directive-kinds kind ⌝ }
+{
+    match kind {
+        5 => true,
+        6 => true,
+        16 => true,
+        17 => true,
+        _ => false,
+    }
+}
+
+// A term as subject.
+fn term_subject(
+    doc: &&[u8],
+    work: &mut &mut [u8],
+    rows: &mut &mut [u32],
+    terms: &mut &mut [u32],
+    store: &mut &mut [u8],
+    st: &mut [usize; Layout::WORDS],
+) -> u8
+    requires { ⌜ Ready (now (now doc)) (held (now work) (now rows) (now terms) (now store) (now st)) × (code-among label-kinds (getD (now st) kind-word 0) ≡ true) ⌝ }
+    ensures { λ r. ⌜ Subjects (now (now (doc .entry))) (held (now (work .entry)) (now (rows .entry)) (now (terms .entry)) (now (store .entry)) (now (st .entry))) (held (now (work .exit)) (now (rows .exit)) (now (terms .exit)) (now (store .exit)) (now (st .exit))) r ⌝ }
+{
+    nodes::aim(st, 0, 0, 0, 0, 0);
+    let c = put_term(doc, work, rows, terms, store, st);
+    if c != 0 {
+        return c;
+    }
+    let n = st[Words::NODE];
+    nodes::aim(st, 0, n, 0, 0, 0);
+    0
+}
+
+// A bracket as subject.
+fn bracket_subject(
+    doc: &&[u8],
+    work: &mut &mut [u8],
+    rows: &mut &mut [u32],
+    terms: &mut &mut [u32],
+    store: &mut &mut [u8],
+    st: &mut [usize; Layout::WORDS],
+) -> u8
+    requires { ⌜ Ready (now (now doc)) (held (now work) (now rows) (now terms) (now store) (now st)) × (getD (now st) kind-word 0 ≡ 22) ⌝ }
+    ensures { λ r. ⌜ Subjects (now (now (doc .entry))) (held (now (work .entry)) (now (rows .entry)) (now (terms .entry)) (now (store .entry)) (now (st .entry))) (held (now (work .exit)) (now (rows .exit)) (now (terms .exit)) (now (store .exit)) (now (st .exit))) r ⌝ }
+{
+    nodes::aim(st, 0, 0, 0, 0, 0);
+    let c = put_bracket(doc, work, rows, terms, store, st);
+    if c != 0 {
+        return c;
+    }
+    let n = st[Words::NODE];
+    if st[Words::KIND] == 23 {
+        nodes::leave(doc, st);
+        nodes::aim(st, 0, n, 0, 0, 0);
+        return 0;
+    }
+    if !nodes::is_verb(st[Words::KIND]) {
+        return reading::unexpected(*doc, st);
+    }
+    let d = properties(doc, work, rows, terms, store, st, n);
+    if d != 0 {
+        return d;
+    }
+    if st[Words::KIND] != 23 {
+        return reading::unexpected(*doc, st);
+    }
+    nodes::leave(doc, st);
+    nodes::aim(st, 2, n, 0, 0, 0);
+    0
+}
+
+// A list as subject.
+fn list_subject(
+    doc: &&[u8],
+    work: &mut &mut [u8],
+    rows: &mut &mut [u32],
+    terms: &mut &mut [u32],
+    store: &mut &mut [u8],
+    st: &mut [usize; Layout::WORDS],
+) -> u8
+    requires { ⌜ Ready (now (now doc)) (held (now work) (now rows) (now terms) (now store) (now st)) × (getD (now st) kind-word 0 ≡ 24) ⌝ }
+    ensures { λ r. ⌜ Subjects (now (now (doc .entry))) (held (now (work .entry)) (now (rows .entry)) (now (terms .entry)) (now (store .entry)) (now (st .entry))) (held (now (work .exit)) (now (rows .exit)) (now (terms .exit)) (now (store .exit)) (now (st .exit))) r ⌝ }
+{
+    let at = st[Words::AT];
+    nodes::aim(st, 0, 0, 0, 0, 0);
+    let c = put_paren(doc, work, rows, terms, store, st);
+    if c != 0 {
+        return c;
+    }
+    nodes::aim(st, 0, 0, 0, at, 0);
+    let kind = st[Words::KIND];
+    let first = st[Words::TERMS] + 1;
+    let d = elements(doc, work, rows, terms, store, st);
+    if d != 0 {
+        return d;
+    }
+    if kind == 25 {
+        let n = st[Words::NODE];
+        nodes::aim(st, 1, n, 0, 0, 0);
+        return 0;
+    }
+    nodes::aim(st, 1, first, 0, 0, 0);
+    0
+}
+
+fn subject(
+    doc: &&[u8],
+    work: &mut &mut [u8],
+    rows: &mut &mut [u32],
+    terms: &mut &mut [u32],
+    store: &mut &mut [u8],
+    st: &mut [usize; Layout::WORDS],
+) -> u8
+    requires { ⌜ Ready (now (now doc)) (held (now work) (now rows) (now terms) (now store) (now st)) ⌝ }
+    ensures { λ r. ⌜ Subjects (now (now (doc .entry))) (held (now (work .entry)) (now (rows .entry)) (now (terms .entry)) (now (store .entry)) (now (st .entry))) (held (now (work .exit)) (now (rows .exit)) (now (terms .exit)) (now (store .exit)) (now (st .exit))) r ⌝ }
+{
+    let kind = st[Words::KIND];
+    if is_label(kind) {
+        return term_subject(doc, work, rows, terms, store, st);
+    }
+    if kind == 22 {
+        return bracket_subject(doc, work, rows, terms, store, st);
+    }
+    if kind == 24 {
+        return list_subject(doc, work, rows, terms, store, st);
+    }
+    reading::unexpected(*doc, st)
+}
+
+// What comes behind a subject.
+fn predicates(
+    doc: &&[u8],
+    work: &mut &mut [u8],
+    rows: &mut &mut [u32],
+    terms: &mut &mut [u32],
+    store: &mut &mut [u8],
+    st: &mut [usize; Layout::WORDS],
+) -> u8
+    requires { ⌜ (Ready (now (now doc)) (held (now work) (now rows) (now terms) (now store) (now st)) × (getD (now st) x-word 0 < 4294967296)) × (0 < getD (now st) x-word 0) ⌝ }
+    ensures { λ r. ⌜ Predicates (now (now (doc .entry))) (held (now (work .entry)) (now (rows .entry)) (now (terms .entry)) (now (store .entry)) (now (st .entry))) (held (now (work .exit)) (now (rows .exit)) (now (terms .exit)) (now (store .exit)) (now (st .exit))) r ⌝ }
+{
+    let n = st[Words::X];
+    if nodes::is_verb(st[Words::KIND]) {
+        return properties(doc, work, rows, terms, store, st, n);
+    }
+    if st[Words::LIST] == 2 {
+        return 0;
+    }
+    reading::unexpected(*doc, st)
+}
+
+// The triples in braces, behind the opening one.
+fn block(
+    doc: &&[u8],
+    work: &mut &mut [u8],
+    rows: &mut &mut [u32],
+    terms: &mut &mut [u32],
+    store: &mut &mut [u8],
+    st: &mut [usize; Layout::WORDS],
+) -> u8
+    requires { ⌜ Ready (now (now doc)) (held (now work) (now rows) (now terms) (now store) (now st)) ⌝ }
+    ensures { λ r. ⌜ Block (now (now (doc .entry))) (held (now (work .entry)) (now (rows .entry)) (now (terms .entry)) (now (store .entry)) (now (st .entry))) (held (now (work .exit)) (now (rows .exit)) (now (terms .exit)) (now (store .exit)) (now (st .exit))) r ⌝ }
+{
+    loop {
+        if st[Words::KIND] == 27 {
+            nodes::enter(doc, st, 0);
+            return 0;
+        }
+        let c = subject(doc, work, rows, terms, store, st);
+        if c != 0 {
+            return c;
+        }
+        let d = predicates(doc, work, rows, terms, store, st);
+        if d != 0 {
+            return d;
+        }
+        if st[Words::KIND] == 27 {
+            nodes::enter(doc, st, 0);
+            return 0;
+        }
+        if st[Words::KIND] != 19 {
+            return reading::unexpected(*doc, st);
+        }
+        nodes::pass(doc, st);
+    }
+}
+
+// A graph in braces, behind its label.
+fn graph(
+    doc: &&[u8],
+    work: &mut &mut [u8],
+    rows: &mut &mut [u32],
+    terms: &mut &mut [u32],
+    store: &mut &mut [u8],
+    st: &mut [usize; Layout::WORDS],
+    n: usize,
+) -> u8
+    requires { ⌜ Ready (now (now doc)) (held (now work) (now rows) (now terms) (now store) (now st)) × (n < 4294967296) ⌝ }
+    ensures { λ r. ⌜ Graph (now (now (doc .entry))) (held (now (work .entry)) (now (rows .entry)) (now (terms .entry)) (now (store .entry)) (now (st .entry))) (held (now (work .exit)) (now (rows .exit)) (now (terms .exit)) (now (store .exit)) (now (st .exit))) n r ⌝ }
+{
+    if st[Words::KIND] != 26 {
+        return reading::unexpected(*doc, st);
+    }
+    nodes::enter(doc, st, n);
+    block(doc, work, rows, terms, store, st)
+}
+
+// The label behind GRAPH, and its graph.
+fn named_graph(
+    doc: &&[u8],
+    work: &mut &mut [u8],
+    rows: &mut &mut [u32],
+    terms: &mut &mut [u32],
+    store: &mut &mut [u8],
+    st: &mut [usize; Layout::WORDS],
+) -> u8
+    requires { ⌜ Ready (now (now doc)) (held (now work) (now rows) (now terms) (now store) (now st)) × (getD (now st) kind-word 0 ≡ 18) ⌝ }
+    ensures { λ r. ⌜ NamedGraph (now (now (doc .entry))) (held (now (work .entry)) (now (rows .entry)) (now (terms .entry)) (now (store .entry)) (now (st .entry))) (held (now (work .exit)) (now (rows .exit)) (now (terms .exit)) (now (store .exit)) (now (st .exit))) r ⌝ }
+{
+    nodes::pass(doc, st);
+    nodes::aim(st, 0, 0, 0, 0, 0);
+    if is_label(st[Words::KIND]) {
+        let c = put_term(doc, work, rows, terms, store, st);
+        if c != 0 {
+            return c;
+        }
+        let n = st[Words::NODE];
+        return graph(doc, work, rows, terms, store, st, n);
+    }
+    if st[Words::KIND] != 22 {
+        return reading::unexpected(*doc, st);
+    }
+    let d = put_bracket(doc, work, rows, terms, store, st);
+    if d != 0 {
+        return d;
+    }
+    let g = st[Words::NODE];
+    if st[Words::KIND] != 23 {
+        return reading::unexpected(*doc, st);
+    }
+    nodes::leave(doc, st);
+    graph(doc, work, rows, terms, store, st, g)
+}
+
+// Triples outside braces, or a graph behind its label.
+fn triples(
+    doc: &&[u8],
+    work: &mut &mut [u8],
+    rows: &mut &mut [u32],
+    terms: &mut &mut [u32],
+    store: &mut &mut [u8],
+    st: &mut [usize; Layout::WORDS],
+    mode: u8,
+) -> u8
+    requires { ⌜ (Ready (now (now doc)) (held (now work) (now rows) (now terms) (now store) (now st)) × (mode ≤ 1)) × Plain mode (getD (now st) kind-word 0) ⌝ }
+    ensures { λ r. ⌜ Statement (mode-of mode) (now (now (doc .entry))) (held (now (work .entry)) (now (rows .entry)) (now (terms .entry)) (now (store .entry)) (now (st .entry))) (held (now (work .exit)) (now (rows .exit)) (now (terms .exit)) (now (store .exit)) (now (st .exit))) r ⌝ }
+{
+    let c = subject(doc, work, rows, terms, store, st);
+    if c != 0 {
+        return c;
+    }
+    if is_graph_label(st, mode) {
+        let n = st[Words::X];
+        return graph(doc, work, rows, terms, store, st, n);
+    }
+    let d = predicates(doc, work, rows, terms, store, st);
+    if d != 0 {
+        return d;
+    }
+    if st[Words::KIND] != 19 {
+        return reading::unexpected(*doc, st);
+    }
+    nodes::pass(doc, st);
+    0
+}
+
+// Whether a graph comes behind the subject that was read.
+fn is_graph_label(st: &[usize; Layout::WORDS], mode: u8) -> bool
+    ensures { λ r. ⌜ r ≡ graph-label-test (now (st .entry)) mode ⌝ }
+{
+    if mode != 0 {
+        return false;
+    }
+    if st[Words::LIST] != 0 {
+        return false;
+    }
+    st[Words::KIND] == 26
+}
+
+// A statement, a directive or a graph.
+fn one_statement(
+    doc: &&[u8],
+    work: &mut &mut [u8],
+    rows: &mut &mut [u32],
+    terms: &mut &mut [u32],
+    store: &mut &mut [u8],
+    st: &mut [usize; Layout::WORDS],
+    mode: u8,
+) -> u8
+    requires { ⌜ (Ready (now (now doc)) (held (now work) (now rows) (now terms) (now store) (now st)) × (mode ≤ 1)) × (getD (now st) kind-word 0 ≡ 0 → ⊥) ⌝ }
+    ensures { λ r. ⌜ Statement (mode-of mode) (now (now (doc .entry))) (held (now (work .entry)) (now (rows .entry)) (now (terms .entry)) (now (store .entry)) (now (st .entry))) (held (now (work .exit)) (now (rows .exit)) (now (terms .exit)) (now (store .exit)) (now (st .exit))) r ⌝ }
+{
+    let kind = st[Words::KIND];
+    if is_directive(kind) {
+        return directive(doc, work, rows, terms, store, st);
+    }
+    if mode == 0 {
+        if kind == 26 {
+            return graph(doc, work, rows, terms, store, st, 0);
+        }
+        if kind == 18 {
+            return named_graph(doc, work, rows, terms, store, st);
+        }
+        return triples(doc, work, rows, terms, store, st, mode);
+    }
+    triples(doc, work, rows, terms, store, st, mode)
+}
+
+// All statements, to the end of the document.
+pub fn statements(
+    doc: &&[u8],
+    work: &mut &mut [u8],
+    rows: &mut &mut [u32],
+    terms: &mut &mut [u32],
+    store: &mut &mut [u8],
+    st: &mut [usize; Layout::WORDS],
+    mode: u8,
+) -> u8
+    requires { ⌜ Ready (now (now doc)) (held (now work) (now rows) (now terms) (now store) (now st)) × (mode ≤ 1) ⌝ }
+    ensures { λ r. ⌜ ReadsAll (mode-of mode) (now (now (doc .entry))) (held (now (work .entry)) (now (rows .entry)) (now (terms .entry)) (now (store .entry)) (now (st .entry))) (held (now (work .exit)) (now (rows .exit)) (now (terms .exit)) (now (store .exit)) (now (st .exit))) r ⌝ }
+{
+    while st[Words::KIND] != 0 {
+        let c = one_statement(doc, work, rows, terms, store, st, mode);
+        if c != 0 {
+            return c;
+        }
+    }
+    0
+}
+
