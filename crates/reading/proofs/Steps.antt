@@ -208,14 +208,14 @@ here-token doc a h p q = rw (ne-eqb (getD (a .st) kind-word 0) 31 q, no-characte
 
 -- Where nothing that is open takes what stands at the cursor, the machine refuses it.
 module _ (doc : Text) (a : Held) (ready : Ready doc a) (mode : Mode) (o : Open) (m : Memory) where
-  pub stopped-here : ((getD (a .st) kind-word 0 ≡ 0 → ⊥) → TokenHere doc (a .st) → (tied : Bool) → find-rule (here doc a .kind) (rules (here doc a) tied mode o) ≡ none) → ((n : ℕ) (m : Memory) → at-end o n m ≡ refused 8 n)
+  pub stopped-there : ((getD (a .st) kind-word 0 ≡ 0 → ⊥) → TokenHere doc (a .st) → (tied : Bool) → find-rule (here doc a .kind) (rules (here doc a) tied mode o) ≡ none) → (getD (a .st) kind-word 0 ≡ 0 → (n : ℕ) (m : Memory) → at-end o n m ≡ refused 8 n)
       → goes mode doc a o m ≡ refused (refusal-here doc (a .st)) (getD (a .st) at-word 0)
-  stopped-here none-there ended =
+  stopped-there none-there ended =
       by (eqb (getD (a .st) kind-word 0) 31) (λ p. goes-unread doc a mode o m (eqb-true (getD (a .st) kind-word 0) 31 p))
       (λ p. by (eqb (getD (a .st) kind-word 0) 0) (λ q. at-the-end (eqb-true (getD (a .st) kind-word 0) 0 q)) (λ q. at-token (eqb-false (getD (a .st) kind-word 0) 0 q) (eqb-false (getD (a .st) kind-word 0) 31 p)))
     where
       at-the-end : getD (a .st) kind-word 0 ≡ 0 → goes mode doc a o m ≡ refused (refusal-here doc (a .st)) (getD (a .st) at-word 0)
-      at-the-end p = goes-ended doc a mode o m p ∙ ended (length doc) m ∙ ap₂ refused (here-end doc (a .st) p) (sym (ready .cursor .at-end p))
+      at-the-end p = goes-ended doc a mode o m p ∙ ended p (length doc) m ∙ ap₂ refused (here-end doc (a .st) p) (sym (ready .cursor .at-end p))
 
       at-token : (getD (a .st) kind-word 0 ≡ 0 → ⊥) → (getD (a .st) kind-word 0 ≡ 31 → ⊥) → goes mode doc a o m ≡ refused (refusal-here doc (a .st)) (getD (a .st) at-word 0)
       at-token p q =
@@ -223,6 +223,10 @@ module _ (doc : Text) (a : Held) (ready : Ready doc a) (mode : Mode) (o : Open) 
           goes-step doc a h p mode o m
           ∙ ap (onward _) (step-none mode (room-in (tables-of a)) o (getD (a .st) depth-word 0) m (here doc a) (tied-here doc a h p) (none-there p h (tied-here doc a h p)))
           ∙ ap (λ (x : ℕ). refused x (getD (a .st) at-word 0)) (sym (here-token doc a h p q))
+
+  pub stopped-here : ((getD (a .st) kind-word 0 ≡ 0 → ⊥) → TokenHere doc (a .st) → (tied : Bool) → find-rule (here doc a .kind) (rules (here doc a) tied mode o) ≡ none) → ((n : ℕ) (m : Memory) → at-end o n m ≡ refused 8 n)
+      → goes mode doc a o m ≡ refused (refusal-here doc (a .st)) (getD (a .st) at-word 0)
+  stopped-here none-there ended = stopped-there none-there (λ z. ended)
 
 module _ {I : Type 0} (doc : Text) (F G : I → Open) (a : Held) (ready : Ready doc a) where
   -- Nothing that is open takes what stands at the cursor.

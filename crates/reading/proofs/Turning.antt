@@ -26,7 +26,7 @@ use Rattle.state.specs.Represents.{Tables, room-in}
 use Rattle.reading.specs.Reading.{Held, tables-of, here, Holding, goes, Ready, Same, Comes, TurnsTo, Turns, refusal-here, token-refusal, Does}
 use Rattle.reading.proofs.Tests.{positive, refusal-none, refusal-some}
 use Rattle.reading.proofs.Compose.{same-all, same-both, room-same}
-use Rattle.reading.proofs.Steps.{goes-step, tied-here, stopped-here, here-some, step-on, step-stop}
+use Rattle.reading.proofs.Steps.{goes-step, tied-here, stopped-here, stopped-there, here-some, step-on, step-stop}
 use Rattle.reading.proofs.Frames.{ready-does}
 
 module _ (mode : Mode) (doc : Text) where
@@ -73,6 +73,17 @@ module _ (mode : Mode) (doc : Text) where
     on = λ z. absurd (here-some doc (a .st) (sym e ∙ z));
     stop = λ z old m x. rw e (stopped-here doc a ready mode o m none-there ended);
   }
+
+-- The same where the end of the document is told apart.
+pub turns-none-but : (mode : Mode) (doc : Text) (o p : Open) (a : Held) (r : ℕ) → Ready doc a → r ≡ refusal-here doc (a .st) → ((getD (a .st) kind-word 0 ≡ 0 → ⊥) → TokenHere doc (a .st) → (tied : Bool) → find-rule (here doc a .kind) (rules (here doc a) tied mode o) ≡ none)
+    → (getD (a .st) kind-word 0 ≡ 0 → (n : ℕ) (m : Memory) → at-end o n m ≡ refused 8 n) → Turns mode doc o p a a r
+turns-none-but mode doc o p a r ready e none-there ended = record {
+  same = same-all a;
+  ready = λ z. absurd (here-some doc (a .st) (sym e ∙ z));
+  later = λ z. absurd (here-some doc (a .st) (sym e ∙ z));
+  on = λ z. absurd (here-some doc (a .st) (sym e ∙ z));
+  stop = λ z old m x. rw e (stopped-there doc a ready mode o m none-there ended);
+}
 
 step-rule : (mode : Mode) (room : Room) (s : State) (t : Token) (tied : Bool) (v : Write Open) → find-rule (t .kind) (rules t tied mode (s .open-now)) ≡ some v
     → step mode room s t tied ≡ answer (first-refusal (tests room s t (some v) (record { open-now = v (s .memory) .0; depth = new-depth (s .depth) t; memory = v (s .memory) .1 }))) (t .start) (record { open-now = v (s .memory) .0; depth = new-depth (s .depth) t; memory = v (s .memory) .1 })

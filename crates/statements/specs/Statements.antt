@@ -2,81 +2,62 @@
 use mathlib.Core.Path.{_≡_}
 use mathlib.Core.List.{List, [], _∷_, _++_}
 use mathlib.Core.Bool.{Bool, true, false}
-use mathlib.Core.Option.{none}
+use mathlib.Core.Option.{none, some}
+use lib.Dec.{eqb}
 use Prim.Native.Nat.{ℕ, zero, suc, _≤_, _<_}
 use lib.ListN.{getD}
-use Rattle.text.specs.Text.{Text}
-use Rattle.token.specs.Kind.{Kind, kind-of-code, among, iris, «BLANK_NODE_LABEL», open-bracket, open-paren, at-prefix, at-base, PREFIX, BASE}
+use Rattle.text.specs.Text.{Text, cond}
+use Rattle.token.specs.Kind.{Kind, kind-of-code, among, iris, «BLANK_NODE_LABEL», open-bracket, open-paren, open-brace, at-prefix, at-base, PREFIX, BASE}
 use Rattle.token.specs.Tokens.{Token}
 use Rattle.grammar.specs.Productions.{Mode}
 use Rattle.dataset.specs.Constructors.{nothing}
-use Rattle.machine.specs.Memory.{Memory}
+use Rattle.machine.specs.Memory.{Memory, enter}
 use Rattle.machine.specs.Frame.{Ending, Place, top, subject-before, object-of, element-of, Frame, triples-or-end, Open, statement}
 use Rattle.machine.specs.Rules.{find-rule, after-node, after-properties, list-place, subject-rules, frame-rules, above, rules}
 use Rattle.machine.specs.Step.{awaited-by, Outcome, accepted, refused, at-end}
-use Rattle.state.specs.Words.{kind-word, at-word, depth-word, list-word, x-word}
+use Rattle.state.specs.Words.{kind-word, at-word, list-word, x-word}
 use Rattle.state.specs.Cursor.{TokenHere}
 use Rattle.state.specs.Represents.{Tables}
 use Rattle.reading.specs.Reading.{code-among, Held, here, Holding, goes, Same, Turns}
-use Rattle.nodes.specs.Nodes.{Verbs, Ends, Steady, verb-kinds}
-use Rattle.nesting.specs.Nesting.{Listed}
+use Rattle.nodes.specs.Nodes.{Verbs, Ends, verb-kinds}
 
--- The kinds that begin a subject or a graph's label; a term among them.
-abbrev pub label-kinds : List Kind
-label-kinds = iris ++ «BLANK_NODE_LABEL» ∷ []
-
-abbrev pub subject-kinds : List Kind
-subject-kinds = label-kinds ++ open-bracket ∷ open-paren ∷ []
-
+-- The kinds that begin a directive.
 abbrev pub directive-kinds : List Kind
 directive-kinds = at-prefix ∷ at-base ∷ PREFIX ∷ BASE ∷ []
 
--- What is open behind a subject: a term or an empty bracket, a list, a bracket with properties.
-abbrev pub after-subject : ℕ → Place → ℕ → List Frame
-after-subject zero place n = after-node place n
-after-subject (suc zero) place n = after-node (list-place place) n
-after-subject (suc (suc k)) place n = after-properties place n
+-- The triples in braces were read, with the closing one.
+abbrev pub Block : Text → Held → Held → ℕ → Type 0
+Block doc a b r = (mode : Mode) → Turns mode doc (statement (triples-or-end ∷ [])) (statement []) a b r
 
--- A place where a subject may stand: outside braces, or as a subject.
-abbrev pub Outer : Place → Type 0
-Outer top = Unit {0}
-Outer (subject-before e) = Unit {0}
-Outer (object-of s p) = ⊥
-Outer (element-of c) = ⊥
-
--- A subject is awaited, at this place.
-pub record SubjectAt (mode : Mode) (doc : Text) (h : Held) (o : Open) (place : Place) : Type 0 where
-  pub outer : Outer place
+-- A graph in braces is awaited: n is its label, or 0.
+pub record GraphAt (mode : Mode) (doc : Text) (h : Held) (o : Open) (n : ℕ) : Type 0 where
   pub waits : awaited-by o ≡ nothing
-  pub rules-are : (k : Kind) (tied : Bool) → among subject-kinds k ≡ true → find-rule k (rules (here doc h) tied mode o) ≡ find-rule k (above (here doc h) tied [] (subject-rules (here doc h) tied place))
-  pub others : (getD (h .st) kind-word 0 ≡ 0 → ⊥) → TokenHere doc (h .st) → (tied : Bool) → among subject-kinds (here doc h .kind) ≡ false → find-rule (here doc h .kind) (rules (here doc h) tied mode o) ≡ none
+  pub brace : (tied : Bool) → find-rule open-brace (rules (here doc h) tied mode o) ≡ some (λ m. (statement (triples-or-end ∷ []), enter n m .1))
+  pub others : (getD (h .st) kind-word 0 ≡ 26 → ⊥) → (getD (h .st) kind-word 0 ≡ 0 → ⊥) → TokenHere doc (h .st) → (tied : Bool) → find-rule (here doc h .kind) (rules (here doc h) tied mode o) ≡ none
   pub ended : getD (h .st) kind-word 0 ≡ 0 → (n : ℕ) (m : Memory) → at-end o n m ≡ refused 8 n
 
--- A subject was read. Its number is in the array, and what it is.
-pub record Subject (mode : Mode) (doc : Text) (a b : Held) (r : ℕ) : Type 0 where
-  pub turns : (o : Open) (place : Place) → SubjectAt mode doc a o place → Turns mode doc o (statement (after-subject (getD (b .st) list-word 0) place (getD (b .st) x-word 0))) a b r
-  pub small : r ≡ 0 → getD (b .st) x-word 0 < 4294967296
-  pub positive : r ≡ 0 → 0 < getD (b .st) x-word 0
-  pub shape : r ≡ 0 → getD (b .st) list-word 0 ≤ 2
-  pub steady : Steady a b r
-
--- What may come behind it: its predicates; nothing, where it may stand alone.
-pub record Predicates (doc : Text) (a b : Held) (r : ℕ) : Type 0 where
-  pub reads : (f : Frame) (e : Ending) → Verbs f (getD (a .st) x-word 0) e []
-      → (code-among verb-kinds (getD (a .st) kind-word 0) ≡ false → getD (a .st) list-word 0 ≡ 2 → Ends f e (getD (a .st) kind-word 0))
-      → (code-among verb-kinds (getD (a .st) kind-word 0) ≡ false → (getD (a .st) list-word 0 ≡ 2 → ⊥) → (getD (a .st) kind-word 0 ≡ 0 → ⊥) → getD (a .st) kind-word 0 ≤ 30 → (t : Token) (tied : Bool) → find-rule (kind-of-code (getD (a .st) kind-word 0)) (frame-rules t tied f) ≡ none)
-      → Listed doc f e [] a b r
-  pub depth : r ≡ 0 → getD (b .st) depth-word 0 ≡ getD (a .st) depth-word 0
-
--- The triples in braces were read, with the closing one.
-pub record Block (doc : Text) (a b : Held) (r : ℕ) : Type 0 where
-  pub turns : (mode : Mode) → Turns mode doc (statement (triples-or-end ∷ [])) (statement []) a b r
-  pub depth : r ≡ 0 → getD (b .st) depth-word 0 ≡ getD (a .st) depth-word 0
+pub record Graph (doc : Text) (a b : Held) (n r : ℕ) : Type 0 where
+  pub turns : (mode : Mode) (o : Open) → GraphAt mode doc a o n → Turns mode doc o (statement []) a b r
+  pub later : r ≡ 0 → getD (a .st) at-word 0 < getD (b .st) at-word 0
 
 -- A statement, a directive or a graph was read; all of them.
 pub record Statement (mode : Mode) (doc : Text) (a b : Held) (r : ℕ) : Type 0 where
   pub turns : Turns mode doc (statement []) (statement []) a b r
-  pub steady : Steady a b r
+  pub later : r ≡ 0 → getD (a .st) at-word 0 < getD (b .st) at-word 0
+
+abbrev pub Directs : Text → Held → Held → ℕ → Type 0
+Directs doc a b r = (mode : Mode) → Statement mode doc a b r
+
+-- A kind that begins triples between statements, or nothing.
+pub record Plain (mode k : ℕ) : Type 0 where
+  pub no-directive : code-among directive-kinds k ≡ false
+  pub no-brace : mode ≡ 0 → k ≡ 26 → ⊥
+  pub no-graph : mode ≡ 0 → k ≡ 18 → ⊥
+  pub some-token : k ≡ 0 → ⊥
+
+-- Does a graph come behind the subject?
+unfoldable pub graph-label-test : List ℕ → ℕ → Bool
+graph-label-test st mode = cond (eqb mode 0) (cond (eqb (getD st list-word 0) 0) (eqb (getD st kind-word 0) 26) false) false
 
 pub record ReadsAll (mode : Mode) (doc : Text) (a b : Held) (r : ℕ) : Type 0 where
   pub same : Same a b

@@ -1,0 +1,242 @@
+// Subjects: terms, brackets and lists; and what comes behind them.
+ghost use mathlib.Core.Path.{_≡_};
+ghost use mathlib.Core.List.{_∷_};
+ghost use mathlib.Core.Bool.{true};
+ghost use Prim.Native.Nat.{_≤_, _<_};
+ghost use lib.ListN.{length, getD};
+ghost use Rattle.dataset.specs.Terms.{blank, bracket};
+ghost use Rattle.machine.specs.Memory.{new-term};
+ghost use Rattle.state.specs.Words.{kind-word, at-word, depth-word, x-word};
+ghost use Rattle.state.specs.Writes.{placed, opened-at};
+ghost use Rattle.reading.specs.Reading.{code-among, held, Ready, Does};
+ghost use Rattle.nodes.specs.Nodes.{spot-of, Spotted, Numbers, PutsTerm, term-kinds, verb-kinds};
+ghost use Rattle.token.specs.Kind.{kw-a};
+ghost use Rattle.nesting.specs.Nesting.{Lists, Properties};
+ghost use Rattle.subjects.specs.Subjects.{label-kinds, Subject, Predicates};
+use scope::Layout;
+use state::Words;
+
+pub fn put_term(
+    doc: &&[u8],
+    work: &mut &mut [u8],
+    rows: &mut &mut [u32],
+    terms: &mut &mut [u32],
+    store: &mut &mut [u8],
+    st: &mut [usize; Layout::WORDS],
+) -> u8
+    requires { ⌜ (Ready (now (now doc)) (held (now work) (now rows) (now terms) (now store) (now st)) × Spotted (held (now work) (now rows) (now terms) (now store) (now st))) × (code-among (kw-a ∷ term-kinds) (getD (now st) kind-word 0) ≡ true) ⌝ }
+    ensures { λ r. ⌜ PutsTerm (now (now (doc .entry))) (held (now (work .entry)) (now (rows .entry)) (now (terms .entry)) (now (store .entry)) (now (st .entry))) (held (now (work .exit)) (now (rows .exit)) (now (terms .exit)) (now (store .exit)) (now (st .exit))) r ⌝ }
+{
+    0
+}
+
+pub fn put_bracket(
+    doc: &&[u8],
+    work: &mut &mut [u8],
+    rows: &mut &mut [u32],
+    terms: &mut &mut [u32],
+    store: &mut &mut [u8],
+    st: &mut [usize; Layout::WORDS],
+) -> u8
+    requires { ⌜ (Ready (now (now doc)) (held (now work) (now rows) (now terms) (now store) (now st)) × Spotted (held (now work) (now rows) (now terms) (now store) (now st))) × (getD (now st) kind-word 0 ≡ 22) ⌝ }
+    ensures { λ r. ⌜ Numbers (now (now (doc .entry))) (placed (spot-of (held (now (work .entry)) (now (rows .entry)) (now (terms .entry)) (now (store .entry)) (now (st .entry)))) (new-term (blank (bracket (getD (now (st .entry)) at-word 0))))) (held (now (work .entry)) (now (rows .entry)) (now (terms .entry)) (now (store .entry)) (now (st .entry))) (held (now (work .exit)) (now (rows .exit)) (now (terms .exit)) (now (store .exit)) (now (st .exit))) r ⌝ }
+{
+    0
+}
+
+pub fn put_paren(
+    doc: &&[u8],
+    work: &mut &mut [u8],
+    rows: &mut &mut [u32],
+    terms: &mut &mut [u32],
+    store: &mut &mut [u8],
+    st: &mut [usize; Layout::WORDS],
+) -> u8
+    requires { ⌜ (Ready (now (now doc)) (held (now work) (now rows) (now terms) (now store) (now st)) × Spotted (held (now work) (now rows) (now terms) (now store) (now st))) × (getD (now st) kind-word 0 ≡ 24) ⌝ }
+    ensures { λ r. ⌜ Does (now (now (doc .entry))) (opened-at (spot-of (held (now (work .entry)) (now (rows .entry)) (now (terms .entry)) (now (store .entry)) (now (st .entry))))) (held (now (work .entry)) (now (rows .entry)) (now (terms .entry)) (now (store .entry)) (now (st .entry))) (held (now (work .exit)) (now (rows .exit)) (now (terms .exit)) (now (store .exit)) (now (st .exit))) r ⌝ }
+{
+    0
+}
+
+pub fn properties(
+    doc: &&[u8],
+    work: &mut &mut [u8],
+    rows: &mut &mut [u32],
+    terms: &mut &mut [u32],
+    store: &mut &mut [u8],
+    st: &mut [usize; Layout::WORDS],
+    s: usize,
+) -> u8
+    requires { ⌜ (Ready (now (now doc)) (held (now work) (now rows) (now terms) (now store) (now st)) × (s < 4294967296)) × ((0 < s) × (code-among verb-kinds (getD (now st) kind-word 0) ≡ true)) ⌝ }
+    ensures { λ r. ⌜ Properties (now (now (doc .entry))) (held (now (work .entry)) (now (rows .entry)) (now (terms .entry)) (now (store .entry)) (now (st .entry))) (held (now (work .exit)) (now (rows .exit)) (now (terms .exit)) (now (store .exit)) (now (st .exit))) s r ⌝ }
+{
+    0
+}
+
+pub fn elements(
+    doc: &&[u8],
+    work: &mut &mut [u8],
+    rows: &mut &mut [u32],
+    terms: &mut &mut [u32],
+    store: &mut &mut [u8],
+    st: &mut [usize; Layout::WORDS],
+) -> u8
+    requires { ⌜ (Ready (now (now doc)) (held (now work) (now rows) (now terms) (now store) (now st)) × Spotted (held (now work) (now rows) (now terms) (now store) (now st))) × (0 < getD (now st) depth-word 0) ⌝ }
+    ensures { λ r. ⌜ Lists (now (now (doc .entry))) (held (now (work .entry)) (now (rows .entry)) (now (terms .entry)) (now (store .entry)) (now (st .entry))) (held (now (work .exit)) (now (rows .exit)) (now (terms .exit)) (now (store .exit)) (now (st .exit))) r ⌝ }
+{
+    0
+}
+
+// Whether a token of this kind is a graph's label, or a subject, by itself.
+pub fn is_label(kind: usize) -> bool
+    ensures { λ r. ⌜ r ≡ code-among label-kinds kind ⌝ }
+{
+    match kind {
+        1 => true,
+        2 => true,
+        3 => true,
+        4 => true,
+        _ => false,
+    }
+}
+
+// A term as subject.
+fn term_subject(
+    doc: &&[u8],
+    work: &mut &mut [u8],
+    rows: &mut &mut [u32],
+    terms: &mut &mut [u32],
+    store: &mut &mut [u8],
+    st: &mut [usize; Layout::WORDS],
+) -> u8
+    requires { ⌜ Ready (now (now doc)) (held (now work) (now rows) (now terms) (now store) (now st)) × (code-among label-kinds (getD (now st) kind-word 0) ≡ true) ⌝ }
+    ensures { λ r. ⌜ Subject (now (now (doc .entry))) (held (now (work .entry)) (now (rows .entry)) (now (terms .entry)) (now (store .entry)) (now (st .entry))) (held (now (work .exit)) (now (rows .exit)) (now (terms .exit)) (now (store .exit)) (now (st .exit))) r ⌝ }
+{
+    nodes::aim(st, 0, 0, 0, 0, 0);
+    let c = put_term(doc, work, rows, terms, store, st);
+    if c != 0 {
+        return c;
+    }
+    let n = st[Words::NODE];
+    nodes::aim(st, 0, n, 0, 0, 0);
+    0
+}
+
+// A bracket as subject.
+fn bracket_subject(
+    doc: &&[u8],
+    work: &mut &mut [u8],
+    rows: &mut &mut [u32],
+    terms: &mut &mut [u32],
+    store: &mut &mut [u8],
+    st: &mut [usize; Layout::WORDS],
+) -> u8
+    requires { ⌜ Ready (now (now doc)) (held (now work) (now rows) (now terms) (now store) (now st)) × (getD (now st) kind-word 0 ≡ 22) ⌝ }
+    ensures { λ r. ⌜ Subject (now (now (doc .entry))) (held (now (work .entry)) (now (rows .entry)) (now (terms .entry)) (now (store .entry)) (now (st .entry))) (held (now (work .exit)) (now (rows .exit)) (now (terms .exit)) (now (store .exit)) (now (st .exit))) r ⌝ }
+{
+    nodes::aim(st, 0, 0, 0, 0, 0);
+    let c = put_bracket(doc, work, rows, terms, store, st);
+    if c != 0 {
+        return c;
+    }
+    let n = st[Words::NODE];
+    if st[Words::KIND] == 23 {
+        nodes::leave(doc, st);
+        nodes::aim(st, 0, n, 0, 0, 0);
+        return 0;
+    }
+    if !nodes::is_verb(st[Words::KIND]) {
+        return reading::unexpected(*doc, st);
+    }
+    let d = properties(doc, work, rows, terms, store, st, n);
+    if d != 0 {
+        return d;
+    }
+    if st[Words::KIND] != 23 {
+        return reading::unexpected(*doc, st);
+    }
+    nodes::leave(doc, st);
+    nodes::aim(st, 2, n, 0, 0, 0);
+    0
+}
+
+// A list as subject.
+fn list_subject(
+    doc: &&[u8],
+    work: &mut &mut [u8],
+    rows: &mut &mut [u32],
+    terms: &mut &mut [u32],
+    store: &mut &mut [u8],
+    st: &mut [usize; Layout::WORDS],
+) -> u8
+    requires { ⌜ Ready (now (now doc)) (held (now work) (now rows) (now terms) (now store) (now st)) × (getD (now st) kind-word 0 ≡ 24) ⌝ }
+    ensures { λ r. ⌜ Subject (now (now (doc .entry))) (held (now (work .entry)) (now (rows .entry)) (now (terms .entry)) (now (store .entry)) (now (st .entry))) (held (now (work .exit)) (now (rows .exit)) (now (terms .exit)) (now (store .exit)) (now (st .exit))) r ⌝ }
+{
+    let at = st[Words::AT];
+    nodes::aim(st, 0, 0, 0, 0, 0);
+    let c = put_paren(doc, work, rows, terms, store, st);
+    if c != 0 {
+        return c;
+    }
+    nodes::aim(st, 0, 0, 0, at, 0);
+    let kind = st[Words::KIND];
+    let first = st[Words::TERMS] + 1;
+    let d = elements(doc, work, rows, terms, store, st);
+    if d != 0 {
+        return d;
+    }
+    if kind == 25 {
+        let n = st[Words::NODE];
+        nodes::aim(st, 1, n, 0, 0, 0);
+        return 0;
+    }
+    nodes::aim(st, 1, first, 0, 0, 0);
+    0
+}
+
+pub fn subject(
+    doc: &&[u8],
+    work: &mut &mut [u8],
+    rows: &mut &mut [u32],
+    terms: &mut &mut [u32],
+    store: &mut &mut [u8],
+    st: &mut [usize; Layout::WORDS],
+) -> u8
+    requires { ⌜ Ready (now (now doc)) (held (now work) (now rows) (now terms) (now store) (now st)) ⌝ }
+    ensures { λ r. ⌜ Subject (now (now (doc .entry))) (held (now (work .entry)) (now (rows .entry)) (now (terms .entry)) (now (store .entry)) (now (st .entry))) (held (now (work .exit)) (now (rows .exit)) (now (terms .exit)) (now (store .exit)) (now (st .exit))) r ⌝ }
+{
+    let kind = st[Words::KIND];
+    if is_label(kind) {
+        return term_subject(doc, work, rows, terms, store, st);
+    }
+    if kind == 22 {
+        return bracket_subject(doc, work, rows, terms, store, st);
+    }
+    if kind == 24 {
+        return list_subject(doc, work, rows, terms, store, st);
+    }
+    reading::unexpected(*doc, st)
+}
+
+// What comes behind a subject.
+pub fn predicates(
+    doc: &&[u8],
+    work: &mut &mut [u8],
+    rows: &mut &mut [u32],
+    terms: &mut &mut [u32],
+    store: &mut &mut [u8],
+    st: &mut [usize; Layout::WORDS],
+) -> u8
+    requires { ⌜ (Ready (now (now doc)) (held (now work) (now rows) (now terms) (now store) (now st)) × (getD (now st) x-word 0 < 4294967296)) × (0 < getD (now st) x-word 0) ⌝ }
+    ensures { λ r. ⌜ Predicates (now (now (doc .entry))) (held (now (work .entry)) (now (rows .entry)) (now (terms .entry)) (now (store .entry)) (now (st .entry))) (held (now (work .exit)) (now (rows .exit)) (now (terms .exit)) (now (store .exit)) (now (st .exit))) r ⌝ }
+{
+    let n = st[Words::X];
+    if nodes::is_verb(st[Words::KIND]) {
+        return properties(doc, work, rows, terms, store, st, n);
+    }
+    if st[Words::LIST] == 2 {
+        return 0;
+    }
+    reading::unexpected(*doc, st)
+}
+
