@@ -1,0 +1,2 @@
+pub mod ReadsAll
+pub mod Reader
