@@ -1,3 +1,4 @@
+use mathlib.Core.Path.{refl, sym}
 use borrow.Author.Needs.{needs}
 use Rattle.reader.proofs.finish.Statement.{statement}
 use Rattle.reader.proofs.finish.Tie as tie
@@ -19,7 +20,7 @@ element-copy-out-t16 c = search needs
 
 -- src/lib.rt:170:9
 returns : tie.Need-returns
-returns c = search needs
+returns c = record { number = sym (c .before .before .before .if1 .taken); whole = λ e. record { position = refl; row-count = refl; term-count = refl; store-count = refl; rows-stay = refl; terms-stay = refl; store-stays = refl }; refused = λ z. absurd (z (c .before .before .before .if1 .taken)) }
 
 -- src/lib.rt:178:5
 clear-tables-requires : tie.Need-clear-tables-requires
@@ -43,7 +44,7 @@ same-length-3 c = search needs
 
 -- src/lib.rt:158:1
 returns-2 : tie.Need-returns-2
-returns-2 c = search needs
+returns-2 c = record { number = refl; whole = λ e. absurd (c .before .before .before .before .before .before .before .before .before .before .before .if1 .left e); refused = λ z. record { position = refl; row-count = refl; term-count = refl; store-count = refl; cleared = c .before .before .before .before .before .before .before .clear-tables .ensures } }
 
 pub finish-spec : {M : Type 1} → statement M
 finish-spec =

@@ -1,3 +1,4 @@
+use Rattle.reader.proofs.Start.{can-seek, started}
 use borrow.Author.Needs.{needs}
 use Rattle.reader.proofs.prepare.Statement.{statement}
 use Rattle.reader.proofs.prepare.Tie as tie
@@ -17,7 +18,7 @@ set-base-requires c κs = search needs
 
 -- src/lib.rt:146:5
 seek-requires : tie.Need-seek-requires
-seek-requires c κs = search needs
+seek-requires c κs = can-seek (c .before .before .before .before .before .before .before .before .before .before .before .before .before .pre .0) (c .before .before .before .before .before .before .before .before .clear-bytes .ensures) (c .before .before .before .before .before .before .before .before .before .before .before .before .before .pre .1) (c .before .before .before .set-base .ensures)
 
 -- src/lib.rt:140:1
 same-length : tie.Need-same-length
@@ -25,7 +26,7 @@ same-length c = search needs
 
 -- src/lib.rt:140:1
 returns : tie.Need-returns
-returns c = search needs
+returns c = started (c .before .before .before .before .before .before .before .before .before .before .before .before .before .before .pre .0) (c .before .before .before .before .before .before .before .before .before .clear-bytes .ensures) (c .before .before .before .before .before .before .before .before .before .before .before .before .before .before .pre .1) (c .before .before .before .before .set-base .ensures) _ (c .seek .ensures)
 
 pub prepare-spec : {M : Type 1} → statement M
 prepare-spec =

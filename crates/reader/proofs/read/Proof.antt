@@ -1,3 +1,8 @@
+use mathlib.Core.List.{[]}
+use mathlib.Core.Path.{sym, ap, _∙_}
+use Rattle.utf8.specs.Code.{bad-place}
+use Rattle.reader.specs.Reader.{slices}
+use Rattle.reader.proofs.Checks.{check-refuses, checked, not-utf8, valid}
 use borrow.Author.Needs.{needs}
 use Rattle.reader.proofs.read.Statement.{statement}
 use Rattle.reader.proofs.read.Tie as tie
@@ -31,7 +36,7 @@ same-length c = search needs
 
 -- src/lib.rt:222:9
 returns : tie.Need-returns
-returns c = search needs
+returns c = check-refuses _ _ _ _ _ (c .before .first-check .ensures) (c .if1 .taken)
 
 -- src/lib.rt:230:9
 first-bad-requires : tie.Need-first-bad-requires
@@ -55,7 +60,7 @@ enum-told c = search needs
 
 -- src/lib.rt:243:28
 read-checked-requires : tie.Need-read-checked-requires
-read-checked-requires c κs = search needs
+read-checked-requires c κs = checked _ _ _ _ (slices (c .before .before .before .before .before .before .before .before .before .before .before .before .before .before .before .before .before .args .work .now) [] [] []) (c .before .before .before .before .before .before .before .before .first-check .ensures) (c .before .before .before .before .before .before .before .if1 .left) (sym (c .before .before .before .before .before .before .first-bad .ensures) ∙ ap bad-place (c .before .before .before .before .enum-told .given .1))
 
 -- src/lib.rt:209:1
 same-length-2 : tie.Need-same-length-2
@@ -75,7 +80,7 @@ same-length-5 c = search needs
 
 -- src/lib.rt:209:1
 returns-2 : tie.Need-returns-2
-returns-2 c = search needs
+returns-2 c = not-utf8 _ _ _ _ _ (c .before .before .before .before .before .before .before .before .before .before .before .before .before .before .before .before .before .before .before .first-check .ensures) (c .before .before .before .before .before .before .before .before .before .before .before .before .before .before .before .before .before .before .if1 .left) _ (sym (c .before .before .before .before .before .before .before .before .before .before .before .before .before .before .before .before .before .first-bad .ensures) ∙ ap bad-place (c .before .before .before .before .before .before .before .before .before .before .before .before .before .before .before .validity .given .1)) _ (c .before .before .before .before .before .before .before .before .before .before .before .before .clear-bytes .ensures) (c .before .before .before .before .before .before .clear-tables .ensures)
 
 -- src/lib.rt:209:1
 same-length-6 : tie.Need-same-length-6
@@ -95,7 +100,7 @@ same-length-9 c = search needs
 
 -- src/lib.rt:209:1
 returns-3 : tie.Need-returns-3
-returns-3 c = search needs
+returns-3 c = valid _ _ _ _ _ (c .before .before .before .before .before .before .before .before .before .before .before .before .before .before .before .before .before .first-check .ensures) (c .before .before .before .before .before .before .before .before .before .before .before .before .before .before .before .before .if1 .left) (sym (c .before .before .before .before .before .before .before .before .before .before .before .before .before .before .before .first-bad .ensures) ∙ ap bad-place (c .before .before .before .before .before .before .before .before .before .before .before .before .before .enum-told .given .1)) _ _ (c .before .before .before .before .before .before .before .before .read-checked .ensures)
 
 pub read-spec : {M : Type 1} → statement M
 read-spec =

@@ -1,3 +1,5 @@
+use Rattle.reader.proofs.End.{gives}
+use Rattle.reader.proofs.Start.{ready-start}
 use borrow.Author.Needs.{needs}
 use Rattle.reader.proofs.read_checked.Statement.{statement}
 use Rattle.reader.proofs.read_checked.Tie as tie
@@ -19,7 +21,7 @@ prepare-requires c κs = search needs
 
 -- src/lib.rt:203:9
 run-requires : tie.Need-run-requires
-run-requires c κs = search needs
+run-requires c κs = (ready-start _ (c .before .before .before .before .before .before .before .before .before .before .before .before .before .before .before .before .before .pre .good-base) (c .before .before .before .before .before .before .before .prepare .ensures), c .before .before .before .before .before .before .before .before .before .before .before .before .before .before .before .before .before .pre .known)
 
 -- src/lib.rt:204:5
 clear-bytes-requires : tie.Need-clear-bytes-requires
@@ -47,7 +49,7 @@ same-length-4 c = search needs
 
 -- src/lib.rt:189:1
 returns : tie.Need-returns
-returns c = search needs
+returns c = gives _ _ _ _ _ _ _ (c .before .before .before .before .before .before .before .before .before .before .before .before .before .before .before .before .before .before .before .before .before .before .before .before .before .before .before .before .before .before .before .before .before .before .before .before .before .before .before .before .before .pre) (c .before .before .before .before .before .before .before .before .before .before .before .before .before .before .before .before .before .before .before .before .before .before .before .before .before .before .before .before .before .before .before .prepare .ensures) (c .before .before .before .before .before .before .before .before .before .before .before .before .before .before .before .before .before .before .before .before .before .before .before .run .ensures) _ _ _ _ _ (c .before .before .before .before .before .before .before .before .before .before .before .before .before .clear-bytes .ensures) (c .before .before .before .before .before .before .finish .ensures)
 
 pub read-checked-spec : {M : Type 1} → statement M
 read-checked-spec =
