@@ -1,9 +1,9 @@
 -- The answer by the checks 1 to 4, and by the first place that is not UTF-8.
 use mathlib.Core.Path.{_≡_, refl, sym, ap, subst, _∙_}
-use mathlib.Core.List.{List, [], _∷_}
+use mathlib.Core.List.{[], _∷_}
 use mathlib.Core.Bool.{Bool, true, false, not}
 use mathlib.Core.Option.{Option, none, some}
-use Prim.Native.Nat.{ℕ, _-_, _≤_}
+use Prim.Native.Nat.{ℕ, _-_}
 use native.Mathlib.Omega.{arith}
 use borrow.Author.Tests.{ltb-false, leb-true}
 use lib.Dec.{leb, ltb}
@@ -13,11 +13,12 @@ use Rattle.text.proofs.Compare.{contrary}
 use Rattle.limits.specs.Limits.{document-limit, work-size}
 use Rattle.utf8.specs.Utf8.{first-bad}
 use Rattle.machine.specs.Step.{_when_, first-refusal}
-use Rattle.machine.specs.Read.{Answer, untouched, refusal, bad-base, first-checks, read-tokens, read-utf8, read-checked, read}
+use Rattle.machine.specs.Read.{Answer, untouched, bad-base, first-checks, read-tokens, read-utf8, read-checked, read}
 use Rattle.checks.specs.Checks.{number-of, lent-work}
 use Rattle.scope.proofs.Directives.{whole}
 use Rattle.reader.specs.declared.Reading.{Reading}
-use Rattle.reader.specs.Reader.{slices, lengths, Slices, Gives, Checked, Cleared}
+use Rattle.reader.specs.Reader.{LentSlices, lengths, Gives}
+use Rattle.reader.specs.Stages.{Checked, Cleared}
 
 abbrev answer : ℕ → ℕ → Reading
 answer n p = record { number = n; position = p; rows = 0; terms = 0; store = 0 }
@@ -37,7 +38,7 @@ not-false : (b : Bool) → not b ≡ false → b ≡ true
 not-false true e = refl
 not-false false e = contrary e
 
-module _ (doc base : Text) (mode n : ℕ) (s : Slices) (e : n ≡ number-of (first-refusal (first-checks doc mode base (lent-work (length (take (length (s .work) - 0) (drop 0 (s .work)))))))) where
+module _ (doc base : Text) (mode n : ℕ) (s : LentSlices) (e : n ≡ number-of (first-refusal (first-checks doc mode base (lent-work (length (take (length (s .work) - 0) (drop 0 (s .work)))))))) where
   seen : n ≡ number-of (first-refusal (first-checks doc mode base (lengths s)))
   seen = rw (whole (s .work)) at e
 
@@ -65,12 +66,12 @@ module _ (doc base : Text) (mode n : ℕ) (s : Slices) (e : n ≡ number-of (fir
     unfolding read read-checked
     past-checks o v = rw (tests .0, tests .1 .0, tests .1 .1 .0, tests .1 .1 .1) (ap (λ (q : Option ℕ). read-utf8 q doc mode base (lengths s)) v)
 
-    pub valid : first-bad doc ≡ none → (s' : Slices) (r : Reading) → Gives (read-tokens doc mode base (lengths s)) s s' r → Gives (read doc mode base (lengths s)) s s' r
+    pub valid : first-bad doc ≡ none → (s' : LentSlices) (r : Reading) → Gives (read-tokens doc mode base (lengths s)) s s' r → Gives (read doc mode base (lengths s)) s s' r
     unfolding read-utf8
     valid v s' r g = subst (λ (a : Answer). Gives a s s' r) (sym (past-checks none v)) g
 
-    pub not-utf8 : (p : ℕ) → first-bad doc ≡ some p → (s' : Slices) → s' .work ≡ replicate (length (s .work)) 0 → Cleared (s .rows) (s' .rows) (s .terms) (s' .terms) (s .store) (s' .store)
+    pub not-utf8 : (p : ℕ) → first-bad doc ≡ some p → (s' : LentSlices) → s' .work ≡ replicate (length (s .work)) 0 → Cleared (s .rows) (s' .rows) (s .terms) (s' .terms) (s .store) (s' .store)
         → Gives (read doc mode base (lengths s)) s s' (answer 5 p)
     unfolding read-utf8
     not-utf8 p v s' w C = subst (λ (a : Answer). Gives a s s' (answer 5 p)) (sym (past-checks (some p) v))
-      (record { number = refl; position = refl; row-count = refl; term-count = refl; store-count = refl; work = w; rows = C .rows-zero; terms = C .terms-zero; store = C .store-zero })
+        (record { number = refl; position = refl; row-count = refl; term-count = refl; store-count = refl; work = w; rows = C .rows-zero; terms = C .terms-zero; store = C .store-zero })

@@ -1,8 +1,7 @@
--- Where reading ends: what the slices hold is what the machine's outcome says.
+-- Where reading ends: what the lent-slices hold is what the machine's outcome says.
 use mathlib.Core.Path.{_≡_, refl, sym, ap, subst, _∙_}
 use mathlib.Core.List.{List, [], _∷_, _++_}
-use mathlib.Core.Bool.{Bool, true, false}
-use Prim.Native.Nat.{ℕ, suc, _+_, _*_}
+use Prim.Native.Nat.{ℕ, _+_, _*_}
 use native.Mathlib.Omega.{arith}
 use borrow.Author.Tests.{eqb-true, eqb-false}
 use lib.Dec.{eqb}
@@ -15,14 +14,14 @@ use Rattle.table.proofs.Store.{bytes-length}
 use Rattle.terms.proofs.Words.{words-length}
 use Rattle.machine.specs.Memory.{Memory, start-memory}
 use Rattle.machine.specs.Frame.{statement}
-use Rattle.machine.specs.Step.{Outcome, accepted, refused, run}
-use Rattle.machine.specs.Read.{Answer, refusal, success, reported, mode-of, room-of, start-state, read-tokens}
+use Rattle.machine.specs.Step.{Outcome, accepted, refused}
+use Rattle.machine.specs.Read.{Answer, refusal, success, reported, mode-of, read-tokens}
 use Rattle.state.specs.Words.{at-word}
-use Rattle.state.specs.Represents.{Tables}
-use Rattle.reading.specs.Reading.{Held, tables-of, Holding, goes, Same}
+use Rattle.reading.specs.Reading.{Held, tables-of, Holding, goes}
 use Rattle.reader.specs.declared.Reading.{Reading}
 use Rattle.reader.specs.ReadsAll.{ReadsAll}
-use Rattle.reader.specs.Reader.{slices, lengths, Slices, Gives, Checked, Started, Finishes}
+use Rattle.reader.specs.Reader.{LentSlices, lent-slices, lengths, Gives}
+use Rattle.reader.specs.Stages.{Checked, Started, Finishes}
 use Rattle.reader.proofs.Start.{holds-start}
 
 -- Words in front of what was there before.
@@ -41,11 +40,11 @@ terms-length m = words-length (m .terms) 0 0 (m .terms)
 module _ (doc base work : Text) (mode : ℕ) (a b : Held) (n : ℕ) (K : Checked doc mode base work) (S : Started doc base work (a .work .now) (a .st)) (R : ReadsAll (mode-of mode) doc a b n)
     (work' rows' terms' store' : List ℕ) (r : Reading) (z : work' ≡ replicate (length (b .work .now)) 0)
     (F : Finishes (length doc) n (b .st) (b .rows .now) rows' (b .terms .now) terms' (b .store .now) store' r) where
-  abbrev before : Slices
-  before = slices work (a .rows .now) (a .terms .now) (a .store .now)
+  abbrev before : LentSlices
+  before = lent-slices work (a .rows .now) (a .terms .now) (a .store .now)
 
-  abbrev after : Slices
-  after = slices work' rows' terms' store'
+  abbrev after : LentSlices
+  after = lent-slices work' rows' terms' store'
 
   -- The answer is the machine's outcome from the cursor.
   by-outcome : (o : Outcome) → goes (mode-of mode) doc a (statement []) (start-memory base) ≡ o → read-tokens doc mode base (lengths before) ≡ reported (length doc) o
@@ -64,11 +63,11 @@ module _ (doc base work : Text) (mode : ℕ) (a b : Held) (n : ℕ) (K : Checked
     store-count = W .store-count ∙ H .terms-held .keeps .used;
     work = cleared-work;
     rows = W .rows-stay
-    ∙ in-front (b .rows .now) (a .rows .now) (rows-words (m .rows)) (5 * getD (b .st) 66 0) (H .rows-held .words) (H .same-rows) (omega (arith, H .rows-held .size, rows-length (m .rows)));
+        ∙ in-front (b .rows .now) (a .rows .now) (rows-words (m .rows)) (5 * getD (b .st) 66 0) (H .rows-held .words) (H .same-rows) (omega (arith, H .rows-held .size, rows-length (m .rows)));
     terms = W .terms-stay
-    ∙ in-front (b .terms .now) (a .terms .now) (terms-words (m .terms)) (5 * getD (b .st) 67 0) (H .terms-held .keeps .words) (H .same-terms) (omega (arith, H .terms-held .keeps .count, terms-length m));
+        ∙ in-front (b .terms .now) (a .terms .now) (terms-words (m .terms)) (5 * getD (b .st) 67 0) (H .terms-held .keeps .words) (H .same-terms) (omega (arith, H .terms-held .keeps .count, terms-length m));
     store = W .store-stays
-    ∙ in-front (b .store .now) (a .store .now) (store-bytes (m .terms)) (getD (b .st) 68 0) (H .terms-held .keeps .bytes) (H .same-store) (H .terms-held .keeps .used ∙ sym (bytes-length (m .terms)));
+        ∙ in-front (b .store .now) (a .store .now) (store-bytes (m .terms)) (getD (b .st) 68 0) (H .terms-held .keeps .bytes) (H .same-store) (H .terms-held .keeps .used ∙ sym (bytes-length (m .terms)));
   }
 
   refuses : (n ≡ 0 → ⊥) → Gives (refusal n (getD (b .st) at-word 0)) before after r
@@ -92,6 +91,6 @@ module _ (doc base work : Text) (mode : ℕ) (a b : Held) (n : ℕ) (K : Checked
       let H : Holding (tables-of a) (start-memory base) a = holds-start a (K .good-base) S in
       by (eqb n 0)
       (λ q. let e : n ≡ 0 = eqb-true n 0 q in let G = R .on e (tables-of a) (start-memory base) H in
-        answer-is (read-tokens doc mode base (lengths before)) (success (length doc) (G .0)) (by-outcome (accepted (G .0)) (G .1 .1)) (accepts e (G .0) (G .1 .0)))
+      answer-is (read-tokens doc mode base (lengths before)) (success (length doc) (G .0)) (by-outcome (accepted (G .0)) (G .1 .1)) (accepts e (G .0) (G .1 .0)))
       (λ q. let e : n ≡ 0 → ⊥ = eqb-false n 0 q in
-        answer-is (read-tokens doc mode base (lengths before)) (refusal n (getD (b .st) at-word 0)) (by-outcome (refused n (getD (b .st) at-word 0)) (R .stop e (tables-of a) (start-memory base) H)) (refuses e))
+      answer-is (read-tokens doc mode base (lengths before)) (refusal n (getD (b .st) at-word 0)) (by-outcome (refused n (getD (b .st) at-word 0)) (R .stop e (tables-of a) (start-memory base) H)) (refuses e))

@@ -2,7 +2,6 @@
 use mathlib.Core.Path.{_≡_, refl, sym, ap}
 use mathlib.Core.List.{List}
 use Prim.Native.Nat.{ℕ}
-use lib.ListN.{length}
 use denote.Ref.{RefT, at-last}
 use Rattle.text.specs.Text.{Text}
 use Rattle.grammar.specs.Productions.{Mode}

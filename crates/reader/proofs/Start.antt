@@ -1,16 +1,16 @@
 -- Where reading starts: the machine's first memory is held, and the cursor is at the first token.
 use mathlib.Core.Path.{_≡_, refl, sym, ap, _∙_}
 use mathlib.Core.List.{List, [], _∷_}
-use mathlib.Core.Bool.{Bool, true, false, not, _&&_, _||_}
+use mathlib.Core.Bool.{Bool, true, false, not, _||_}
 use mathlib.Core.Option.{none}
 use mathlib.Core.Logic.{inl, inr}
-use Prim.Native.Nat.{ℕ, zero, suc, _+_, _-_, _*_, _≤_, _<_}
+use Prim.Native.Nat.{ℕ, zero, suc, _-_, _≤_, _<_}
 use native.Mathlib.Omega.{arith}
 use borrow.Author.Tests.{ltb-false, le-leb}
-use lib.Dec.{leb, ltb}
-use lib.ListN.{length, getD, take, drop, replicate, length-replicate}
-use Rattle.text.specs.Text.{Text, cond, empty, some-byte, is-none}
-use Rattle.text.proofs.Compare.{by, contrary}
+use lib.Dec.{ltb}
+use lib.ListN.{length, getD, drop, replicate, length-replicate}
+use Rattle.text.specs.Text.{Text, empty, some-byte, is-none}
+use Rattle.text.proofs.Compare.{contrary}
 use Rattle.limits.specs.Limits.{document-limit, iri-limit}
 use Rattle.utf8.specs.Utf8.{first-bad}
 use Rattle.token.specs.Tokens.{lexemes}
@@ -18,7 +18,7 @@ use Rattle.lexer.specs.Rest.{rest}
 use Rattle.lexer_words.specs.Ahead.{Clear}
 use Rattle.lexer_words.proofs.Clearing.{clear-none}
 use Rattle.iri.specs.Iri.{has-scheme, forbidden}
-use Rattle.scope.specs.Environment.{Environment, set-base, start-environment}
+use Rattle.scope.specs.Environment.{start-environment}
 use Rattle.scope.specs.Code.{words-size, in-force, listed, base-cell, cell, Usable, SetsBase}
 use Rattle.scope.proofs.Directives.{in-force-words}
 use Rattle.clear.proofs.Zeros.{zeros, zero-at}
@@ -28,9 +28,8 @@ use Rattle.machine.specs.Memory.{start-memory}
 use Rattle.machine.specs.Read.{bad-base}
 use Rattle.state.specs.Words.{counts-of}
 use Rattle.state.specs.Cursor.{Sought}
-use Rattle.state.specs.Represents.{Represents, tables}
 use Rattle.reading.specs.Reading.{Held, Holding, tables-of, Ready}
-use Rattle.reader.specs.Reader.{Checked, Started}
+use Rattle.reader.specs.Stages.{Checked, Started}
 
 -- ---- The base
 

@@ -1,2 +1,3 @@
-pub mod ReadsAll
 pub mod Reader
+pub mod ReadsAll
+pub mod Stages

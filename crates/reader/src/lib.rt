@@ -7,7 +7,8 @@ ghost use Rattle.scope.specs.Code.{words-size};
 ghost use Rattle.machine.specs.Read.{mode-of, read-tokens};
 ghost use Rattle.reading.specs.Reading.{held, Ready};
 ghost use Rattle.reader.specs.ReadsAll.{ReadsAll};
-ghost use Rattle.reader.specs.Reader.{slices, lengths, Gives, Reads, Checked, Started, Cleared, Finishes};
+ghost use Rattle.reader.specs.Reader.{lent-slices, lengths, Gives, Contract};
+ghost use Rattle.reader.specs.Stages.{Checked, Started, Cleared, Finishes};
 use scope::Layout;
 use state::Words;
 use utf8::Validity;
@@ -196,7 +197,7 @@ fn read_checked(
     store: &mut [u8],
 ) -> Reading
     requires { ⌜ Checked (now document) mode (now base) (now work) ⌝ }
-    ensures { λ r. ⌜ Gives (read-tokens (now (document .entry)) mode (now (base .entry)) (lengths (slices (now (work .entry)) (now (rows .entry)) (now (terms .entry)) (now (store .entry))))) (slices (now (work .entry)) (now (rows .entry)) (now (terms .entry)) (now (store .entry))) (slices (now (work .exit)) (now (rows .exit)) (now (terms .exit)) (now (store .exit))) r ⌝ }
+    ensures { λ r. ⌜ Gives (read-tokens (now (document .entry)) mode (now (base .entry)) (lengths (lent-slices (now (work .entry)) (now (rows .entry)) (now (terms .entry)) (now (store .entry))))) (lent-slices (now (work .entry)) (now (rows .entry)) (now (terms .entry)) (now (store .entry))) (lent-slices (now (work .exit)) (now (rows .exit)) (now (terms .exit)) (now (store .exit))) r ⌝ }
 {
     let mut st = Layout::fresh();
     prepare(document, base, mode, work, &mut st);
@@ -215,7 +216,7 @@ pub fn read(
     terms: &mut [u32],
     store: &mut [u8],
 ) -> Reading
-    ensures { λ r. ⌜ Reads (now (document .entry)) mode (now (base .entry)) (slices (now (work .entry)) (now (rows .entry)) (now (terms .entry)) (now (store .entry))) (slices (now (work .exit)) (now (rows .exit)) (now (terms .exit)) (now (store .exit))) r ⌝ }
+    ensures { λ r. ⌜ Contract (now (document .entry)) mode (now (base .entry)) (lent-slices (now (work .entry)) (now (rows .entry)) (now (terms .entry)) (now (store .entry))) (lent-slices (now (work .exit)) (now (rows .exit)) (now (terms .exit)) (now (store .exit))) r ⌝ }
 {
     let check = checks::first_check(document, mode, base, &work[0..]);
     if check != 0 {

@@ -2,29 +2,19 @@ use Rattle.reader.proofs.Start.{can-seek, started}
 use borrow.Author.Needs.{needs}
 use Rattle.reader.proofs.prepare.Statement.{statement}
 use Rattle.reader.proofs.prepare.Tie as tie
-use Rattle.reader.proofs.prepare.Reads as reads
-use Rattle.reader.proofs.prepare.Lts as lts
-use Rattle.clear.proofs.clear_bytes.Reads as clear-bytes-reads
-use Rattle.cursor.proofs.seek.Reads as seek-reads
-use Rattle.scope.proofs.set_base.Reads as set-base-reads
 
--- src/lib.rt:144:5
 clear-bytes-requires : tie.Need-clear-bytes-requires
 clear-bytes-requires c κs = search needs
 
--- src/lib.rt:145:5
 set-base-requires : tie.Need-set-base-requires
 set-base-requires c κs = search needs
 
--- src/lib.rt:146:5
 seek-requires : tie.Need-seek-requires
 seek-requires c κs = can-seek (c .before .before .before .before .before .before .before .before .before .before .before .before .before .pre .0) (c .before .before .before .before .before .before .before .before .clear-bytes .ensures) (c .before .before .before .before .before .before .before .before .before .before .before .before .before .pre .1) (c .before .before .before .set-base .ensures)
 
--- src/lib.rt:140:1
 same-length : tie.Need-same-length
 same-length c = search needs
 
--- src/lib.rt:140:1
 returns : tie.Need-returns
 returns c = started (c .before .before .before .before .before .before .before .before .before .before .before .before .before .before .pre .0) (c .before .before .before .before .before .before .before .before .before .clear-bytes .ensures) (c .before .before .before .before .before .before .before .before .before .before .before .before .before .before .pre .1) (c .before .before .before .before .set-base .ensures) _ (c .seek .ensures)
 

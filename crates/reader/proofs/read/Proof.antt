@@ -1,104 +1,75 @@
 use mathlib.Core.List.{[]}
 use mathlib.Core.Path.{sym, ap, _∙_}
 use Rattle.utf8.specs.Code.{bad-place}
-use Rattle.reader.specs.Reader.{slices}
+use Rattle.reader.specs.Reader.{lent-slices}
 use Rattle.reader.proofs.Checks.{check-refuses, checked, not-utf8, valid}
 use borrow.Author.Needs.{needs}
 use Rattle.reader.proofs.read.Statement.{statement}
 use Rattle.reader.proofs.read.Tie as tie
-use Rattle.reader.proofs.read.Reads as reads
-use Rattle.reader.proofs.read.Lts as lts
-use Rattle.checks.proofs.first_check.Reads as first-check-reads
-use Rattle.clear.proofs.clear_bytes.Reads as clear-bytes-reads
-use Rattle.reader.proofs.clear_tables.Reads as clear-tables-reads
-use Rattle.reader.proofs.read_checked.Reads as read-checked-reads
-use Rattle.utf8.proofs.first_bad.Reads as first-bad-reads
 
--- src/lib.rt:220:59
 sub-first-check : tie.Need-sub-first-check
 sub-first-check c = search needs
 
--- src/lib.rt:220:59
 part-first-check-start : tie.Need-part-first-check-start
 part-first-check-start c = search needs
 
--- src/lib.rt:220:59
 part-first-check-end : tie.Need-part-first-check-end
 part-first-check-end c = search needs
 
--- src/lib.rt:220:9
 first-check-requires : tie.Need-first-check-requires
 first-check-requires c κs = search needs
 
--- src/lib.rt:222:9
 same-length : tie.Need-same-length
 same-length c = search needs
 
--- src/lib.rt:222:9
 returns : tie.Need-returns
 returns c = check-refuses _ _ _ _ _ (c .before .first-check .ensures) (c .if1 .taken)
 
--- src/lib.rt:230:9
 first-bad-requires : tie.Need-first-bad-requires
 first-bad-requires c κs = search needs
 
--- src/lib.rt:232:25
 enum-known-validity : tie.Need-enum-known-validity
 enum-known-validity c = search needs
 
--- src/lib.rt:233:13
 clear-bytes-requires : tie.Need-clear-bytes-requires
 clear-bytes-requires c κs = search needs
 
--- src/lib.rt:234:13
 clear-tables-requires : tie.Need-clear-tables-requires
 clear-tables-requires c κs = search needs
 
--- src/lib.rt:243:63
 enum-told : tie.Need-enum-told
 enum-told c = search needs
 
--- src/lib.rt:243:28
 read-checked-requires : tie.Need-read-checked-requires
-read-checked-requires c κs = checked _ _ _ _ (slices (c .before .before .before .before .before .before .before .before .before .before .before .before .before .before .before .before .before .args .work .now) [] [] []) (c .before .before .before .before .before .before .before .before .first-check .ensures) (c .before .before .before .before .before .before .before .if1 .left) (sym (c .before .before .before .before .before .before .first-bad .ensures) ∙ ap bad-place (c .before .before .before .before .enum-told .given .1))
+read-checked-requires c κs = checked _ _ _ _ (lent-slices (c .before .before .before .before .before .before .before .before .before .before .before .before .before .before .before .before .before .args .work .now) [] [] []) (c .before .before .before .before .before .before .before .before .first-check .ensures) (c .before .before .before .before .before .before .before .if1 .left) (sym (c .before .before .before .before .before .before .first-bad .ensures) ∙ ap bad-place (c .before .before .before .before .enum-told .given .1))
 
--- src/lib.rt:209:1
 same-length-2 : tie.Need-same-length-2
 same-length-2 c = search needs
 
--- src/lib.rt:209:1
 same-length-3 : tie.Need-same-length-3
 same-length-3 c = search needs
 
--- src/lib.rt:209:1
 same-length-4 : tie.Need-same-length-4
 same-length-4 c = search needs
 
--- src/lib.rt:209:1
 same-length-5 : tie.Need-same-length-5
 same-length-5 c = search needs
 
--- src/lib.rt:209:1
 returns-2 : tie.Need-returns-2
 returns-2 c = not-utf8 _ _ _ _ _ (c .before .before .before .before .before .before .before .before .before .before .before .before .before .before .before .before .before .before .before .first-check .ensures) (c .before .before .before .before .before .before .before .before .before .before .before .before .before .before .before .before .before .before .if1 .left) _ (sym (c .before .before .before .before .before .before .before .before .before .before .before .before .before .before .before .before .before .first-bad .ensures) ∙ ap bad-place (c .before .before .before .before .before .before .before .before .before .before .before .before .before .before .before .validity .given .1)) _ (c .before .before .before .before .before .before .before .before .before .before .before .before .clear-bytes .ensures) (c .before .before .before .before .before .before .clear-tables .ensures)
 
--- src/lib.rt:209:1
 same-length-6 : tie.Need-same-length-6
 same-length-6 c = search needs
 
--- src/lib.rt:209:1
 same-length-7 : tie.Need-same-length-7
 same-length-7 c = search needs
 
--- src/lib.rt:209:1
 same-length-8 : tie.Need-same-length-8
 same-length-8 c = search needs
 
--- src/lib.rt:209:1
 same-length-9 : tie.Need-same-length-9
 same-length-9 c = search needs
 
--- src/lib.rt:209:1
 returns-3 : tie.Need-returns-3
 returns-3 c = valid _ _ _ _ _ (c .before .before .before .before .before .before .before .before .before .before .before .before .before .before .before .before .before .first-check .ensures) (c .before .before .before .before .before .before .before .before .before .before .before .before .before .before .before .before .if1 .left) (sym (c .before .before .before .before .before .before .before .before .before .before .before .before .before .before .before .first-bad .ensures) ∙ ap bad-place (c .before .before .before .before .before .before .before .before .before .before .before .before .before .enum-told .given .1)) _ _ (c .before .before .before .before .before .before .before .before .read-checked .ensures)
 

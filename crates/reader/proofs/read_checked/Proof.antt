@@ -3,51 +3,34 @@ use Rattle.reader.proofs.Start.{ready-start}
 use borrow.Author.Needs.{needs}
 use Rattle.reader.proofs.read_checked.Statement.{statement}
 use Rattle.reader.proofs.read_checked.Tie as tie
-use Rattle.reader.proofs.read_checked.Reads as reads
-use Rattle.reader.proofs.read_checked.Lts as lts
-use Rattle.clear.proofs.clear_bytes.Reads as clear-bytes-reads
-use Rattle.reader.proofs.finish.Reads as finish-reads
-use Rattle.reader.proofs.prepare.Reads as prepare-reads
-use Rattle.reader.proofs.run.Reads as run-reads
-use Rattle.scope.proofs.Layout.fresh.Reads as fresh-reads
 
--- src/lib.rt:201:18
 fresh-requires : tie.Need-fresh-requires
 fresh-requires c κs = search needs
 
--- src/lib.rt:202:5
 prepare-requires : tie.Need-prepare-requires
 prepare-requires c κs = search needs
 
--- src/lib.rt:203:9
 run-requires : tie.Need-run-requires
 run-requires c κs = (ready-start _ (c .before .before .before .before .before .before .before .before .before .before .before .before .before .before .before .before .before .pre .good-base) (c .before .before .before .before .before .before .before .prepare .ensures), c .before .before .before .before .before .before .before .before .before .before .before .before .before .before .before .before .before .pre .known)
 
--- src/lib.rt:204:5
 clear-bytes-requires : tie.Need-clear-bytes-requires
 clear-bytes-requires c κs = search needs
 
--- src/lib.rt:205:5
 finish-requires : tie.Need-finish-requires
 finish-requires c κs = search needs
 
--- src/lib.rt:189:1
 same-length : tie.Need-same-length
 same-length c = search needs
 
--- src/lib.rt:189:1
 same-length-2 : tie.Need-same-length-2
 same-length-2 c = search needs
 
--- src/lib.rt:189:1
 same-length-3 : tie.Need-same-length-3
 same-length-3 c = search needs
 
--- src/lib.rt:189:1
 same-length-4 : tie.Need-same-length-4
 same-length-4 c = search needs
 
--- src/lib.rt:189:1
 returns : tie.Need-returns
 returns c = gives _ _ _ _ _ _ _ (c .before .before .before .before .before .before .before .before .before .before .before .before .before .before .before .before .before .before .before .before .before .before .before .before .before .before .before .before .before .before .before .before .before .before .before .before .before .before .before .before .before .pre) (c .before .before .before .before .before .before .before .before .before .before .before .before .before .before .before .before .before .before .before .before .before .before .before .before .before .before .before .before .before .before .before .prepare .ensures) (c .before .before .before .before .before .before .before .before .before .before .before .before .before .before .before .before .before .before .before .before .before .before .before .run .ensures) _ _ _ _ _ (c .before .before .before .before .before .before .before .before .before .before .before .before .before .clear-bytes .ensures) (c .before .before .before .before .before .before .finish .ensures)
 

@@ -3,31 +3,22 @@ use Rattle.reader.proofs.Lending.{back-work, back-rows, back-store, bac
 use borrow.Author.Needs.{needs}
 use Rattle.reader.proofs.run.Statement.{statement}
 use Rattle.reader.proofs.run.Tie as tie
-use Rattle.reader.proofs.run.Reads as reads
-use Rattle.reader.proofs.run.Lts as lts
-use Rattle.reader.proofs.with_work.Reads as with-work-reads
 
--- src/lib.rt:135:5
 with-work-requires : tie.Need-with-work-requires
 with-work-requires c κs = search needs
 
--- src/lib.rt:122:1
 same-length : tie.Need-same-length
 same-length c = search needs
 
--- src/lib.rt:122:1
 same-length-2 : tie.Need-same-length-2
 same-length-2 c = search needs
 
--- src/lib.rt:122:1
 same-length-3 : tie.Need-same-length-3
 same-length-3 c = search needs
 
--- src/lib.rt:122:1
 same-length-4 : tie.Need-same-length-4
 same-length-4 c = search needs
 
--- src/lib.rt:122:1
 returns : tie.Need-returns
 returns c = back-work (c .before .before .before .before .before .before .before .before .before .before .before .before .before .before .before .before .before .before .before .before .before .args .work) (c .before .before .before .before .before .before .before .work .given .0) refl (c .before .before .before .before .before .before .before .work .given .1 .0) (back-rows (c .before .before .before .before .before .before .before .before .before .before .before .before .before .before .before .before .before .before .before .before .before .args .rows) (c .before .before .before .before .before .before .before .before .with-work .last .1 .1 .0) refl (λ q. refl) (back-terms (c .before .before .before .before .before .before .before .before .before .before .before .before .before .before .before .before .before .before .before .before .before .args .terms) (c .before .before .before .before .before .before .before .before .with-work .last .1 .1 .1 .0) refl (λ q. refl) (back-store (c .before .before .before .before .before .before .before .before .before .before .before .before .before .before .before .before .before .before .before .before .before .args .store) (c .before .before .before .before .before .before .before .before .with-work .last .1 .1 .1 .1 .0) refl (λ q. refl) (c .before .before .before .before .before .before .before .before .with-work .ensures))))
 

@@ -3,23 +3,16 @@ use Rattle.reader.proofs.Lending.{back-store, back-terms}
 use borrow.Author.Needs.{needs}
 use Rattle.reader.proofs.with_rows.Statement.{statement}
 use Rattle.reader.proofs.with_rows.Tie as tie
-use Rattle.reader.proofs.with_rows.Reads as reads
-use Rattle.reader.proofs.with_rows.Lts as lts
-use Rattle.reader.proofs.with_terms.Reads as with-terms-reads
 
--- src/lib.rt:96:5
 with-terms-requires : tie.Need-with-terms-requires
 with-terms-requires c κs = search needs
 
--- src/lib.rt:82:1
 same-length : tie.Need-same-length
 same-length c = search needs
 
--- src/lib.rt:82:1
 same-length-2 : tie.Need-same-length-2
 same-length-2 c = search needs
 
--- src/lib.rt:82:1
 returns : tie.Need-returns
 returns c = back-terms (c .before .before .before .before .before .before .before .before .before .before .before .before .before .before .args .terms) (c .before .before .before .terms .given .0) refl (c .before .before .before .terms .given .1 .0) (back-store (c .before .before .before .before .before .before .before .before .before .before .before .before .before .before .args .store) (c .before .before .before .before .with-terms .last .1 .1 .1 .1 .0) refl (λ q. refl) (c .before .before .before .before .with-terms .ensures))
 

@@ -3,19 +3,13 @@ use Rattle.reader.proofs.Lending.{back-store}
 use borrow.Author.Needs.{needs}
 use Rattle.reader.proofs.with_terms.Statement.{statement}
 use Rattle.reader.proofs.with_terms.Tie as tie
-use Rattle.reader.proofs.with_terms.Reads as reads
-use Rattle.reader.proofs.with_terms.Lts as lts
-use Rattle.reader.proofs.with_store.Reads as with-store-reads
 
--- src/lib.rt:76:5
 with-store-requires : tie.Need-with-store-requires
 with-store-requires c κs = search needs
 
--- src/lib.rt:62:1
 same-length : tie.Need-same-length
 same-length c = search needs
 
--- src/lib.rt:62:1
 returns : tie.Need-returns
 returns c = back-store (c .before .before .before .before .before .before .before .before .before .before .before .args .store) (c .before .store .given .0) refl (c .before .store .given .1 .0) (c .before .before .with-store .ensures)
 

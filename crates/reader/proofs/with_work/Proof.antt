@@ -3,27 +3,19 @@ use Rattle.reader.proofs.Lending.{back-rows, back-store, back-terms}
 use borrow.Author.Needs.{needs}
 use Rattle.reader.proofs.with_work.Statement.{statement}
 use Rattle.reader.proofs.with_work.Tie as tie
-use Rattle.reader.proofs.with_work.Reads as reads
-use Rattle.reader.proofs.with_work.Lts as lts
-use Rattle.reader.proofs.with_rows.Reads as with-rows-reads
 
--- src/lib.rt:116:5
 with-rows-requires : tie.Need-with-rows-requires
 with-rows-requires c κs = search needs
 
--- src/lib.rt:102:1
 same-length : tie.Need-same-length
 same-length c = search needs
 
--- src/lib.rt:102:1
 same-length-2 : tie.Need-same-length-2
 same-length-2 c = search needs
 
--- src/lib.rt:102:1
 same-length-3 : tie.Need-same-length-3
 same-length-3 c = search needs
 
--- src/lib.rt:102:1
 returns : tie.Need-returns
 returns c = back-rows (c .before .before .before .before .before .before .before .before .before .before .before .before .before .before .before .before .before .args .rows) (c .before .before .before .before .before .rows .given .0) refl (c .before .before .before .before .before .rows .given .1 .0) (back-terms (c .before .before .before .before .before .before .before .before .before .before .before .before .before .before .before .before .before .args .terms) (c .before .before .before .before .before .before .with-rows .last .1 .1 .1 .0) refl (λ q. refl) (back-store (c .before .before .before .before .before .before .before .before .before .before .before .before .before .before .before .before .before .args .store) (c .before .before .before .before .before .before .with-rows .last .1 .1 .1 .1 .0) refl (λ q. refl) (c .before .before .before .before .before .before .with-rows .ensures)))
 

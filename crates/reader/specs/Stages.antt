@@ -1,0 +1,68 @@
+-- What each stage of a call leaves: checked, started, finished.
+use mathlib.Core.Path.{_≡_}
+use mathlib.Core.List.{List}
+use mathlib.Core.Bool.{false}
+use mathlib.Core.Option.{none}
+use Prim.Native.Nat.{ℕ, _-_, _≤_}
+use lib.ListN.{length, getD, drop, replicate}
+use Rattle.text.specs.Text.{Text}
+use Rattle.limits.specs.Limits.{document-limit, work-size}
+use Rattle.utf8.specs.Utf8.{first-bad}
+use Rattle.token.specs.Tokens.{lexemes}
+use Rattle.scope.specs.Environment.{start-environment}
+use Rattle.scope.specs.Code.{in-force, Usable}
+use Rattle.machine.specs.Read.{bad-base}
+use Rattle.state.specs.Words.{rows-word, terms-word, used-word, blanks-word, at-word, depth-word, graph-word}
+use Rattle.state.specs.Cursor.{Cursor, left}
+use Rattle.reader.specs.declared.Reading.{Reading}
+
+-- 1 to 5 do not refuse the call.
+pub record Checked (doc : Text) (mode : ℕ) (base work : Text) : Type 0 where
+  pub size : length doc ≤ document-limit
+  pub known : mode ≤ 1
+  pub good-base : bad-base base ≡ false
+  pub room : work-size ≤ length work
+  pub utf8 : first-bad doc ≡ none
+
+-- Nothing is read yet: the work slice and the array hold the lent base and the first token.
+pub record Started (doc base old work : Text) (st : List ℕ) : Type 0 where
+  pub long : length work ≡ length old
+  pub usable : Usable work st
+  pub environment : in-force work st ≡ start-environment base
+  pub index : drop work-size work ≡ replicate (length work - work-size) 0
+  pub rows : getD st rows-word 0 ≡ 0
+  pub terms : getD st terms-word 0 ≡ 0
+  pub used : getD st used-word 0 ≡ 0
+  pub blanks : getD st blanks-word 0 ≡ 0
+  pub depth : getD st depth-word 0 ≡ 0
+  pub graph : getD st graph-word 0 ≡ 0
+  pub cursor : Cursor doc st
+  pub tokens : lexemes doc ≡ left doc st
+
+-- Zeros in the row, term and store slices.
+pub record Cleared (rows rows' terms terms' store store' : List ℕ) : Type 0 where
+  pub rows-zero : rows' ≡ replicate (length rows) 0
+  pub terms-zero : terms' ≡ replicate (length terms) 0
+  pub store-zero : store' ≡ replicate (length store) 0
+
+-- The counts are the array's, and the tables stay; or, with a refusal, there are none, and the tables are zeros.
+pub record Counted (size : ℕ) (st rows rows' terms terms' store store' : List ℕ) (r : Reading) : Type 0 where
+  pub position : r .position ≡ size
+  pub row-count : r .rows ≡ getD st rows-word 0
+  pub term-count : r .terms ≡ getD st terms-word 0
+  pub store-count : r .store ≡ getD st used-word 0
+  pub rows-stay : rows' ≡ rows
+  pub terms-stay : terms' ≡ terms
+  pub store-stays : store' ≡ store
+
+pub record Refused (at : ℕ) (rows rows' terms terms' store store' : List ℕ) (r : Reading) : Type 0 where
+  pub position : r .position ≡ at
+  pub row-count : r .rows ≡ 0
+  pub term-count : r .terms ≡ 0
+  pub store-count : r .store ≡ 0
+  pub cleared : Cleared rows rows' terms terms' store store'
+
+pub record Finishes (size n : ℕ) (st rows rows' terms terms' store store' : List ℕ) (r : Reading) : Type 0 where
+  pub number : r .number ≡ n
+  pub whole : n ≡ 0 → Counted size st rows rows' terms terms' store store' r
+  pub refused : (n ≡ 0 → ⊥) → Refused (getD st at-word 0) rows rows' terms terms' store store' r
