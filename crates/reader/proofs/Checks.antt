@@ -70,8 +70,8 @@ module _ (doc base : Text) (mode n : ℕ) (s : LentSlices) (e : n ≡ number-of 
     unfolding read-utf8
     valid v s' r g = subst (λ (a : Answer). Gives a s s' r) (sym (past-checks none v)) g
 
-    pub not-utf8 : (p : ℕ) → first-bad doc ≡ some p → (s' : LentSlices) → s' .work ≡ replicate (length (s .work)) 0 → Cleared (s .rows) (s' .rows) (s .terms) (s' .terms) (s .store) (s' .store)
-        → Gives (read doc mode base (lengths s)) s s' (answer 5 p)
+    pub not-utf8 : (p : ℕ) → first-bad doc ≡ some p → (s' : LentSlices) → Cleared s s' → Gives (read doc mode base (lengths s)) s s' (answer 5 p)
     unfolding read-utf8
-    not-utf8 p v s' w C = subst (λ (a : Answer). Gives a s s' (answer 5 p)) (sym (past-checks (some p) v))
-        (record { number = refl; position = refl; row-count = refl; term-count = refl; store-count = refl; work = w; rows = C .rows-zero; terms = C .terms-zero; store = C .store-zero })
+    not-utf8 p v s' C =
+        subst (λ (a : Answer). Gives a s s' (answer 5 p)) (sym (past-checks (some p) v))
+        (record { number = refl; position = refl; row-count = refl; term-count = refl; store-count = refl; work = C .work; rows = C .rows; terms = C .terms; store = C .store })

@@ -5,9 +5,10 @@ use Prim.Native.Nat.{ℕ, _+_, _*_}
 use native.Mathlib.Omega.{arith}
 use borrow.Author.Tests.{eqb-true, eqb-false}
 use lib.Dec.{eqb}
-use lib.ListN.{length, getD, take, drop, replicate, length-append, take-append-drop}
+use lib.ListN.{length, getD, take, drop, length-append, take-append-drop}
 use Rattle.text.specs.Text.{Text}
 use Rattle.text.proofs.Compare.{by}
+use Rattle.clear.proofs.Zeros.{zeros}
 use Rattle.table.specs.Layout.{Row, row-words}
 use Rattle.table.specs.Tables.{rows-words, terms-words, store-bytes}
 use Rattle.table.proofs.Store.{bytes-length}
@@ -37,36 +38,36 @@ terms-length : (m : Memory) → length (terms-words (m .terms)) ≡ 5 * length (
 unfolding terms-words
 terms-length m = words-length (m .terms) 0 0 (m .terms)
 
+-- What the slices of h hold, behind their references.
+abbrev held-slices : Held → LentSlices
+held-slices h = lent-slices (h .work .now) (h .rows .now) (h .terms .now) (h .store .now)
+
 module _ (doc base work : Text) (mode : ℕ) (a b : Held) (n : ℕ) (K : Checked doc mode base work) (S : Started doc base work (a .work .now) (a .st)) (R : ReadsAll (mode-of mode) doc a b n)
-    (work' rows' terms' store' : List ℕ) (r : Reading) (z : work' ≡ replicate (length (b .work .now)) 0)
-    (F : Finishes (length doc) n (b .st) (b .rows .now) rows' (b .terms .now) terms' (b .store .now) store' r) where
+    (after : LentSlices) (r : Reading) (F : Finishes (length doc) n (b .st) (held-slices b) after r) where
   abbrev before : LentSlices
   before = lent-slices work (a .rows .now) (a .terms .now) (a .store .now)
-
-  abbrev after : LentSlices
-  after = lent-slices work' rows' terms' store'
 
   -- The answer is the machine's outcome from the cursor.
   by-outcome : (o : Outcome) → goes (mode-of mode) doc a (statement []) (start-memory base) ≡ o → read-tokens doc mode base (lengths before) ≡ reported (length doc) o
   unfolding read-tokens goes
   by-outcome o e = rw (S .tokens) (rw (S .depth) at (ap (reported (length doc)) e))
 
-  cleared-work : work' ≡ replicate (length work) 0
-  cleared-work = z ∙ ap (λ (k : ℕ). replicate k 0) (R .same .work-length ∙ S .long)
+  zeros-for : (x : List ℕ) (i j : ℕ) → x ≡ zeros i → i ≡ j → x ≡ zeros j
+  zeros-for x i j e f = e ∙ ap zeros f
 
   accepts : n ≡ 0 → (m : Memory) → Holding (tables-of a) m b → Gives (success (length doc) m) before after r
-  accepts e m H = let W = F .whole e in record {
+  accepts e m H = let W = F .accepted e in record {
     number = F .number ∙ e;
     position = W .position;
     row-count = W .row-count ∙ H .rows-held .size;
     term-count = W .term-count ∙ H .terms-held .keeps .count;
     store-count = W .store-count ∙ H .terms-held .keeps .used;
-    work = cleared-work;
-    rows = W .rows-stay
+    work = zeros-for (after .work) (length (b .work .now)) (length work) (W .work) (R .same .work-length ∙ S .long);
+    rows = W .rows
         ∙ in-front (b .rows .now) (a .rows .now) (rows-words (m .rows)) (5 * getD (b .st) 66 0) (H .rows-held .words) (H .same-rows) (omega (arith, H .rows-held .size, rows-length (m .rows)));
-    terms = W .terms-stay
+    terms = W .terms
         ∙ in-front (b .terms .now) (a .terms .now) (terms-words (m .terms)) (5 * getD (b .st) 67 0) (H .terms-held .keeps .words) (H .same-terms) (omega (arith, H .terms-held .keeps .count, terms-length m));
-    store = W .store-stays
+    store = W .store
         ∙ in-front (b .store .now) (a .store .now) (store-bytes (m .terms)) (getD (b .st) 68 0) (H .terms-held .keeps .bytes) (H .same-store) (H .terms-held .keeps .used ∙ sym (bytes-length (m .terms)));
   }
 
@@ -77,20 +78,19 @@ module _ (doc base work : Text) (mode : ℕ) (a b : Held) (n : ℕ) (K : Checked
     row-count = X .row-count;
     term-count = X .term-count;
     store-count = X .store-count;
-    work = cleared-work;
-    rows = X .cleared .rows-zero ∙ ap (λ (k : ℕ). replicate k 0) (R .same .rows-length);
-    terms = X .cleared .terms-zero ∙ ap (λ (k : ℕ). replicate k 0) (R .same .terms-length);
-    store = X .cleared .store-zero ∙ ap (λ (k : ℕ). replicate k 0) (R .same .store-length);
+    work = zeros-for (after .work) (length (b .work .now)) (length work) (X .cleared .work) (R .same .work-length ∙ S .long);
+    rows = zeros-for (after .rows) (length (b .rows .now)) (length (a .rows .now)) (X .cleared .rows) (R .same .rows-length);
+    terms = zeros-for (after .terms) (length (b .terms .now)) (length (a .terms .now)) (X .cleared .terms) (R .same .terms-length);
+    store = zeros-for (after .store) (length (b .store .now)) (length (a .store .now)) (X .cleared .store) (R .same .store-length);
   }
 
-  answer-is : (x y : Answer) → x ≡ y → Gives y before after r → Gives x before after r
-  answer-is x y e g = subst (λ (q : Answer). Gives q before after r) (sym e) g
+  -- The answer of an outcome that the machine comes to.
+  answers : (o : Outcome) → goes (mode-of mode) doc a (statement []) (start-memory base) ≡ o → Gives (reported (length doc) o) before after r → Gives (read-tokens doc mode base (lengths before)) before after r
+  answers o e g = subst (λ (q : Answer). Gives q before after r) (sym (by-outcome o e)) g
 
   pub gives : Gives (read-tokens doc mode base (lengths before)) before after r
   gives =
       let H : Holding (tables-of a) (start-memory base) a = holds-start a (K .good-base) S in
       by (eqb n 0)
-      (λ q. let e : n ≡ 0 = eqb-true n 0 q in let G = R .on e (tables-of a) (start-memory base) H in
-      answer-is (read-tokens doc mode base (lengths before)) (success (length doc) (G .0)) (by-outcome (accepted (G .0)) (G .1 .1)) (accepts e (G .0) (G .1 .0)))
-      (λ q. let e : n ≡ 0 → ⊥ = eqb-false n 0 q in
-      answer-is (read-tokens doc mode base (lengths before)) (refusal n (getD (b .st) at-word 0)) (by-outcome (refused n (getD (b .st) at-word 0)) (R .stop e (tables-of a) (start-memory base) H)) (refuses e))
+      (λ q. let e : n ≡ 0 = eqb-true n 0 q in let G = R .on e (tables-of a) (start-memory base) H in answers (accepted (G .0)) (G .1 .1) (accepts e (G .0) (G .1 .0)))
+      (λ q. let e : n ≡ 0 → ⊥ = eqb-false n 0 q in answers (refused n (getD (b .st) at-word 0)) (R .stop e (tables-of a) (start-memory base) H) (refuses e))

@@ -15,6 +15,7 @@ use Rattle.machine.specs.Read.{bad-base}
 use Rattle.state.specs.Words.{rows-word, terms-word, used-word, blanks-word, at-word, depth-word, graph-word}
 use Rattle.state.specs.Cursor.{Cursor, left}
 use Rattle.reader.specs.declared.Reading.{Reading}
+use Rattle.reader.specs.Reader.{LentSlices}
 
 -- 1 to 5 do not refuse the call.
 pub record Checked (doc : Text) (mode : ℕ) (base work : Text) : Type 0 where
@@ -39,30 +40,33 @@ pub record Started (doc base old work : Text) (st : List ℕ) : Type 0 where
   pub cursor : Cursor doc st
   pub tokens : lexemes doc ≡ left doc st
 
--- Zeros in the row, term and store slices.
-pub record Cleared (rows rows' terms terms' store store' : List ℕ) : Type 0 where
-  pub rows-zero : rows' ≡ replicate (length rows) 0
-  pub terms-zero : terms' ≡ replicate (length terms) 0
-  pub store-zero : store' ≡ replicate (length store) 0
+-- Zeros in all slices.
+pub record Cleared (old new : LentSlices) : Type 0 where
+  pub work : new .work ≡ replicate (length (old .work)) 0
+  pub rows : new .rows ≡ replicate (length (old .rows)) 0
+  pub terms : new .terms ≡ replicate (length (old .terms)) 0
+  pub store : new .store ≡ replicate (length (old .store)) 0
 
--- The counts are the array's, and the tables stay; or, with a refusal, there are none, and the tables are zeros.
-pub record Counted (size : ℕ) (st rows rows' terms terms' store store' : List ℕ) (r : Reading) : Type 0 where
+-- All was read: the counts are the array's, and the tables stay.
+pub record Accepted (size : ℕ) (st : List ℕ) (old new : LentSlices) (r : Reading) : Type 0 where
   pub position : r .position ≡ size
   pub row-count : r .rows ≡ getD st rows-word 0
   pub term-count : r .terms ≡ getD st terms-word 0
   pub store-count : r .store ≡ getD st used-word 0
-  pub rows-stay : rows' ≡ rows
-  pub terms-stay : terms' ≡ terms
-  pub store-stays : store' ≡ store
+  pub work : new .work ≡ replicate (length (old .work)) 0
+  pub rows : new .rows ≡ old .rows
+  pub terms : new .terms ≡ old .terms
+  pub store : new .store ≡ old .store
 
-pub record Refused (at : ℕ) (rows rows' terms terms' store store' : List ℕ) (r : Reading) : Type 0 where
+pub record Refused (at : ℕ) (old new : LentSlices) (r : Reading) : Type 0 where
   pub position : r .position ≡ at
   pub row-count : r .rows ≡ 0
   pub term-count : r .terms ≡ 0
   pub store-count : r .store ≡ 0
-  pub cleared : Cleared rows rows' terms terms' store store'
+  pub cleared : Cleared old new
 
-pub record Finishes (size n : ℕ) (st rows rows' terms terms' store store' : List ℕ) (r : Reading) : Type 0 where
+-- The answer by the number n that reading came to.
+pub record Finishes (size n : ℕ) (st : List ℕ) (old new : LentSlices) (r : Reading) : Type 0 where
   pub number : r .number ≡ n
-  pub whole : n ≡ 0 → Counted size st rows rows' terms terms' store store' r
-  pub refused : (n ≡ 0 → ⊥) → Refused (getD st at-word 0) rows rows' terms terms' store store' r
+  pub accepted : n ≡ 0 → Accepted size st old new r
+  pub refused : (n ≡ 0 → ⊥) → Refused (getD st at-word 0) old new r

@@ -147,27 +147,30 @@ fn prepare(document: &[u8], base: &[u8], mode: u8, work: &mut [u8], st: &mut [us
     cursor::seek(document, st, 0, 0);
 }
 
-fn clear_tables(rows: &mut [u32], terms: &mut [u32], store: &mut [u8])
-    ensures { λ _. ⌜ Cleared (now (rows .entry)) (now (rows .exit)) (now (terms .entry)) (now (terms .exit)) (now (store .entry)) (now (store .exit)) ⌝ }
+fn clear_all(work: &mut [u8], rows: &mut [u32], terms: &mut [u32], store: &mut [u8])
+    ensures { λ _. ⌜ Cleared (lent-slices (now (work .entry)) (now (rows .entry)) (now (terms .entry)) (now (store .entry))) (lent-slices (now (work .exit)) (now (rows .exit)) (now (terms .exit)) (now (store .exit))) ⌝ }
 {
+    clear::clear_bytes(work);
     clear::clear_words(rows);
     clear::clear_words(terms);
     clear::clear_bytes(store);
 }
 
-// The answer 0 with its counts; or a refusal, and the tables are zeros.
+// The answer 0 with its counts, and the work slice is zeros; or a refusal, and all slices are.
 fn finish(
     number: u8,
     size: usize,
+    work: &mut [u8],
     rows: &mut [u32],
     terms: &mut [u32],
     store: &mut [u8],
     st: &[usize; Layout::WORDS],
 ) -> Reading
     requires { ⌜ length (now st) ≡ words-size ⌝ }
-    ensures { λ r. ⌜ Finishes size number (now (st .entry)) (now (rows .entry)) (now (rows .exit)) (now (terms .entry)) (now (terms .exit)) (now (store .entry)) (now (store .exit)) r ⌝ }
+    ensures { λ r. ⌜ Finishes size number (now (st .entry)) (lent-slices (now (work .entry)) (now (rows .entry)) (now (terms .entry)) (now (store .entry))) (lent-slices (now (work .exit)) (now (rows .exit)) (now (terms .exit)) (now (store .exit))) r ⌝ }
 {
     if number == 0 {
+        clear::clear_bytes(work);
         return Reading {
             number: 0,
             position: size,
@@ -176,7 +179,7 @@ fn finish(
             store: st[Words::USED],
         };
     }
-    clear_tables(rows, terms, store);
+    clear_all(work, rows, terms, store);
     Reading {
         number: number,
         position: st[Words::AT],
@@ -202,8 +205,7 @@ fn read_checked(
     let mut st = Layout::fresh();
     prepare(document, base, mode, work, &mut st);
     let number = run(document, work, rows, terms, store, &mut st, mode);
-    clear::clear_bytes(work);
-    finish(number, document.len(), rows, terms, store, &st)
+    finish(number, document.len(), work, rows, terms, store, &st)
 }
 
 // Reads a TriG document (mode 0) or a Turtle document (mode 1).
@@ -231,8 +233,7 @@ pub fn read(
     let validity = utf8::first_bad(document);
     match validity {
         Validity::BadAt(place) => {
-            clear::clear_bytes(work);
-            clear_tables(rows, terms, store);
+            clear_all(work, rows, terms, store);
             Reading {
                 number: 5,
                 position: place,

@@ -1,5 +1,5 @@
-use mathlib.Core.List.{[]}
 use mathlib.Core.Path.{sym, ap, _∙_}
+use mathlib.Core.List.{[]}
 use Rattle.utf8.specs.Code.{bad-place}
 use Rattle.reader.specs.Reader.{lent-slices}
 use Rattle.reader.proofs.Checks.{check-refuses, checked, not-utf8, valid}
@@ -31,11 +31,8 @@ first-bad-requires c κs = search needs
 enum-known-validity : tie.Need-enum-known-validity
 enum-known-validity c = search needs
 
-clear-bytes-requires : tie.Need-clear-bytes-requires
-clear-bytes-requires c κs = search needs
-
-clear-tables-requires : tie.Need-clear-tables-requires
-clear-tables-requires c κs = search needs
+clear-all-requires : tie.Need-clear-all-requires
+clear-all-requires c κs = search needs
 
 enum-told : tie.Need-enum-told
 enum-told c = search needs
@@ -56,7 +53,7 @@ same-length-5 : tie.Need-same-length-5
 same-length-5 c = search needs
 
 returns-2 : tie.Need-returns-2
-returns-2 c = not-utf8 _ _ _ _ _ (c .before .before .before .before .before .before .before .before .before .before .before .before .before .before .before .before .before .before .before .first-check .ensures) (c .before .before .before .before .before .before .before .before .before .before .before .before .before .before .before .before .before .before .if1 .left) _ (sym (c .before .before .before .before .before .before .before .before .before .before .before .before .before .before .before .before .before .first-bad .ensures) ∙ ap bad-place (c .before .before .before .before .before .before .before .before .before .before .before .before .before .before .before .validity .given .1)) _ (c .before .before .before .before .before .before .before .before .before .before .before .before .clear-bytes .ensures) (c .before .before .before .before .before .before .clear-tables .ensures)
+returns-2 c = not-utf8 _ _ _ _ _ (c .before .before .before .before .before .before .before .before .before .before .before .before .before .before .before .before .before .before .first-check .ensures) (c .before .before .before .before .before .before .before .before .before .before .before .before .before .before .before .before .before .if1 .left) _ (sym (c .before .before .before .before .before .before .before .before .before .before .before .before .before .before .before .before .first-bad .ensures) ∙ ap bad-place (c .before .before .before .before .before .before .before .before .before .before .before .before .before .before .validity .given .1)) _ (c .before .before .before .before .before .before .before .before .clear-all .ensures)
 
 same-length-6 : tie.Need-same-length-6
 same-length-6 c = search needs
@@ -85,8 +82,7 @@ read-spec =
     returns
     first-bad-requires
     enum-known-validity
-    clear-bytes-requires
-    clear-tables-requires
+    clear-all-requires
     enum-told
     read-checked-requires
     same-length-2

@@ -1,5 +1,5 @@
-use Rattle.reader.proofs.End.{gives}
 use Rattle.reader.proofs.Start.{ready-start}
+use Rattle.reader.proofs.End.{gives}
 use borrow.Author.Needs.{needs}
 use Rattle.reader.proofs.read_checked.Statement.{statement}
 use Rattle.reader.proofs.read_checked.Tie as tie
@@ -12,9 +12,6 @@ prepare-requires c κs = search needs
 
 run-requires : tie.Need-run-requires
 run-requires c κs = (ready-start _ (c .before .before .before .before .before .before .before .before .before .before .before .before .before .before .before .before .before .pre .good-base) (c .before .before .before .before .before .before .before .prepare .ensures), c .before .before .before .before .before .before .before .before .before .before .before .before .before .before .before .before .before .pre .known)
-
-clear-bytes-requires : tie.Need-clear-bytes-requires
-clear-bytes-requires c κs = search needs
 
 finish-requires : tie.Need-finish-requires
 finish-requires c κs = search needs
@@ -32,7 +29,7 @@ same-length-4 : tie.Need-same-length-4
 same-length-4 c = search needs
 
 returns : tie.Need-returns
-returns c = gives _ _ _ _ _ _ _ (c .before .before .before .before .before .before .before .before .before .before .before .before .before .before .before .before .before .before .before .before .before .before .before .before .before .before .before .before .before .before .before .before .before .before .before .before .before .before .before .before .before .pre) (c .before .before .before .before .before .before .before .before .before .before .before .before .before .before .before .before .before .before .before .before .before .before .before .before .before .before .before .before .before .before .before .prepare .ensures) (c .before .before .before .before .before .before .before .before .before .before .before .before .before .before .before .before .before .before .before .before .before .before .before .run .ensures) _ _ _ _ _ (c .before .before .before .before .before .before .before .before .before .before .before .before .before .clear-bytes .ensures) (c .before .before .before .before .before .before .finish .ensures)
+returns c = gives _ _ _ _ _ _ _ (c .before .before .before .before .before .before .before .before .before .before .before .before .before .before .before .before .before .before .before .before .before .before .before .before .before .before .before .before .before .before .before .before .before .before .before .before .before .before .before .before .pre) (c .before .before .before .before .before .before .before .before .before .before .before .before .before .before .before .before .before .before .before .before .before .before .before .before .before .before .before .before .before .before .prepare .ensures) (c .before .before .before .before .before .before .before .before .before .before .before .before .before .before .before .before .before .before .before .before .before .before .run .ensures) _ _ (c .before .before .before .before .before .before .before .before .finish .ensures)
 
 pub read-checked-spec : {M : Type 1} → statement M
 read-checked-spec =
@@ -41,7 +38,6 @@ read-checked-spec =
     fresh-requires
     prepare-requires
     run-requires
-    clear-bytes-requires
     finish-requires
     same-length
     same-length-2
