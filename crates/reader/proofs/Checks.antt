@@ -3,7 +3,7 @@ use mathlib.Core.Path.{_≡_, refl, sym, ap, subst, _∙_}
 use mathlib.Core.List.{[], _∷_}
 use mathlib.Core.Bool.{Bool, true, false, not}
 use mathlib.Core.Option.{Option, none, some}
-use Prim.Native.Nat.{ℕ, _-_}
+use Prim.Native.Nat.{ℕ, _-_, _≤_}
 use native.Mathlib.Omega.{arith}
 use borrow.Author.Tests.{ltb-false, leb-true}
 use lib.Dec.{leb, ltb}
@@ -53,14 +53,16 @@ module _ (doc base : Text) (mode n : ℕ) (s : LentSlices) (e : n ≡ number-of 
     tests : (ltb document-limit (length doc) ≡ false) × ((not (leb mode 1) ≡ false) × ((bad-base base ≡ false) × (ltb (length (s .work)) work-size ≡ false)))
     tests = all-pass (ltb document-limit (length doc)) (not (leb mode 1)) (bad-base base) (ltb (length (s .work)) work-size) (sym seen ∙ z)
 
-    pub checked : first-bad doc ≡ none → Checked doc mode base (s .work)
-    checked v = record {
-      size = ltb-false document-limit (length doc) (tests .0);
-      known = leb-true mode 1 (not-false (leb mode 1) (tests .1 .0));
-      good-base = tests .1 .1 .0;
-      room = ltb-false (length (s .work)) work-size (tests .1 .1 .1);
-      utf8 = v;
-    }
+    pub checked : first-bad doc ≡ none → Checked doc base (s .work) × (mode ≤ 1)
+    checked v = (
+      record {
+        size = ltb-false document-limit (length doc) (tests .0);
+        good-base = tests .1 .1 .0;
+        room = ltb-false (length (s .work)) work-size (tests .1 .1 .1);
+        utf8 = v;
+      },
+      leb-true mode 1 (not-false (leb mode 1) (tests .1 .0)),
+    )
 
     past-checks : (o : Option ℕ) → first-bad doc ≡ o → read doc mode base (lengths s) ≡ read-utf8 o doc mode base (lengths s)
     unfolding read read-checked

@@ -42,7 +42,7 @@ terms-length m = words-length (m .terms) 0 0 (m .terms)
 abbrev held-slices : Held → LentSlices
 held-slices h = lent-slices (h .work .now) (h .rows .now) (h .terms .now) (h .store .now)
 
-module _ (doc base work : Text) (mode : ℕ) (a b : Held) (n : ℕ) (K : Checked doc mode base work) (S : Started doc base work (a .work .now) (a .st)) (R : ReadsAll (mode-of mode) doc a b n)
+module _ (doc base work : Text) (mode : ℕ) (a b : Held) (n : ℕ) (K : Checked doc base work) (S : Started doc base work (a .work .now) (a .st)) (R : ReadsAll (mode-of mode) doc a b n)
     (after : LentSlices) (r : Reading) (F : Finishes (length doc) n (b .st) (held-slices b) after r) where
   abbrev before : LentSlices
   before = lent-slices work (a .rows .now) (a .terms .now) (a .store .now)

@@ -68,7 +68,7 @@ from-first : (doc : Text) → lexemes doc ≡ rest doc 0
 unfolding lexemes rest
 from-first doc = refl
 
-module _ {doc base work work₁ work₂ : Text} {mode : ℕ} {st st₁ : List ℕ} {b : Bool} (K : Checked doc mode base work) (e : work₁ ≡ replicate (length work) 0) (f : st ≡ replicate words-size 0)
+module _ {doc base work work₁ work₂ : Text} {st st₁ : List ℕ} {b : Bool} (K : Checked doc base work) (e : work₁ ≡ replicate (length work) 0) (f : st ≡ replicate words-size 0)
     (sets : Usable work₁ st → SetsBase work₁ work₂ st st₁ base b) where
   long₁ : length work₁ ≡ length work
   long₁ = ap length e ∙ length-replicate {A = ℕ} (length work) 0

@@ -17,10 +17,9 @@ use Rattle.state.specs.Cursor.{Cursor, left}
 use Rattle.reader.specs.declared.Reading.{Reading}
 use Rattle.reader.specs.Reader.{LentSlices}
 
--- 1 to 5 do not refuse the call.
-pub record Checked (doc : Text) (mode : ℕ) (base work : Text) : Type 0 where
+-- 1 and 3 to 5 do not refuse the call.
+pub record Checked (doc base work : Text) : Type 0 where
   pub size : length doc ≤ document-limit
-  pub known : mode ≤ 1
   pub good-base : bad-base base ≡ false
   pub room : work-size ≤ length work
   pub utf8 : first-bad doc ≡ none

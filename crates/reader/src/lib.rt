@@ -138,8 +138,8 @@ fn run(
 }
 
 // Makes everything ready: the work slice is zeros but for the base, and the cursor is at the first token.
-fn prepare(document: &[u8], base: &[u8], mode: u8, work: &mut [u8], st: &mut [usize; Layout::WORDS])
-    requires { ⌜ Checked (now document) mode (now base) (now work) × (now st ≡ replicate words-size 0) ⌝ }
+fn prepare(document: &[u8], base: &[u8], work: &mut [u8], st: &mut [usize; Layout::WORDS])
+    requires { ⌜ Checked (now document) (now base) (now work) × (now st ≡ replicate words-size 0) ⌝ }
     ensures { λ _. ⌜ Started (now (document .entry)) (now (base .entry)) (now (work .entry)) (now (work .exit)) (now (st .exit)) ⌝ }
 {
     clear::clear_bytes(work);
@@ -199,11 +199,11 @@ fn read_checked(
     terms: &mut [u32],
     store: &mut [u8],
 ) -> Reading
-    requires { ⌜ Checked (now document) mode (now base) (now work) ⌝ }
+    requires { ⌜ Checked (now document) (now base) (now work) × (mode ≤ 1) ⌝ }
     ensures { λ r. ⌜ Gives (read-tokens (now (document .entry)) mode (now (base .entry)) (lengths (lent-slices (now (work .entry)) (now (rows .entry)) (now (terms .entry)) (now (store .entry))))) (lent-slices (now (work .entry)) (now (rows .entry)) (now (terms .entry)) (now (store .entry))) (lent-slices (now (work .exit)) (now (rows .exit)) (now (terms .exit)) (now (store .exit))) r ⌝ }
 {
     let mut st = Layout::fresh();
-    prepare(document, base, mode, work, &mut st);
+    prepare(document, base, work, &mut st);
     let number = run(document, work, rows, terms, store, &mut st, mode);
     finish(number, document.len(), work, rows, terms, store, &st)
 }

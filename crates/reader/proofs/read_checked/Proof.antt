@@ -11,7 +11,7 @@ prepare-requires : tie.Need-prepare-requires
 prepare-requires c κs = search needs
 
 run-requires : tie.Need-run-requires
-run-requires c κs = (ready-start _ (c .before .before .before .before .before .before .before .before .before .before .before .before .before .before .before .before .before .pre .good-base) (c .before .before .before .before .before .before .before .prepare .ensures), c .before .before .before .before .before .before .before .before .before .before .before .before .before .before .before .before .before .pre .known)
+run-requires c κs = (ready-start _ (c .before .before .before .before .before .before .before .before .before .before .before .before .before .before .before .before .before .pre .0 .good-base) (c .before .before .before .before .before .before .before .prepare .ensures), c .before .before .before .before .before .before .before .before .before .before .before .before .before .before .before .before .before .pre .1)
 
 finish-requires : tie.Need-finish-requires
 finish-requires c κs = search needs
@@ -29,7 +29,7 @@ same-length-4 : tie.Need-same-length-4
 same-length-4 c = search needs
 
 returns : tie.Need-returns
-returns c = gives _ _ _ _ _ _ _ (c .before .before .before .before .before .before .before .before .before .before .before .before .before .before .before .before .before .before .before .before .before .before .before .before .before .before .before .before .before .before .before .before .before .before .before .before .before .before .before .before .pre) (c .before .before .before .before .before .before .before .before .before .before .before .before .before .before .before .before .before .before .before .before .before .before .before .before .before .before .before .before .before .before .prepare .ensures) (c .before .before .before .before .before .before .before .before .before .before .before .before .before .before .before .before .before .before .before .before .before .before .run .ensures) _ _ (c .before .before .before .before .before .before .before .before .finish .ensures)
+returns c = gives _ _ _ _ _ _ _ (c .before .before .before .before .before .before .before .before .before .before .before .before .before .before .before .before .before .before .before .before .before .before .before .before .before .before .before .before .before .before .before .before .before .before .before .before .before .before .before .before .pre .0) (c .before .before .before .before .before .before .before .before .before .before .before .before .before .before .before .before .before .before .before .before .before .before .before .before .before .before .before .before .before .before .prepare .ensures) (c .before .before .before .before .before .before .before .before .before .before .before .before .before .before .before .before .before .before .before .before .before .before .run .ensures) _ _ (c .before .before .before .before .before .before .before .before .finish .ensures)
 
 pub read-checked-spec : {M : Type 1} → statement M
 read-checked-spec =
