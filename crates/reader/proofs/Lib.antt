@@ -1,0 +1,4 @@
+pub mod Lending
+pub mod Start
+pub mod End
+pub mod Checks
