@@ -4,7 +4,8 @@ use mathlib.Core.List.{List, [], _∷_, _++_}
 use mathlib.Core.Bool.{Bool, true, false, _||_}
 use Prim.Native.Nat.{ℕ, _+_, _-_, _≤_, _<_}
 use native.Mathlib.Omega.{arith}
-use lib.ListN.{length, getD, take, drop}
+use borrow.Author.Tests.{ne-eqb}
+use lib.ListN.{length, getD, take, drop, length-drop}
 use lib.Seq.{take-all}
 use Rattle.text.specs.Text.{Text, cond, empty}
 use Rattle.limits.specs.Limits.{document-limit, iri-limit, work-size}
@@ -13,7 +14,7 @@ use Rattle.form.specs.Form.{undo, bad, joined}
 use Rattle.form.specs.declared.Form.the-variants.{Plain}
 use Rattle.scope.specs.Code.{in-force, Usable}
 use Rattle.scope.specs.Environment.{Environment}
-use Rattle.dataset.specs.Terms.{iri, blank, label, bracket}
+use Rattle.dataset.specs.Terms.{iri, blank, label, bracket, xsd-integer, xsd-decimal, xsd-double, xsd-boolean}
 use Rattle.dataset.specs.Constructors.{iri-of, nothing, awaiting}
 use Rattle.machine.specs.Memory.{Memory, Write, term, new-term, typed, iri-term}
 use Rattle.machine.specs.Refusals.{too-deep}
@@ -25,7 +26,7 @@ use Rattle.state.specs.Represents.{Tables, tables, room-in, Represents, Represe
 use Rattle.state.specs.Writes.{node-iri, node-write, placed, SpotFits, NodeFits}
 use Rattle.state.specs.declared.Spot.{Spot}
 use Rattle.state.specs.declared.Node.{Node}
-use Rattle.leaves.specs.Leaves.{spot-in, plain-node, PutReady, PutsToken}
+use Rattle.leaves.specs.Leaves.{spot-in, plain-node, datatype-of, PutsToken}
 use Rattle.leaves.proofs.Numbering.{placed-alike}
 use Rattle.leaves.proofs.Refusing.{refusal-iri, puts-token, refused-token}
 
@@ -95,6 +96,37 @@ module _ (s : Spot) (work work' back text : Text) (t t' : Tables) (st st' : List
   pub put-typed : Puts (placed s (node-write (plain-node 3) work back text text at)) work work' t t' st st' r → Puts (placed s (typed text back)) work work' t t' st st' r
   unfolding node-write joined undo
   put-typed p = p
+
+-- The label is the token without its first two bytes.
+behind : (k : ℕ) (s : List ℕ) → take (length s - k) (drop k s) ≡ drop k s
+behind k s = take-all (length s - k) (drop k s) (let d = length-drop k s in omega (arith, d))
+
+pub label-fits : (work back token : Text) → length back ≤ iri-limit → length token ≤ document-limit → 2 < length token → NodeFits (plain-node 2) work back (take (length token - 2) (drop 2 token)) (take (length token - 2) (drop 2 token))
+label-fits work back token b t l =
+    let n = ap length (behind 2 token) ∙ length-drop 2 token in
+    plain-fits 2 work back (take (length token - 2) (drop 2 token)) (omega arith) (omega arith) b (omega (arith, n, t)) (λ e. omega (arith, n, l))
+
+pub put-behind : (s : Spot) (work work' back : Text) (t t' : Tables) (st st' : List ℕ) (at r : ℕ) (token : Text)
+    → Puts (placed s (node-write (plain-node 2) work back (take (length token - 2) (drop 2 token)) (take (length token - 2) (drop 2 token)) at)) work work' t t' st st' r → Puts (placed s (term (blank (label (drop 2 token))))) work work' t t' st st' r
+put-behind s work work' back t t' st st' at r token p =
+    subst (λ (x : Text). Puts (placed s (term (blank (label x)))) work work' t t' st st' r) (behind 2 token) (put-label s work work' back (take (length token - 2) (drop 2 token)) t t' st st' at r p)
+
+-- Datatypes by the kind.
+module _ (s : Spot) (text work work' : Text) (t t' : Tables) (st st' : List ℕ) (r k : ℕ) where
+  typed-as : (d : Text) → datatype-of k ≡ d → Puts (placed s (typed text d)) work work' t t' st st' r → Puts (placed s (typed text (datatype-of k))) work work' t t' st st' r
+  typed-as d e p = subst (λ (x : Text). Puts (placed s (typed text x)) work work' t t' st st' r) (sym e) p
+
+  pub typed-8 : k ≡ 8 → Puts (placed s (typed text xsd-integer)) work work' t t' st st' r → Puts (placed s (typed text (datatype-of k))) work work' t t' st st' r
+  typed-8 e p = typed-as xsd-integer (ap datatype-of e) p
+
+  pub typed-9 : k ≡ 9 → Puts (placed s (typed text xsd-decimal)) work work' t t' st st' r → Puts (placed s (typed text (datatype-of k))) work work' t t' st st' r
+  typed-9 e p = typed-as xsd-decimal (ap datatype-of e) p
+
+  pub typed-10 : k ≡ 10 → Puts (placed s (typed text xsd-double)) work work' t t' st st' r → Puts (placed s (typed text (datatype-of k))) work work' t t' st st' r
+  typed-10 e p = typed-as xsd-double (ap datatype-of e) p
+
+  pub typed-other : (k ≡ 8 → ⊥) → (k ≡ 9 → ⊥) → (k ≡ 10 → ⊥) → Puts (placed s (typed text xsd-boolean)) work work' t t' st st' r → Puts (placed s (typed text (datatype-of k))) work work' t t' st st' r
+  typed-other a b c p = typed-as xsd-boolean (rw (ne-eqb k 8 a, ne-eqb k 9 b, ne-eqb k 10 c)) p
 
 -- ---- IRIs
 

@@ -1,3 +1,5 @@
+use native.Mathlib.Omega.{arith}
+use Rattle.leaves.proofs.Writing.{plain-fits, put-new}
 use borrow.Author.Needs.{needs}
 use Rattle.leaves.proofs.place_bracket.Statement.{statement}
 use Rattle.leaves.proofs.place_bracket.Tie as tie
@@ -15,7 +17,7 @@ slice-aggregate-none c = search needs
 
 -- src/lib.rt:82:5
 place-node-requires : tie.Need-place-node-requires
-place-node-requires c κs = search needs
+place-node-requires c κs = (c .before .before .before .before .before .before .before .before .before .before .pre, plain-fits 5 _ _ _ (omega arith) (omega arith) (omega arith) (omega arith) (λ e. absurd (omega arith)))
 
 -- src/lib.rt:70:1
 same-length : tie.Need-same-length
@@ -35,7 +37,7 @@ same-length-4 c = search needs
 
 -- src/lib.rt:70:1
 returns : tie.Need-returns
-returns c = search needs
+returns c = put-new _ _ _ _ _ _ _ _ _ _ _ (c .before .before .before .before .before .before .before .before .place-node .ensures)
 
 pub place-bracket-spec : {M : Type 1} → statement M
 place-bracket-spec =

@@ -1,3 +1,5 @@
+use native.Mathlib.Omega.{arith}
+use Rattle.leaves.proofs.Writing.{plain-fits, put-typed}
 use borrow.Author.Needs.{needs}
 use Rattle.leaves.proofs.place_integer.Statement.{statement}
 use Rattle.leaves.proofs.place_integer.Tie as tie
@@ -11,7 +13,7 @@ slice-aggregate-place-node c = search needs
 
 -- src/lib.rt:171:5
 place-node-requires : tie.Need-place-node-requires
-place-node-requires c κs = search needs
+place-node-requires c κs = let p = c .before .before .before .before .before .before .before .before .before .before .before .pre in (p .0, plain-fits 3 _ _ _ (omega arith) (omega arith) (omega arith) (p .1) (λ e. absurd (omega arith)))
 
 -- src/lib.rt:160:1
 same-length : tie.Need-same-length
@@ -31,7 +33,7 @@ same-length-4 c = search needs
 
 -- src/lib.rt:160:1
 returns : tie.Need-returns
-returns c = search needs
+returns c = put-typed _ _ _ _ _ _ _ _ _ _ _ (c .before .before .before .before .before .before .before .before .place-node .ensures)
 
 pub place-integer-spec : {M : Type 1} → statement M
 place-integer-spec =

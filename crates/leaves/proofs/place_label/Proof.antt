@@ -1,3 +1,5 @@
+use native.Mathlib.Omega.{arith}
+use Rattle.leaves.proofs.Writing.{label-fits, put-behind}
 use borrow.Author.Needs.{needs}
 use Rattle.leaves.proofs.place_label.Statement.{statement}
 use Rattle.leaves.proofs.place_label.Tie as tie
@@ -23,7 +25,7 @@ part-place-node-end c = search needs
 
 -- src/lib.rt:142:5
 place-node-requires : tie.Need-place-node-requires
-place-node-requires c κs = search needs
+place-node-requires c κs = let e = c .before .before .before .before .before .before .before .before .before .before .before .before in (e .pre .0, label-fits _ _ (e .args .token .now) (omega arith) (e .pre .1 .0) (e .pre .1 .1))
 
 -- src/lib.rt:131:1
 same-length : tie.Need-same-length
@@ -43,7 +45,7 @@ same-length-4 c = search needs
 
 -- src/lib.rt:131:1
 returns : tie.Need-returns
-returns c = search needs
+returns c = put-behind _ _ _ _ _ _ _ _ _ _ (c .before .before .before .before .before .before .before .before .before .before .before .before .before .before .before .before .before .before .before .before .before .args .token .now) (c .before .before .before .before .before .before .before .before .place-node .ensures)
 
 pub place-label-spec : {M : Type 1} → statement M
 place-label-spec =

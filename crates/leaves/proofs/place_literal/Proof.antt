@@ -1,3 +1,4 @@
+use Rattle.leaves.proofs.Writing.{typed-8, typed-9, typed-10, typed-other}
 use borrow.Author.Needs.{needs}
 use Rattle.leaves.proofs.place_literal.Statement.{statement}
 use Rattle.leaves.proofs.place_literal.Tie as tie
@@ -30,7 +31,7 @@ same-length-4 c = search needs
 
 -- src/lib.rt:290:9
 returns : tie.Need-returns
-returns c = search needs
+returns c = typed-8 _ _ _ _ _ _ _ _ _ _ (c .before .before .before .before .before .before .before .before .before .before .before .before .before .before .if1 .taken) (c .before .before .before .before .before .before .before .before .place-integer .ensures)
 
 -- src/lib.rt:293:9
 place-decimal-requires : tie.Need-place-decimal-requires
@@ -54,7 +55,7 @@ same-length-8 c = search needs
 
 -- src/lib.rt:293:9
 returns-2 : tie.Need-returns-2
-returns-2 c = search needs
+returns-2 c = typed-9 _ _ _ _ _ _ _ _ _ _ (c .before .before .before .before .before .before .before .before .before .before .before .before .before .before .if2 .taken) (c .before .before .before .before .before .before .before .before .place-decimal .ensures)
 
 -- src/lib.rt:296:9
 place-double-requires : tie.Need-place-double-requires
@@ -78,7 +79,7 @@ same-length-12 c = search needs
 
 -- src/lib.rt:296:9
 returns-3 : tie.Need-returns-3
-returns-3 c = search needs
+returns-3 c = typed-10 _ _ _ _ _ _ _ _ _ _ (c .before .before .before .before .before .before .before .before .before .before .before .before .before .before .if3 .taken) (c .before .before .before .before .before .before .before .before .place-double .ensures)
 
 -- src/lib.rt:298:5
 place-boolean-requires : tie.Need-place-boolean-requires
@@ -102,7 +103,7 @@ same-length-16 c = search needs
 
 -- src/lib.rt:277:1
 returns-4 : tie.Need-returns-4
-returns-4 c = search needs
+returns-4 c = typed-other _ _ _ _ _ _ _ _ _ _ (c .before .before .before .before .before .before .before .before .before .before .before .before .before .before .before .before .if1 .left) (c .before .before .before .before .before .before .before .before .before .before .before .before .before .before .before .if2 .left) (c .before .before .before .before .before .before .before .before .before .before .before .before .before .before .if3 .left) (c .before .before .before .before .before .before .before .before .place-boolean .ensures)
 
 pub place-literal-spec : {M : Type 1} → statement M
 place-literal-spec =

@@ -1,3 +1,4 @@
+use Rattle.leaves.proofs.Writing.{spot-fits, spot-put}
 use borrow.Author.Needs.{needs}
 use Rattle.leaves.proofs.place_node.Statement.{statement}
 use Rattle.leaves.proofs.place_node.Tie as tie
@@ -12,7 +13,7 @@ spot-here-requires c κs = search needs
 
 -- src/lib.rt:66:5
 place-requires : tie.Need-place-requires
-place-requires c κs = search needs
+place-requires c κs = let e = c .before .before .before .before .before .before .before .before .before .before .before .before .before in (e .pre .0 .holds, (spot-fits (e .args .st .now) _ (c .before .before .before .before .before .spot-here .ensures) (e .pre .0 .fits), e .pre .1))
 
 -- src/lib.rt:52:1
 same-length : tie.Need-same-length
@@ -32,7 +33,7 @@ same-length-4 c = search needs
 
 -- src/lib.rt:52:1
 returns : tie.Need-returns
-returns c = search needs
+returns c = spot-put (c .before .before .before .before .before .before .before .before .before .before .before .before .before .before .before .before .before .before .before .before .before .before .args .st .now) _ (c .before .before .before .before .before .before .before .before .before .before .before .before .before .before .spot-here .ensures) _ _ _ _ _ _ _ _ _ _ (c .before .before .before .before .before .before .before .before .place .ensures)
 
 pub place-node-spec : {M : Type 1} → statement M
 place-node-spec =

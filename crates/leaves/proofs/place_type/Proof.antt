@@ -1,3 +1,5 @@
+use native.Mathlib.Omega.{arith}
+use Rattle.leaves.proofs.Writing.{plain-fits, put-iri}
 use borrow.Author.Needs.{needs}
 use Rattle.leaves.proofs.place_type.Statement.{statement}
 use Rattle.leaves.proofs.place_type.Tie as tie
@@ -11,7 +13,7 @@ slice-aggregate-place-node c = search needs
 
 -- src/lib.rt:112:5
 place-node-requires : tie.Need-place-node-requires
-place-node-requires c κs = search needs
+place-node-requires c κs = let p = c .before .before .before .before .before .before .before .before .before .before .before .pre in (p .0, plain-fits 1 _ _ _ (omega arith) (omega arith) (omega arith) (p .1) (λ e. absurd (omega arith)))
 
 -- src/lib.rt:101:1
 same-length : tie.Need-same-length
@@ -31,7 +33,7 @@ same-length-4 c = search needs
 
 -- src/lib.rt:101:1
 returns : tie.Need-returns
-returns c = search needs
+returns c = put-iri _ _ _ _ _ _ _ _ _ _ _ (c .before .before .before .before .before .before .before .before .place-node .ensures)
 
 pub place-type-spec : {M : Type 1} → statement M
 place-type-spec =
