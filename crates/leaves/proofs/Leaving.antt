@@ -9,7 +9,7 @@ use lib.ListN.{length, getD, set, length-set}
 use lib.Seq.{getD-set-same, getD-set-other}
 use denote.Ref.{RefT, at-last}
 use Rattle.text.specs.Text.{Text}
-use Rattle.token.specs.Kind.{kind-of-code, among, open-bracket, open-paren, close-bracket, close-paren}
+use Rattle.token.specs.Kind.{kind-of-code, among, kw-a, open-bracket, open-paren, close-bracket, close-paren}
 use Rattle.lexer.specs.Rest.{rest}
 use Rattle.scope.specs.Code.{words-size}
 use Rattle.machine.specs.Memory.{Memory, Write}
@@ -17,13 +17,17 @@ use Rattle.machine.specs.Refusals.{too-deep, new-depth}
 use Rattle.state.specs.Words.{node-word, kind-word, at-word, len-word, depth-word, graph-word}
 use Rattle.state.specs.Cursor.{Cursor, TokenHere}
 use Rattle.state.specs.Represents.{Tables, tables, Represents, Puts}
-use Rattle.state.specs.Writes.{closed}
+use Rattle.state.specs.Writes.{placed, closed}
 use Rattle.reading.specs.Reading.{Held, held, tables-of, here, Holding, Ready, Same, Does, Gives}
-use Rattle.nodes.specs.Nodes.{spot-of, Spotted, Numbers, Closes, Passed}
+use Rattle.nodes.specs.Nodes.{term-kinds, spot-of, Spotted, Numbers, Closes, Passed}
 use Rattle.nodes.proofs.Moving.{token-words, cursor-words}
 use Rattle.nodes.proofs.Passing.{represents-words}
-use Rattle.leaves.specs.Leaves.{spot-in, PutReady, PutsToken}
+use Rattle.nodes.proofs.Slots.{term-rule}
+use Rattle.nodes.proofs.Predicates.{term-depth}
+use Rattle.reading.proofs.Tests.{among-code}
+use Rattle.leaves.specs.Leaves.{spot-in, PutReady, PutsToken, PutsNode}
 use Rattle.leaves.proofs.Numbering.{nil-positive}
+use Rattle.leaves.proofs.Terms.{is-term, term-some, term-low, term-readable}
 use Rattle.leaves.proofs.Refusing.{Plain, puts-plain, refused-deep}
 
 -- ---- The thin references stay, and the slices behind them are changed
@@ -89,6 +93,26 @@ module _ (doc : Text) (a : Held) (ready : Ready doc a) where
 module _ (doc : Text) (a : Held) (ready : Ready doc a) (k : ℕ) (e : getD (a .st) kind-word 0 ≡ k) (l : 0 < k) (g : k < 31) (st' : List ℕ) (same : (j : ℕ) → kind-word ≤ j → getD st' j 0 ≡ getD (a .st) j 0) (n : length st' ≡ length (a .st)) where
   pub still-there : (Cursor doc st' × TokenHere doc st') × (length st' ≡ words-size)
   still-there = ((cursor-words doc (a .st) st' (λ j x y. same j x) (ready .cursor), token-words doc (a .st) st' (λ j x y. same j x) (token-there doc a ready k e l g)), n ∙ words-there doc a ready)
+
+-- ---- A term's token
+
+module _ (doc : Text) (a : Held) (ready : Ready doc a) (h : is-term (getD (a .st) kind-word 0) ≡ true) (work' : Text) (t' : Tables) (st' : List ℕ) (r : ℕ) (P : PutsNode doc (a .work .now) work' (tables-of a) t' (a .st) st' r) where
+  here-token : TokenHere doc (a .st)
+  here-token = ready .cursor .token (term-some _ h) (term-readable _ h)
+
+  among-terms : among (kw-a ∷ term-kinds) (here doc a .kind) ≡ true
+  among-terms = among-code (kw-a ∷ term-kinds) (getD (a .st) kind-word 0) (term-some _ h) (here-token .known) ∙ h
+
+  put-there : (w : Write ℕ) × PutsToken (here doc a) w (a .work .now) work' (tables-of a) t' (a .st) st' r
+  put-there = let (v, g) = term-rule (here doc a) (here doc a .kind) among-terms in (placed (spot-in (a .st)) v, P v g)
+
+  pub term-still : (Cursor doc st' × TokenHere doc st') × (length st' ≡ words-size)
+  term-still =
+      let p = put-there .1 in
+      still-there doc a ready (getD (a .st) kind-word 0) refl (let l = term-low (getD (a .st) kind-word 0) h in omega (arith, l)) (let l = here-token .known in omega (arith, l)) st' (p .stays) (p .words)
+
+  pub term-depth-here : getD st' depth-word 0 ≡ new-depth (getD (a .st) depth-word 0) (here doc a)
+  term-depth-here = put-there .1 .stays 75 (omega arith) ∙ sym (term-depth (here doc a) (getD (a .st) depth-word 0) among-terms)
 
 -- ---- A token that meets no refusal of its own but 13
 

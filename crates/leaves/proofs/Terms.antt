@@ -41,6 +41,9 @@ is-term k = code-among (kw-a ∷ term-kinds) k
 pub term-some : (k : ℕ) → is-term k ≡ true → k ≡ 0 → ⊥
 term-some k h e = contrary (sym (rw e at h))
 
+pub term-low : (k : ℕ) → is-term k ≡ true → 1 ≤ k
+term-low k h = let z = term-some k h in omega (arith, z)
+
 pub term-readable : (k : ℕ) → is-term k ≡ true → k ≡ 31 → ⊥
 term-readable k h e = contrary (sym (rw e at h))
 

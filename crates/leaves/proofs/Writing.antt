@@ -17,7 +17,6 @@ use Rattle.scope.specs.Environment.{Environment}
 use Rattle.dataset.specs.Terms.{iri, blank, label, bracket, xsd-integer, xsd-decimal, xsd-double, xsd-boolean}
 use Rattle.dataset.specs.Constructors.{iri-of, nothing, awaiting}
 use Rattle.machine.specs.Memory.{Memory, Write, term, new-term, typed, iri-term}
-use Rattle.machine.specs.Refusals.{too-deep}
 use Rattle.address.specs.Tests.{token-as, Sound, iri-refusal}
 use Rattle.address.specs.Addresses.{front-of, back-of, StandsFor, Addresses}
 use Rattle.address.specs.declared.Address.{Address}
@@ -28,7 +27,8 @@ use Rattle.state.specs.declared.Spot.{Spot}
 use Rattle.state.specs.declared.Node.{Node}
 use Rattle.leaves.specs.Leaves.{spot-in, plain-node, datatype-of, PutsToken}
 use Rattle.leaves.proofs.Numbering.{placed-alike}
-use Rattle.leaves.proofs.Refusing.{refusal-iri, puts-token, refused-token}
+use Rattle.leaves.proofs.Refusing.{refusal-iri, flat, puts-token, refused-token}
+use Rattle.leaves.proofs.Terms.{iri-flat}
 
 -- A slice, lent as a part of itself; what is left of one behind a start.
 pub whole : (x : List ℕ) → take (length x - 0) (drop 0 x) ≡ x
@@ -133,6 +133,20 @@ module _ (s : Spot) (text work work' : Text) (t t' : Tables) (st st' : List ℕ)
 abbrev pub node-of : Address → Node
 node-of a = record { kind = 1; start = a .start; end = a .end; form = a .form; text = Plain }
 
+module _ (kind : ℕ) (token work : Text) (st : List ℕ) (buffer : Text) (a : Address) (ad : Addresses kind token work st buffer a) where
+  pub back-in-buffer : a .buffered ≡ true → a .to ≤ length buffer
+  back-in-buffer e = rw e at (ad .back-inside)
+
+  pub back-in-token : a .buffered ≡ false → a .to ≤ length token
+  back-in-token e = rw e at (ad .back-inside)
+
+module _ (a : Address) (token buffer : Text) where
+  pub back-buffer : a .buffered ≡ true → take (a .to - a .from) (drop (a .from) buffer) ≡ back-of a token buffer
+  back-buffer e = rw e
+
+  pub back-token : a .buffered ≡ false → take (a .to - a .from) (drop (a .from) token) ≡ back-of a token buffer
+  back-token e = rw e
+
 module _ (kind : ℕ) (token work buffer : Text) (t : Tables) (st : List ℕ) (a : Address) (ad : Addresses kind token (take (length work - 0) (drop 0 work)) st buffer a) (begun : kind ≡ 1 → getD token 0 0 ≡ 60) where
   abbrev name : Token
   name = token-as kind (getD st at-word 0) token
@@ -174,10 +188,10 @@ module _ (kind : ℕ) (token work buffer : Text) (t : Tables) (st : List ℕ) (a
     unfolding node-write
     alike old m h n e = rw (e, eb, stands old m h .iri z)
 
-    pub address-put : (work' : Text) (t' : Tables) (st' : List ℕ) (r : ℕ) → too-deep (getD st depth-word 0) name ≡ false
+    pub address-put : (work' : Text) (t' : Tables) (st' : List ℕ) (r : ℕ) → 1 ≤ kind → kind ≤ 3
         → Puts (placed (spot-in st) (node-write (node-of a) work back text text (getD st at-word 0))) work work' t t' st st' r
         → PutsToken name (placed (spot-in st) (iri-term name)) work work' t t' st st' r
-    address-put work' t' st' r d p =
-        puts-token name (placed (spot-in st) (iri-term name)) work work' t t' st st' r (λ old m h. sym (stands old m h .refusal) ∙ z) d
+    address-put work' t' st' r low high p =
+        puts-token name (placed (spot-in st) (iri-term name)) work work' t t' st st' r (λ old m h. sym (stands old m h .refusal) ∙ z) (flat (getD st depth-word 0) name kind refl (iri-flat kind low high))
         (puts-same (placed (spot-in st) (node-write (node-of a) work back text text (getD st at-word 0))) (placed (spot-in st) (iri-term name)) work work' t t' st st' r
         (λ old m h. placed-alike (spot-in st) (node-write (node-of a) work back text text (getD st at-word 0)) (iri-term name) m (alike old m h)) p)

@@ -298,6 +298,104 @@ fn place_literal(
     place_boolean(work, rows, terms, store, st, token)
 }
 
+// An IRI, where the buffer holds one that is written nowhere else.
+fn place_address(
+    work: &mut [u8],
+    rows: &mut [u32],
+    terms: &mut [u32],
+    store: &mut [u8],
+    st: &mut [usize; Layout::WORDS],
+    token: &[u8],
+    kind: usize,
+    buffer: &mut [u8],
+) -> u8
+    requires { ⌜ PutReady (now work) (tables (now rows) (now terms) (now store)) (now st) × (((1 ≤ kind) × (kind ≤ 3)) × ((kind ≡ 1 → getD (now token) 0 0 ≡ 60) × (length (now token) ≤ document-limit))) × (length (now buffer) ≡ iri-limit) ⌝ }
+    ensures { λ r. ⌜ PutsToken (token-as kind (getD (now (st .entry)) at-word 0) (now (token .entry))) (placed (spot-in (now (st .entry))) (iri-term (token-as kind (getD (now (st .entry)) at-word 0) (now (token .entry))))) (now (work .entry)) (now (work .exit)) (tables (now (rows .entry)) (now (terms .entry)) (now (store .entry))) (tables (now (rows .exit)) (now (terms .exit)) (now (store .exit))) (now (st .entry)) (now (st .exit)) r ⌝ }
+{
+    let a = address::address_of(token, kind, &work[0..], st, buffer);
+    let refused = a.refused;
+    if refused != 0 {
+        return refused;
+    }
+    let from = a.from;
+    let to = a.to;
+    let form = a.form;
+    let node = Node {
+        kind: 1,
+        start: a.start,
+        end: a.end,
+        form: form,
+        text: Form::Plain,
+    };
+    if a.buffered {
+        return place_node(work, rows, terms, store, st, node, &buffer[from..to], token);
+    }
+    place_node(work, rows, terms, store, st, node, &token[from..to], token)
+}
+
+fn place_iri(
+    work: &mut [u8],
+    rows: &mut [u32],
+    terms: &mut [u32],
+    store: &mut [u8],
+    st: &mut [usize; Layout::WORDS],
+    token: &[u8],
+    kind: usize,
+) -> u8
+    requires { ⌜ PutReady (now work) (tables (now rows) (now terms) (now store)) (now st) × (((1 ≤ kind) × (kind ≤ 3)) × ((kind ≡ 1 → getD (now token) 0 0 ≡ 60) × (length (now token) ≤ document-limit))) ⌝ }
+    ensures { λ r. ⌜ PutsToken (token-as kind (getD (now (st .entry)) at-word 0) (now (token .entry))) (placed (spot-in (now (st .entry))) (iri-term (token-as kind (getD (now (st .entry)) at-word 0) (now (token .entry))))) (now (work .entry)) (now (work .exit)) (tables (now (rows .entry)) (now (terms .entry)) (now (store .entry))) (tables (now (rows .exit)) (now (terms .exit)) (now (store .exit))) (now (st .entry)) (now (st .exit)) r ⌝ }
+{
+    let mut buffer = [0u8; Limits::IRI];
+    place_address(work, rows, terms, store, st, token, kind, &mut buffer)
+}
+
+// The node of a term's token.
+fn place_term(
+    doc: &[u8],
+    work: &mut [u8],
+    rows: &mut [u32],
+    terms: &mut [u32],
+    store: &mut [u8],
+    st: &mut [usize; Layout::WORDS],
+) -> u8
+    requires { ⌜ PutReady (now work) (tables (now rows) (now terms) (now store)) (now st) × ((Cursor (now doc) (now st) × TokenHere (now doc) (now st)) × (code-among (kw-a ∷ term-kinds) (getD (now st) kind-word 0) ≡ true)) ⌝ }
+    ensures { λ r. ⌜ PutsNode (now (doc .entry)) (now (work .entry)) (now (work .exit)) (tables (now (rows .entry)) (now (terms .entry)) (now (store .entry))) (tables (now (rows .exit)) (now (terms .exit)) (now (store .exit))) (now (st .entry)) (now (st .exit)) r ⌝ }
+{
+    let kind = st[Words::KIND];
+    let at = st[Words::AT];
+    let end = at + st[Words::LEN];
+    if kind <= 3 {
+        return place_iri(work, rows, terms, store, st, &doc[at..end], kind);
+    }
+    if kind == 4 {
+        return place_label(work, rows, terms, store, st, &doc[at..end]);
+    }
+    if kind == 13 {
+        return place_type(work, rows, terms, store, st, &doc[at..end]);
+    }
+    place_literal(work, rows, terms, store, st, &doc[at..end], kind)
+}
+
+// A term of one token, other than a string: its node is at its place.
+pub fn put_term(
+    doc: &&[u8],
+    work: &mut &mut [u8],
+    rows: &mut &mut [u32],
+    terms: &mut &mut [u32],
+    store: &mut &mut [u8],
+    st: &mut [usize; Layout::WORDS],
+) -> u8
+    requires { ⌜ (Ready (now (now doc)) (held (now work) (now rows) (now terms) (now store) (now st)) × Spotted (held (now work) (now rows) (now terms) (now store) (now st))) × (code-among (kw-a ∷ term-kinds) (getD (now st) kind-word 0) ≡ true) ⌝ }
+    ensures { λ r. ⌜ PutsTerm (now (now (doc .entry))) (held (now (work .entry)) (now (rows .entry)) (now (terms .entry)) (now (store .entry)) (now (st .entry))) (held (now (work .exit)) (now (rows .exit)) (now (terms .exit)) (now (store .exit)) (now (st .exit))) r ⌝ }
+{
+    let r = place_term(*doc, *work, *rows, *terms, *store, st);
+    if r != 0 {
+        return r;
+    }
+    nodes::pass(doc, st);
+    0
+}
+
 // A bracket opens: its node is at its place.
 pub fn put_bracket(
     doc: &&[u8],
