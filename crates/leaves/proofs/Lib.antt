@@ -1,0 +1,6 @@
+pub mod Refusing
+pub mod Numbering
+pub mod Labels
+pub mod Terms
+pub mod Writing
+pub mod Leaving
