@@ -58,10 +58,10 @@ module _ (e : Environment) (p ns : Text) (hp : length p ≤ prefix-limit) (hn : 
 -- A bad escape.
 module _ (token work : Text) (st : List ℕ) (b : Bool) (eb : b ≡ bad-escape token) (h : b ≡ true) where
   pub namespace-refused-bad : (p : Text) → DeclaresNamespace token p work work st st 7
-  namespace-refused-bad p = record { refusal = λ at. namespace-bad (in-force work st) at token (sym eb ∙ h) p; leaves = λ z. absurd (omega arith); beside = nothing-changed work st }
+  namespace-refused-bad p = record { refusal = λ at. namespace-bad (in-force work st) at token (sym eb ∙ h) p; leaves = λ z. absurd (omega arith); beside = nothing-changed work st; words = refl }
 
   pub base-refused-bad : DeclaresBase token work work st st 7
-  base-refused-bad = record { refusal = λ at. base-bad (in-force work st) at token (sym eb ∙ h); leaves = λ z. absurd (omega arith); beside = nothing-changed work st }
+  base-refused-bad = record { refusal = λ at. base-bad (in-force work st) at token (sym eb ∙ h); leaves = λ z. absurd (omega arith); beside = nothing-changed work st; words = refl }
 
 module _ (token work : Text) (st : List ℕ) (u : Usable work st) (sound : Sound (in-force work st)) (g : GoodReference token) (text : Text) (et : text ≡ inner 1 token) (lent : Text) (el : lent ≡ work) (buffer : Text) (a : Resolution) (w : WritesReference text lent st buffer a) where
   abbrev e : Environment
@@ -74,16 +74,16 @@ module _ (token work : Text) (st : List ℕ) (u : Usable work st) (sound : Sound
 
   module _ (p : Text) where
     pub namespace-refused-no-base : a ≡ NoBase → DeclaresNamespace token p work work st st 10
-    namespace-refused-no-base ea = record { refusal = λ at. namespace-no-base e at token (g .good) (sym ea ∙ resolves .is) p; leaves = λ z. absurd (omega arith); beside = nothing-changed work st }
+    namespace-refused-no-base ea = record { refusal = λ at. namespace-no-base e at token (g .good) (sym ea ∙ resolves .is) p; leaves = λ z. absurd (omega arith); beside = nothing-changed work st; words = refl }
 
     pub namespace-refused-long : a ≡ Long → DeclaresNamespace token p work work st st 11
-    namespace-refused-long ea = record { refusal = λ at. namespace-long e at token (g .good) (sym ea ∙ resolves .is) p; leaves = λ z. absurd (omega arith); beside = nothing-changed work st }
+    namespace-refused-long ea = record { refusal = λ at. namespace-long e at token (g .good) (sym ea ∙ resolves .is) p; leaves = λ z. absurd (omega arith); beside = nothing-changed work st; words = refl }
 
   pub base-refused-no-base : a ≡ NoBase → DeclaresBase token work work st st 10
-  base-refused-no-base ea = record { refusal = λ at. base-no-base e at token (g .good) (sym ea ∙ resolves .is); leaves = λ z. absurd (omega arith); beside = nothing-changed work st }
+  base-refused-no-base ea = record { refusal = λ at. base-no-base e at token (g .good) (sym ea ∙ resolves .is); leaves = λ z. absurd (omega arith); beside = nothing-changed work st; words = refl }
 
   pub base-refused-long : a ≡ Long → DeclaresBase token work work st st 11
-  base-refused-long ea = record { refusal = λ at. base-long e at token (g .good) (sym ea ∙ resolves .is); leaves = λ z. absurd (omega arith); beside = nothing-changed work st }
+  base-refused-long ea = record { refusal = λ at. base-long e at token (g .good) (sym ea ∙ resolves .is); leaves = λ z. absurd (omega arith); beside = nothing-changed work st; words = refl }
 
   pub fits : (k : ℕ) → a ≡ Written k → k ≤ length buffer
   fits k ea = w .inside k ea
@@ -109,6 +109,7 @@ module _ (token work : Text) (st : List ℕ) (u : Usable work st) (sound : Sound
           sound = sound;
         };
         beside = declared u .beside;
+        words = declared u .usable .words ∙ sym (u .words);
       }
         where
           free : {x : ℕ} → one-prefix-more (awaiting (namespace-of p) e) ≡ false → cond (one-prefix-more (awaiting (namespace-of p) e)) 12 0 ≡ x → 0 ≡ x
@@ -119,6 +120,7 @@ module _ (token work : Text) (st : List ℕ) (u : Usable work st) (sound : Sound
         refusal = λ at. taken (was-full e p (take k buffer) short iri-short (sym ed ∙ declared u .answer)) (namespace-written e at token (g .good) k outcome-is p);
         leaves = λ z. absurd (omega arith);
         beside = declared u .beside;
+        words = declared u .usable .words ∙ sym (u .words);
       }
         where
           taken : {x : ℕ} → one-prefix-more (awaiting (namespace-of p) e) ≡ true → cond (one-prefix-more (awaiting (namespace-of p) e)) 12 0 ≡ x → 12 ≡ x
@@ -137,6 +139,7 @@ module _ (token work : Text) (st : List ℕ) (u : Usable work st) (sound : Sound
           sound = scheme-sound (iri-of e (token-as 1 at token)) (rw (iriref-iri e at token) (written-scheme (e .base) (unescape (inner 1 token)) k sound outcome-is));
         };
         beside = declared u .beside;
+        words = declared u .usable .words ∙ sym (u .words);
       }
         where
           scheme-sound : (s : Text) → has-scheme s ≡ true → (empty s || has-scheme s) ≡ true

@@ -75,8 +75,10 @@ pub record DeclaresNamespace (token p work work' : Text) (st st' : List ℕ) (r 
   pub refusal : (at : ℕ) → r ≡ namespace-refusal (awaiting (namespace-of p) (in-force work st)) (token-as 1 at token)
   pub leaves : r ≡ 0 → (at : ℕ) → Leaves (declare p (iri-of (in-force work st) (token-as 1 at token)) (in-force work st)) work' st'
   pub beside : Beside work work' st st'
+  pub words : length st' ≡ length st
 
 pub record DeclaresBase (token work work' : Text) (st st' : List ℕ) (r : ℕ) : Type 0 where
   pub refusal : (at : ℕ) → r ≡ base-refusal (awaiting new-base (in-force work st)) (token-as 1 at token)
   pub leaves : r ≡ 0 → (at : ℕ) → Leaves (set-base (iri-of (in-force work st) (token-as 1 at token)) (in-force work st)) work' st'
   pub beside : Beside work work' st st'
+  pub words : length st' ≡ length st

@@ -135,7 +135,7 @@ fn reference_address(
 }
 
 // Where the first colon stands; the length where there is none.
-fn colon(s: &[u8]) -> usize
+pub fn colon(s: &[u8]) -> usize
     ensures { λ r. ⌜ (r ≡ before (is ":") (now (s .entry))) × (r ≤ length (now (s .entry))) ⌝ }
 {
     let mut i: usize = 0;
