@@ -18,20 +18,6 @@ ghost use Rattle.nesting.specs.Nesting.{Skips, Inside, Lists, Objects, P
 use scope::Layout;
 use state::Words;
 
-pub fn put_term(
-    doc: &&[u8],
-    work: &mut &mut [u8],
-    rows: &mut &mut [u32],
-    terms: &mut &mut [u32],
-    store: &mut &mut [u8],
-    st: &mut [usize; Layout::WORDS],
-) -> u8
-    requires { ⌜ (Ready (now (now doc)) (held (now work) (now rows) (now terms) (now store) (now st)) × Spotted (held (now work) (now rows) (now terms) (now store) (now st))) × (code-among (kw-a ∷ term-kinds) (getD (now st) kind-word 0) ≡ true) ⌝ }
-    ensures { λ r. ⌜ PutsTerm (now (now (doc .entry))) (held (now (work .entry)) (now (rows .entry)) (now (terms .entry)) (now (store .entry)) (now (st .entry))) (held (now (work .exit)) (now (rows .exit)) (now (terms .exit)) (now (store .exit)) (now (st .exit))) r ⌝ }
-{
-    0
-}
-
 pub fn put_string(
     doc: &&[u8],
     work: &mut &mut [u8],
@@ -42,48 +28,6 @@ pub fn put_string(
 ) -> u8
     requires { ⌜ (Ready (now (now doc)) (held (now work) (now rows) (now terms) (now store) (now st)) × Spotted (held (now work) (now rows) (now terms) (now store) (now st))) × (code-among strings (getD (now st) kind-word 0) ≡ true) ⌝ }
     ensures { λ r. ⌜ Fills (now (now (doc .entry))) (held (now (work .entry)) (now (rows .entry)) (now (terms .entry)) (now (store .entry)) (now (st .entry))) (held (now (work .exit)) (now (rows .exit)) (now (terms .exit)) (now (store .exit)) (now (st .exit))) r × Steady (held (now (work .entry)) (now (rows .entry)) (now (terms .entry)) (now (store .entry)) (now (st .entry))) (held (now (work .exit)) (now (rows .exit)) (now (terms .exit)) (now (store .exit)) (now (st .exit))) r ⌝ }
-{
-    0
-}
-
-pub fn put_bracket(
-    doc: &&[u8],
-    work: &mut &mut [u8],
-    rows: &mut &mut [u32],
-    terms: &mut &mut [u32],
-    store: &mut &mut [u8],
-    st: &mut [usize; Layout::WORDS],
-) -> u8
-    requires { ⌜ (Ready (now (now doc)) (held (now work) (now rows) (now terms) (now store) (now st)) × Spotted (held (now work) (now rows) (now terms) (now store) (now st))) × (getD (now st) kind-word 0 ≡ 22) ⌝ }
-    ensures { λ r. ⌜ Numbers (now (now (doc .entry))) (placed (spot-of (held (now (work .entry)) (now (rows .entry)) (now (terms .entry)) (now (store .entry)) (now (st .entry)))) (new-term (blank (bracket (getD (now (st .entry)) at-word 0))))) (held (now (work .entry)) (now (rows .entry)) (now (terms .entry)) (now (store .entry)) (now (st .entry))) (held (now (work .exit)) (now (rows .exit)) (now (terms .exit)) (now (store .exit)) (now (st .exit))) r ⌝ }
-{
-    0
-}
-
-pub fn put_paren(
-    doc: &&[u8],
-    work: &mut &mut [u8],
-    rows: &mut &mut [u32],
-    terms: &mut &mut [u32],
-    store: &mut &mut [u8],
-    st: &mut [usize; Layout::WORDS],
-) -> u8
-    requires { ⌜ (Ready (now (now doc)) (held (now work) (now rows) (now terms) (now store) (now st)) × Spotted (held (now work) (now rows) (now terms) (now store) (now st))) × (getD (now st) kind-word 0 ≡ 24) ⌝ }
-    ensures { λ r. ⌜ Does (now (now (doc .entry))) (opened-at (spot-of (held (now (work .entry)) (now (rows .entry)) (now (terms .entry)) (now (store .entry)) (now (st .entry))))) (held (now (work .entry)) (now (rows .entry)) (now (terms .entry)) (now (store .entry)) (now (st .entry))) (held (now (work .exit)) (now (rows .exit)) (now (terms .exit)) (now (store .exit)) (now (st .exit))) r ⌝ }
-{
-    0
-}
-
-pub fn close_list(
-    doc: &&[u8],
-    work: &mut &mut [u8],
-    rows: &mut &mut [u32],
-    terms: &mut &mut [u32],
-    store: &mut &mut [u8],
-    st: &mut [usize; Layout::WORDS],
-) -> u8
-    requires { ⌜ (Ready (now (now doc)) (held (now work) (now rows) (now terms) (now store) (now st)) × Spotted (held (now work) (now rows) (now terms) (now store) (now st))) × ((getD (now st) kind-word 0 ≡ 25) × (0 < getD (now st) depth-word 0)) ⌝ }
-    ensures { λ r. ⌜ Closes (now (now (doc .entry))) (held (now (work .entry)) (now (rows .entry)) (now (terms .entry)) (now (store .entry)) (now (st .entry))) (held (now (work .exit)) (now (rows .exit)) (now (terms .exit)) (now (store .exit)) (now (st .exit))) r ⌝ }
 {
     0
 }
@@ -115,13 +59,13 @@ fn node(
 {
     let kind = st[Words::KIND];
     if nodes::is_term(kind) {
-        return put_term(doc, work, rows, terms, store, st);
+        return leaves::put_term(doc, work, rows, terms, store, st);
     }
     if nodes::is_string(kind) {
         return put_string(doc, work, rows, terms, store, st);
     }
     if kind == 22 {
-        let c = put_bracket(doc, work, rows, terms, store, st);
+        let c = leaves::put_bracket(doc, work, rows, terms, store, st);
         if c != 0 {
             return c;
         }
@@ -130,7 +74,7 @@ fn node(
     if kind == 24 {
         let at = st[Words::AT];
         let cell = st[Words::TERMS] + 1;
-        let c = put_paren(doc, work, rows, terms, store, st);
+        let c = leaves::put_paren(doc, work, rows, terms, store, st);
         if c != 0 {
             return c;
         }
@@ -186,7 +130,7 @@ pub fn properties(
 {
     loop {
         nodes::aim(st, 0, 0, 0, 0, 0);
-        let c = put_term(doc, work, rows, terms, store, st);
+        let c = leaves::put_term(doc, work, rows, terms, store, st);
         if c != 0 {
             return c;
         }
@@ -251,7 +195,7 @@ pub fn elements(
     loop {
         nodes::aim(st, 1, x, y, opened, last);
         if st[Words::KIND] == 25 {
-            return close_list(doc, work, rows, terms, store, st);
+            return leaves::close_list(doc, work, rows, terms, store, st);
         }
         let cell = st[Words::TERMS] + 1;
         let c = node(doc, work, rows, terms, store, st);

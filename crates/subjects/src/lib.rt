@@ -16,77 +16,6 @@ ghost use Rattle.subjects.specs.Subjects.{label-kinds, Subject, Predicat
 use scope::Layout;
 use state::Words;
 
-pub fn put_term(
-    doc: &&[u8],
-    work: &mut &mut [u8],
-    rows: &mut &mut [u32],
-    terms: &mut &mut [u32],
-    store: &mut &mut [u8],
-    st: &mut [usize; Layout::WORDS],
-) -> u8
-    requires { ⌜ (Ready (now (now doc)) (held (now work) (now rows) (now terms) (now store) (now st)) × Spotted (held (now work) (now rows) (now terms) (now store) (now st))) × (code-among (kw-a ∷ term-kinds) (getD (now st) kind-word 0) ≡ true) ⌝ }
-    ensures { λ r. ⌜ PutsTerm (now (now (doc .entry))) (held (now (work .entry)) (now (rows .entry)) (now (terms .entry)) (now (store .entry)) (now (st .entry))) (held (now (work .exit)) (now (rows .exit)) (now (terms .exit)) (now (store .exit)) (now (st .exit))) r ⌝ }
-{
-    0
-}
-
-pub fn put_bracket(
-    doc: &&[u8],
-    work: &mut &mut [u8],
-    rows: &mut &mut [u32],
-    terms: &mut &mut [u32],
-    store: &mut &mut [u8],
-    st: &mut [usize; Layout::WORDS],
-) -> u8
-    requires { ⌜ (Ready (now (now doc)) (held (now work) (now rows) (now terms) (now store) (now st)) × Spotted (held (now work) (now rows) (now terms) (now store) (now st))) × (getD (now st) kind-word 0 ≡ 22) ⌝ }
-    ensures { λ r. ⌜ Numbers (now (now (doc .entry))) (placed (spot-of (held (now (work .entry)) (now (rows .entry)) (now (terms .entry)) (now (store .entry)) (now (st .entry)))) (new-term (blank (bracket (getD (now (st .entry)) at-word 0))))) (held (now (work .entry)) (now (rows .entry)) (now (terms .entry)) (now (store .entry)) (now (st .entry))) (held (now (work .exit)) (now (rows .exit)) (now (terms .exit)) (now (store .exit)) (now (st .exit))) r ⌝ }
-{
-    0
-}
-
-pub fn put_paren(
-    doc: &&[u8],
-    work: &mut &mut [u8],
-    rows: &mut &mut [u32],
-    terms: &mut &mut [u32],
-    store: &mut &mut [u8],
-    st: &mut [usize; Layout::WORDS],
-) -> u8
-    requires { ⌜ (Ready (now (now doc)) (held (now work) (now rows) (now terms) (now store) (now st)) × Spotted (held (now work) (now rows) (now terms) (now store) (now st))) × (getD (now st) kind-word 0 ≡ 24) ⌝ }
-    ensures { λ r. ⌜ Does (now (now (doc .entry))) (opened-at (spot-of (held (now (work .entry)) (now (rows .entry)) (now (terms .entry)) (now (store .entry)) (now (st .entry))))) (held (now (work .entry)) (now (rows .entry)) (now (terms .entry)) (now (store .entry)) (now (st .entry))) (held (now (work .exit)) (now (rows .exit)) (now (terms .exit)) (now (store .exit)) (now (st .exit))) r ⌝ }
-{
-    0
-}
-
-pub fn properties(
-    doc: &&[u8],
-    work: &mut &mut [u8],
-    rows: &mut &mut [u32],
-    terms: &mut &mut [u32],
-    store: &mut &mut [u8],
-    st: &mut [usize; Layout::WORDS],
-    s: usize,
-) -> u8
-    requires { ⌜ (Ready (now (now doc)) (held (now work) (now rows) (now terms) (now store) (now st)) × (s < 4294967296)) × ((0 < s) × (code-among verb-kinds (getD (now st) kind-word 0) ≡ true)) ⌝ }
-    ensures { λ r. ⌜ Properties (now (now (doc .entry))) (held (now (work .entry)) (now (rows .entry)) (now (terms .entry)) (now (store .entry)) (now (st .entry))) (held (now (work .exit)) (now (rows .exit)) (now (terms .exit)) (now (store .exit)) (now (st .exit))) s r ⌝ }
-{
-    0
-}
-
-pub fn elements(
-    doc: &&[u8],
-    work: &mut &mut [u8],
-    rows: &mut &mut [u32],
-    terms: &mut &mut [u32],
-    store: &mut &mut [u8],
-    st: &mut [usize; Layout::WORDS],
-) -> u8
-    requires { ⌜ (Ready (now (now doc)) (held (now work) (now rows) (now terms) (now store) (now st)) × Spotted (held (now work) (now rows) (now terms) (now store) (now st))) × (0 < getD (now st) depth-word 0) ⌝ }
-    ensures { λ r. ⌜ Lists (now (now (doc .entry))) (held (now (work .entry)) (now (rows .entry)) (now (terms .entry)) (now (store .entry)) (now (st .entry))) (held (now (work .exit)) (now (rows .exit)) (now (terms .exit)) (now (store .exit)) (now (st .exit))) r ⌝ }
-{
-    0
-}
-
 // Whether a token of this kind is a graph's label, or a subject, by itself.
 pub fn is_label(kind: usize) -> bool
     ensures { λ r. ⌜ r ≡ code-among label-kinds kind ⌝ }
@@ -113,7 +42,7 @@ fn term_subject(
     ensures { λ r. ⌜ Subject (now (now (doc .entry))) (held (now (work .entry)) (now (rows .entry)) (now (terms .entry)) (now (store .entry)) (now (st .entry))) (held (now (work .exit)) (now (rows .exit)) (now (terms .exit)) (now (store .exit)) (now (st .exit))) r ⌝ }
 {
     nodes::aim(st, 0, 0, 0, 0, 0);
-    let c = put_term(doc, work, rows, terms, store, st);
+    let c = leaves::put_term(doc, work, rows, terms, store, st);
     if c != 0 {
         return c;
     }
@@ -135,7 +64,7 @@ fn bracket_subject(
     ensures { λ r. ⌜ Subject (now (now (doc .entry))) (held (now (work .entry)) (now (rows .entry)) (now (terms .entry)) (now (store .entry)) (now (st .entry))) (held (now (work .exit)) (now (rows .exit)) (now (terms .exit)) (now (store .exit)) (now (st .exit))) r ⌝ }
 {
     nodes::aim(st, 0, 0, 0, 0, 0);
-    let c = put_bracket(doc, work, rows, terms, store, st);
+    let c = leaves::put_bracket(doc, work, rows, terms, store, st);
     if c != 0 {
         return c;
     }
@@ -148,7 +77,7 @@ fn bracket_subject(
     if !nodes::is_verb(st[Words::KIND]) {
         return reading::unexpected(*doc, st);
     }
-    let d = properties(doc, work, rows, terms, store, st, n);
+    let d = nesting::properties(doc, work, rows, terms, store, st, n);
     if d != 0 {
         return d;
     }
@@ -174,14 +103,14 @@ fn list_subject(
 {
     let at = st[Words::AT];
     nodes::aim(st, 0, 0, 0, 0, 0);
-    let c = put_paren(doc, work, rows, terms, store, st);
+    let c = leaves::put_paren(doc, work, rows, terms, store, st);
     if c != 0 {
         return c;
     }
     nodes::aim(st, 0, 0, 0, at, 0);
     let kind = st[Words::KIND];
     let first = st[Words::TERMS] + 1;
-    let d = elements(doc, work, rows, terms, store, st);
+    let d = nesting::elements(doc, work, rows, terms, store, st);
     if d != 0 {
         return d;
     }
@@ -232,7 +161,7 @@ pub fn predicates(
 {
     let n = st[Words::X];
     if nodes::is_verb(st[Words::KIND]) {
-        return properties(doc, work, rows, terms, store, st, n);
+        return nesting::properties(doc, work, rows, terms, store, st, n);
     }
     if st[Words::LIST] == 2 {
         return 0;

@@ -15,8 +15,8 @@ use Rattle.nodes.proofs.aim.Reads as aim-reads
 use Rattle.nodes.proofs.is_verb.Reads as is-verb-reads
 use Rattle.nodes.proofs.leave.Reads as leave-reads
 use Rattle.reading.proofs.unexpected.Reads as unexpected-reads
-use Rattle.subjects.proofs.properties.Reads as properties-reads
-use Rattle.subjects.proofs.put_bracket.Reads as put-bracket-reads
+use Rattle.nesting.proofs.properties.Reads as properties-reads
+use Rattle.leaves.proofs.put_bracket.Reads as put-bracket-reads
 
 -- src/lib.rt:137:5
 aim-requires : tie.Need-aim-requires

@@ -12,8 +12,8 @@ use Rattle.subjects.proofs.list_subject.Tie as tie
 use Rattle.subjects.proofs.list_subject.Reads as reads
 use Rattle.subjects.proofs.list_subject.Lts as lts
 use Rattle.nodes.proofs.aim.Reads as aim-reads
-use Rattle.subjects.proofs.elements.Reads as elements-reads
-use Rattle.subjects.proofs.put_paren.Reads as put-paren-reads
+use Rattle.nesting.proofs.elements.Reads as elements-reads
+use Rattle.leaves.proofs.put_paren.Reads as put-paren-reads
 
 -- src/lib.rt:175:14
 element-copy-out-at : tie.Need-element-copy-out-at

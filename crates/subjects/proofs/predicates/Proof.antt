@@ -13,7 +13,7 @@ use Rattle.subjects.proofs.predicates.Reads as reads
 use Rattle.subjects.proofs.predicates.Lts as lts
 use Rattle.nodes.proofs.is_verb.Reads as is-verb-reads
 use Rattle.reading.proofs.unexpected.Reads as unexpected-reads
-use Rattle.subjects.proofs.properties.Reads as properties-reads
+use Rattle.nesting.proofs.properties.Reads as properties-reads
 
 -- src/lib.rt:233:13
 element-copy-out-n : tie.Need-element-copy-out-n

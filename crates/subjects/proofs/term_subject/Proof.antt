@@ -12,7 +12,7 @@ use Rattle.subjects.proofs.term_subject.Tie as tie
 use Rattle.subjects.proofs.term_subject.Reads as reads
 use Rattle.subjects.proofs.term_subject.Lts as lts
 use Rattle.nodes.proofs.aim.Reads as aim-reads
-use Rattle.subjects.proofs.put_term.Reads as put-term-reads
+use Rattle.leaves.proofs.put_term.Reads as put-term-reads
 
 -- src/lib.rt:115:5
 aim-requires : tie.Need-aim-requires
