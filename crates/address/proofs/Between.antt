@@ -20,7 +20,7 @@ use Rattle.dataset.specs.Constructors.{inner}
 use Rattle.address.specs.Addresses.{LocalFrom}
 
 -- A front of a text without bad escapes has none.
-bad-take : (p : escape.Scan) (s : Text) (n : ℕ) → bad-pieces (pieces-from p s) ≡ false → bad-pieces (pieces-from p (take n s)) ≡ false
+pub bad-take : (p : escape.Scan) (s : Text) (n : ℕ) → bad-pieces (pieces-from p s) ≡ false → bad-pieces (pieces-from p (take n s)) ≡ false
 unfolding pieces-from bad-pieces
 bad-take p [] n h = none p n
   where
