@@ -34,7 +34,7 @@ pub record GraphAt (mode : Mode) (doc : Text) (h : Held) (o : Open) (n : ℕ) : 
   pub waits : awaited-by o ≡ nothing
   pub brace : (tied : Bool) → find-rule open-brace (rules (here doc h) tied mode o) ≡ some (λ m. (statement (triples-or-end ∷ []), enter n m .1))
   pub others : (getD (h .st) kind-word 0 ≡ 26 → ⊥) → (getD (h .st) kind-word 0 ≡ 0 → ⊥) → TokenHere doc (h .st) → (tied : Bool) → find-rule (here doc h .kind) (rules (here doc h) tied mode o) ≡ none
-  pub ended : getD (h .st) kind-word 0 ≡ 0 → (n : ℕ) (m : Memory) → at-end o n m ≡ refused 8 n
+  pub ended : (getD (h .st) kind-word 0 ≡ 26 → ⊥) → (n : ℕ) (m : Memory) → at-end o n m ≡ refused 8 n
 
 pub record Graph (doc : Text) (a b : Held) (n r : ℕ) : Type 0 where
   pub turns : (mode : Mode) (o : Open) → GraphAt mode doc a o n → Turns mode doc o (statement []) a b r

@@ -1,0 +1,64 @@
+-- Statements one after another.
+use mathlib.Core.Path.{_≡_, refl, sym, ap, _∙_, subst}
+use mathlib.Core.List.{List, [], _∷_}
+use mathlib.Core.Bool.{Bool, true, false}
+use Prim.Native.Nat.{ℕ, _-_, _≤_, _<_}
+use native.Mathlib.Omega.{arith}
+use borrow.Author.Tests.{eq-eqb}
+use lib.Dec.{eqb}
+use lib.ListN.{length, getD}
+use Rattle.text.specs.Text.{Text, cond}
+use Rattle.grammar.specs.Productions.{Mode, trig, turtle}
+use Rattle.machine.specs.Memory.{Memory}
+use Rattle.machine.specs.Frame.{Open, statement}
+use Rattle.machine.specs.Read.{mode-of}
+use Rattle.state.specs.Words.{kind-word, at-word}
+use Rattle.reading.specs.Reading.{code-among, Held, Ready, Turns}
+use Rattle.reading.proofs.Turning.{turns-here, turns-then}
+use Rattle.reading.proofs.Steps.{goes-ended}
+use Rattle.nesting.proofs.Aiming.{less-left}
+use Rattle.statements.specs.Statements.{directive-kinds, Graph, Statement, Plain, ReadsAll}
+use Rattle.statements.proofs.OfGraphs.{document-at}
+
+-- In mode 0.
+pub one-trig : (mode : ℕ) (doc : Text) (a b : Held) (r : ℕ) → mode ≡ 0 → Statement trig doc a b r → Statement (mode-of mode) doc a b r
+one-trig mode doc a b r e S = subst (λ (x : Bool). Statement (cond x trig turtle) doc a b r) (sym (eq-eqb mode 0 e)) S
+
+pub one-graph : (mode : ℕ) (doc : Text) (a b : Held) (r : ℕ) → mode ≡ 0 → getD (a .st) kind-word 0 ≡ 26 → Graph doc a b 0 r → Statement (mode-of mode) doc a b r
+one-graph mode doc a b r e k G = one-trig mode doc a b r e (record { turns = G .turns trig (statement []) (document-at doc a k); later = G .later })
+
+pub plain-trig : (mode k : ℕ) (d : Bool) → d ≡ code-among directive-kinds k → d ≡ false → (k ≡ 26 → ⊥) → (k ≡ 18 → ⊥) → (k ≡ 0 → ⊥) → Plain mode k
+plain-trig mode k d e f n26 n18 z = record { no-directive = sym e ∙ f; no-brace = λ m. n26; no-graph = λ m. n18; some-token = z }
+
+pub plain-turtle : (mode k : ℕ) (d : Bool) → d ≡ code-among directive-kinds k → d ≡ false → (mode ≡ 0 → ⊥) → (k ≡ 0 → ⊥) → Plain mode k
+plain-turtle mode k d e f y z = record { no-directive = sym e ∙ f; no-brace = λ m. absurd (y m); no-graph = λ m. absurd (y m); some-token = z }
+
+-- Some statements were read.
+pub record SomeInv (mode : Mode) (doc : Text) (a b : Held) : Type 0 where
+  pub ready : Ready doc b
+  pub turns : Turns mode doc (statement []) (statement []) a b 0
+
+pub some-start : (mode : Mode) (doc : Text) (a : Held) → Ready doc a → SomeInv mode doc a a
+some-start mode doc a r = record { ready = r; turns = turns-here mode doc (statement []) a r }
+
+module _ (mode : Mode) (doc : Text) (a b : Held) (I : SomeInv mode doc a b) where
+  pub some-end : getD (b .st) kind-word 0 ≡ 0 → ReadsAll mode doc a b 0
+  some-end k =
+      record {
+        same = I .turns .same;
+        on = λ e old m h. let T = I .turns .on refl old m h in (T .after, (T .holding, T .same ∙ goes-ended doc b mode (statement []) (T .after) k));
+        stop = λ z. absurd (z refl);
+      }
+
+  module _ (d : Held) (r : ℕ) (S : Statement mode doc b d r) where
+    one-more : Turns mode doc (statement []) (statement []) a d r
+    one-more = turns-then mode doc (statement []) (statement []) (statement []) a b d 0 r (I .turns) refl (S .turns)
+
+    pub some-stop : (r ≡ 0 → ⊥) → ReadsAll mode doc a d r
+    some-stop z = record { same = one-more .same; on = λ e. absurd (z e); stop = one-more .stop }
+
+    pub some-again : r ≡ 0 → SomeInv mode doc a d
+    some-again z = record { ready = S .turns .ready z; turns = subst (λ (x : ℕ). Turns mode doc (statement []) (statement []) a d x) z one-more }
+
+    pub some-less : r ≡ 0 → length doc - getD (d .st) at-word 0 < length doc - getD (b .st) at-word 0
+    some-less z = less-left doc b d (S .turns .ready z) (S .later z)

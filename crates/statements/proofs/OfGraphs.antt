@@ -1,0 +1,69 @@
+-- Graphs in braces, and where they are awaited.
+use mathlib.Core.Path.{_≡_, refl, sym, ap, _∙_, subst}
+use mathlib.Core.List.{List, [], _∷_, _++_}
+use mathlib.Core.Bool.{Bool, true, false}
+use mathlib.Core.Option.{Option, none, some}
+use Prim.Native.Nat.{ℕ, _+_, _-_, _≤_, _<_}
+use native.Mathlib.Omega.{arith}
+use borrow.Author.Tests.{ne-eqb}
+use lib.ListN.{length, getD}
+use denote.Ref.{RefT}
+use Rattle.text.specs.Text.{Text, cond}
+use Rattle.token.specs.Kind.{Kind, kind-of-code, among, open-brace}
+use Rattle.grammar.specs.Productions.{Mode, trig}
+use Rattle.machine.specs.Memory.{Memory, enter}
+use Rattle.machine.specs.Frame.{Frame, graph-body, label-or-subject, triples-or-end, Open, statement}
+use Rattle.machine.specs.Rules.{find-rule, rules}
+use Rattle.state.specs.Words.{kind-word, at-word, depth-word}
+use Rattle.reading.specs.Reading.{Held, held, here, Ready, Turns, refusal-here}
+use Rattle.reading.proofs.Tests.{among-code}
+use Rattle.reading.proofs.Turning.{turns-then, turns-none}
+use Rattle.reading.proofs.Steps.{here-some}
+use Rattle.nodes.specs.Nodes.{Passed}
+use Rattle.statements.specs.Statements.{Block, GraphAt, Graph}
+use Rattle.statements.proofs.OfMarks.{open-mark, mark-enters, mark-ready}
+use Rattle.statements.proofs.OfBlocks.{inner}
+
+module _ (doc : Text) (work rows terms store : RefT (List ℕ)) (st : List ℕ) (n : ℕ) (r : Ready doc (held work rows terms store st)) where
+  abbrev a : Held
+  a = held work rows terms store st
+
+  pub graph-none : (q : ℕ) → (getD st kind-word 0 ≡ 26 → ⊥) → q ≡ refusal-here doc st → Graph doc a a n q
+  graph-none q k e =
+      record {
+        turns = λ mode o G. turns-none mode doc o (statement []) a q r e (λ z h tied. G .others k z h tied) (λ i m. G .ended k i m);
+        later = λ z. absurd (here-some doc st (sym e ∙ z));
+      }
+
+  module _ (st' : List ℕ) (k : getD st kind-word 0 ≡ 26) (small : n < 4294967296) (p : Passed doc st st' (getD st depth-word 0) n) where
+    pub graph-open : Ready doc (held work rows terms store st')
+    graph-open = mark-ready doc work rows terms store st st' 26 open-mark r k n small p
+
+    pub graph-block : (b : Held) (q : ℕ) → Block doc (held work rows terms store st') b q → Graph doc a b n q
+    graph-block b q B =
+        record {
+          turns = λ mode o G.
+              turns-then mode doc o inner (statement []) a (held work rows terms store st') b 0 q
+              (mark-enters doc work rows terms store st st' 26 open-mark r k n small p mode o inner (G .waits) (λ tied. G .brace tied)) refl (B mode);
+          later = λ z. omega (arith, p .later, B trig .later z);
+        }
+
+-- Behind GRAPH and a label; behind a label; between statements.
+module _ (doc : Text) (h : Held) where
+  pub body-at : (mode : Mode) (n : ℕ) → GraphAt mode doc h (statement (graph-body n ∷ [])) n
+  unfolding rules
+  body-at mode n =
+      record {
+        waits = refl;
+        brace = λ tied. refl;
+        others = λ y z t tied. rw (among-code (open-brace ∷ []) (getD (h .st) kind-word 0) z (t .known), ne-eqb (getD (h .st) kind-word 0) 26 y);
+        ended = λ y n m. refl;
+      }
+
+  pub label-at : getD (h .st) kind-word 0 ≡ 26 → (mode : Mode) (n : ℕ) → GraphAt mode doc h (statement (label-or-subject n ∷ [])) n
+  unfolding rules
+  label-at k mode n = record { waits = refl; brace = λ tied. refl; others = λ y z t tied. absurd (y k); ended = λ y. absurd (y k) }
+
+  pub document-at : getD (h .st) kind-word 0 ≡ 26 → GraphAt trig doc h (statement []) 0
+  unfolding rules
+  document-at k = record { waits = refl; brace = λ tied. refl; others = λ y z t tied. absurd (y k); ended = λ y. absurd (y k) }

@@ -1,0 +1,1 @@
+-- The label behind GRAPH.

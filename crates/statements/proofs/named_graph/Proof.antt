@@ -1,0 +1,123 @@
+use borrow.Author.Needs.{needs}
+use Rattle.statements.proofs.named_graph.Statement.{statement}
+use Rattle.statements.proofs.named_graph.Tie as tie
+use Rattle.statements.proofs.named_graph.Reads as reads
+use Rattle.statements.proofs.named_graph.Lts as lts
+use Rattle.nodes.proofs.aim.Reads as aim-reads
+use Rattle.nodes.proofs.leave.Reads as leave-reads
+use Rattle.nodes.proofs.pass.Reads as pass-reads
+use Rattle.reading.proofs.unexpected.Reads as unexpected-reads
+use Rattle.statements.proofs.graph.Reads as graph-reads
+use Rattle.statements.proofs.put_bracket.Reads as put-bracket-reads
+use Rattle.statements.proofs.put_term.Reads as put-term-reads
+use Rattle.subjects.proofs.is_label.Reads as is-label-reads
+
+-- src/lib.rt:171:5
+pass-requires : tie.Need-pass-requires
+pass-requires c κs = ?
+
+-- src/lib.rt:172:5
+aim-requires : tie.Need-aim-requires
+aim-requires c κs = search needs
+
+-- src/lib.rt:173:27
+element-copy-out-is-label : tie.Need-element-copy-out-is-label
+element-copy-out-is-label c = search needs
+
+-- src/lib.rt:173:8
+is-label-requires : tie.Need-is-label-requires
+is-label-requires c κs = search needs
+
+-- src/lib.rt:174:13
+put-term-requires : tie.Need-put-term-requires
+put-term-requires c κs = ?
+
+-- src/lib.rt:176:13
+returns : tie.Need-returns
+returns c = ?
+
+-- src/lib.rt:178:17
+element-copy-out-n : tie.Need-element-copy-out-n
+element-copy-out-n c = search needs
+
+-- src/lib.rt:179:9
+graph-requires : tie.Need-graph-requires
+graph-requires c κs = ?
+
+-- src/lib.rt:179:9
+returns-2 : tie.Need-returns-2
+returns-2 c = ?
+
+-- src/lib.rt:181:8
+element-copy-out-if3 : tie.Need-element-copy-out-if3
+element-copy-out-if3 c = search needs
+
+-- src/lib.rt:182:9
+unexpected-requires : tie.Need-unexpected-requires
+unexpected-requires c κs = ?
+
+-- src/lib.rt:182:9
+returns-3 : tie.Need-returns-3
+returns-3 c = ?
+
+-- src/lib.rt:184:9
+put-bracket-requires : tie.Need-put-bracket-requires
+put-bracket-requires c κs = ?
+
+-- src/lib.rt:186:9
+returns-4 : tie.Need-returns-4
+returns-4 c = ?
+
+-- src/lib.rt:188:13
+element-copy-out-g : tie.Need-element-copy-out-g
+element-copy-out-g c = search needs
+
+-- src/lib.rt:189:8
+element-copy-out-if5 : tie.Need-element-copy-out-if5
+element-copy-out-if5 c = search needs
+
+-- src/lib.rt:190:9
+unexpected-requires-2 : tie.Need-unexpected-requires-2
+unexpected-requires-2 c κs = ?
+
+-- src/lib.rt:190:9
+returns-5 : tie.Need-returns-5
+returns-5 c = ?
+
+-- src/lib.rt:192:5
+leave-requires : tie.Need-leave-requires
+leave-requires c κs = ?
+
+-- src/lib.rt:193:5
+graph-requires-2 : tie.Need-graph-requires-2
+graph-requires-2 c κs = ?
+
+-- src/lib.rt:160:1
+returns-6 : tie.Need-returns-6
+returns-6 c = ?
+
+pub named-graph-spec : {M : Type 1} → statement M
+named-graph-spec =
+    tie.close
+    (tie.spec
+    pass-requires
+    aim-requires
+    element-copy-out-is-label
+    is-label-requires
+    put-term-requires
+    returns
+    element-copy-out-n
+    graph-requires
+    returns-2
+    element-copy-out-if3
+    unexpected-requires
+    returns-3
+    put-bracket-requires
+    returns-4
+    element-copy-out-g
+    element-copy-out-if5
+    unexpected-requires-2
+    returns-5
+    leave-requires
+    graph-requires-2
+    returns-6)
