@@ -18,20 +18,6 @@ ghost use Rattle.nesting.specs.Nesting.{Skips, Inside, Lists, Objects, P
 use scope::Layout;
 use state::Words;
 
-pub fn put_string(
-    doc: &&[u8],
-    work: &mut &mut [u8],
-    rows: &mut &mut [u32],
-    terms: &mut &mut [u32],
-    store: &mut &mut [u8],
-    st: &mut [usize; Layout::WORDS],
-) -> u8
-    requires { ⌜ (Ready (now (now doc)) (held (now work) (now rows) (now terms) (now store) (now st)) × Spotted (held (now work) (now rows) (now terms) (now store) (now st))) × (code-among strings (getD (now st) kind-word 0) ≡ true) ⌝ }
-    ensures { λ r. ⌜ Fills (now (now (doc .entry))) (held (now (work .entry)) (now (rows .entry)) (now (terms .entry)) (now (store .entry)) (now (st .entry))) (held (now (work .exit)) (now (rows .exit)) (now (terms .exit)) (now (store .exit)) (now (st .exit))) r × Steady (held (now (work .entry)) (now (rows .entry)) (now (terms .entry)) (now (store .entry)) (now (st .entry))) (held (now (work .exit)) (now (rows .exit)) (now (terms .exit)) (now (store .exit)) (now (st .exit))) r ⌝ }
-{
-    0
-}
-
 // Goes behind the semicolons at the cursor.
 fn skip_semicolons(doc: &&[u8], st: &mut [usize; Layout::WORDS])
     requires { ⌜ (Cursor (now (now doc)) (now st) × (length (now st) ≡ words-size)) × (getD (now st) kind-word 0 ≡ 21) ⌝ }
@@ -62,7 +48,7 @@ fn node(
         return leaves::put_term(doc, work, rows, terms, store, st);
     }
     if nodes::is_string(kind) {
-        return put_string(doc, work, rows, terms, store, st);
+        return literals::put_string(doc, work, rows, terms, store, st);
     }
     if kind == 22 {
         let c = leaves::put_bracket(doc, work, rows, terms, store, st);

@@ -20,7 +20,7 @@ use Rattle.machine.specs.Read.{Answer, refusal, success, reported, mode-of, rea
 use Rattle.state.specs.Words.{at-word}
 use Rattle.reading.specs.Reading.{Held, tables-of, Holding, goes}
 use Rattle.reader.specs.declared.Reading.{Reading}
-use Rattle.reader.specs.ReadsAll.{ReadsAll}
+use Rattle.statements.specs.Statements.{ReadsAll}
 use Rattle.reader.specs.Reader.{LentSlices, lent-slices, lengths, Gives}
 use Rattle.reader.specs.Stages.{Checked, Started, Finishes}
 use Rattle.reader.proofs.Start.{holds-start}

@@ -6,7 +6,7 @@ use denote.Ref.{RefT, at-last}
 use Rattle.text.specs.Text.{Text}
 use Rattle.grammar.specs.Productions.{Mode}
 use Rattle.reading.specs.Reading.{held, goes}
-use Rattle.reader.specs.ReadsAll.{ReadsAll}
+use Rattle.statements.specs.Statements.{ReadsAll}
 
 same-name : (x y : RefT (List ℕ)) (l : List ℕ) → y ≡ at-last x l → x .name ≡ y .name
 same-name x y l e = sym (ap (λ (z : RefT (List ℕ)). z .name) e)

@@ -6,7 +6,7 @@ ghost use lib.ListN.{length, replicate};
 ghost use Rattle.scope.specs.Code.{words-size};
 ghost use Rattle.machine.specs.Read.{mode-of, read-tokens};
 ghost use Rattle.reading.specs.Reading.{held, Ready};
-ghost use Rattle.reader.specs.ReadsAll.{ReadsAll};
+ghost use Rattle.statements.specs.Statements.{ReadsAll};
 ghost use Rattle.reader.specs.Reader.{lent-slices, lengths, Gives, Contract};
 ghost use Rattle.reader.specs.Stages.{Checked, Started, Cleared, Finishes};
 use scope::Layout;
@@ -20,22 +20,6 @@ pub struct Reading {
     pub rows: usize,
     pub terms: usize,
     pub store: usize,
-}
-
-// Reads all statements from the cursor on.
-fn statements(
-    doc: &&[u8],
-    work: &mut &mut [u8],
-    rows: &mut &mut [u32],
-    terms: &mut &mut [u32],
-    store: &mut &mut [u8],
-    st: &mut [usize; Layout::WORDS],
-    mode: u8,
-) -> u8
-    requires { ⌜ Ready (now (now doc)) (held (now work) (now rows) (now terms) (now store) (now st)) × (mode ≤ 1) ⌝ }
-    ensures { λ r. ⌜ ReadsAll (mode-of mode) (now (now (doc .entry))) (held (now (work .entry)) (now (rows .entry)) (now (terms .entry)) (now (store .entry)) (now (st .entry))) (held (now (work .exit)) (now (rows .exit)) (now (terms .exit)) (now (store .exit)) (now (st .exit))) r ⌝ }
-{
-    0
 }
 
 // The store becomes a thin reference, and comes back as the result.
@@ -53,7 +37,7 @@ fn with_store<'a>(
     ensures { λ r. ⌜ ReadsAll (mode-of mode) (now (now (doc .entry))) (held (now (work .entry)) (now (rows .entry)) (now (terms .entry)) (store .entry) (now (st .entry))) (held (now (work .exit)) (now (rows .exit)) (now (terms .exit)) r (now (st .exit))) (now (number .exit)) ⌝ }
 {
     let mut s = store;
-    let n = statements(doc, work, rows, terms, &mut s, st, mode);
+    let n = statements::statements(doc, work, rows, terms, &mut s, st, mode);
     *number = n;
     let q = s;
     q

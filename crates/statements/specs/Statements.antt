@@ -19,11 +19,8 @@ use Rattle.state.specs.Words.{kind-word, at-word, list-word, x-word}
 use Rattle.state.specs.Cursor.{TokenHere}
 use Rattle.state.specs.Represents.{Tables}
 use Rattle.reading.specs.Reading.{code-among, Held, here, Holding, goes, Same, Turns}
+use Rattle.directives.specs.Directives.{directive-kinds}
 use Rattle.nodes.specs.Nodes.{Verbs, Ends, verb-kinds}
-
--- The kinds that begin a directive.
-abbrev pub directive-kinds : List Kind
-directive-kinds = at-prefix ∷ at-base ∷ PREFIX ∷ BASE ∷ []
 
 -- The triples in braces were read, with the closing one.
 abbrev pub Block : Text → Held → Held → ℕ → Type 0
@@ -44,9 +41,6 @@ pub record Graph (doc : Text) (a b : Held) (n r : ℕ) : Type 0 where
 pub record Statement (mode : Mode) (doc : Text) (a b : Held) (r : ℕ) : Type 0 where
   pub turns : Turns mode doc (statement []) (statement []) a b r
   pub later : r ≡ 0 → getD (a .st) at-word 0 < getD (b .st) at-word 0
-
-abbrev pub Directs : Text → Held → Held → ℕ → Type 0
-Directs doc a b r = (mode : Mode) → Statement mode doc a b r
 
 -- A kind that begins triples between statements, or nothing.
 pub record Plain (mode k : ℕ) : Type 0 where

@@ -13,80 +13,11 @@ ghost use Rattle.state.specs.Writes.{placed, opened-at};
 ghost use Rattle.reading.specs.Reading.{code-among, held, Ready, Does};
 ghost use Rattle.nodes.specs.Nodes.{spot-of, Spotted, Numbers, PutsTerm, term-kinds, verb-kinds};
 ghost use Rattle.token.specs.Kind.{kw-a};
+ghost use Rattle.directives.specs.Directives.{directive-kinds};
 ghost use Rattle.subjects.specs.Subjects.{label-kinds, Subject, Predicates};
-ghost use Rattle.statements.specs.Statements.{directive-kinds, Directs, Block, Graph, Statement, Plain, graph-label-test, ReadsAll};
+ghost use Rattle.statements.specs.Statements.{Block, Graph, Statement, Plain, graph-label-test, ReadsAll};
 use scope::Layout;
 use state::Words;
-
-pub fn put_term(
-    doc: &&[u8],
-    work: &mut &mut [u8],
-    rows: &mut &mut [u32],
-    terms: &mut &mut [u32],
-    store: &mut &mut [u8],
-    st: &mut [usize; Layout::WORDS],
-) -> u8
-    requires { ⌜ (Ready (now (now doc)) (held (now work) (now rows) (now terms) (now store) (now st)) × Spotted (held (now work) (now rows) (now terms) (now store) (now st))) × (code-among (kw-a ∷ term-kinds) (getD (now st) kind-word 0) ≡ true) ⌝ }
-    ensures { λ r. ⌜ PutsTerm (now (now (doc .entry))) (held (now (work .entry)) (now (rows .entry)) (now (terms .entry)) (now (store .entry)) (now (st .entry))) (held (now (work .exit)) (now (rows .exit)) (now (terms .exit)) (now (store .exit)) (now (st .exit))) r ⌝ }
-{
-    0
-}
-
-pub fn put_bracket(
-    doc: &&[u8],
-    work: &mut &mut [u8],
-    rows: &mut &mut [u32],
-    terms: &mut &mut [u32],
-    store: &mut &mut [u8],
-    st: &mut [usize; Layout::WORDS],
-) -> u8
-    requires { ⌜ (Ready (now (now doc)) (held (now work) (now rows) (now terms) (now store) (now st)) × Spotted (held (now work) (now rows) (now terms) (now store) (now st))) × (getD (now st) kind-word 0 ≡ 22) ⌝ }
-    ensures { λ r. ⌜ Numbers (now (now (doc .entry))) (placed (spot-of (held (now (work .entry)) (now (rows .entry)) (now (terms .entry)) (now (store .entry)) (now (st .entry)))) (new-term (blank (bracket (getD (now (st .entry)) at-word 0))))) (held (now (work .entry)) (now (rows .entry)) (now (terms .entry)) (now (store .entry)) (now (st .entry))) (held (now (work .exit)) (now (rows .exit)) (now (terms .exit)) (now (store .exit)) (now (st .exit))) r ⌝ }
-{
-    0
-}
-
-pub fn directive(
-    doc: &&[u8],
-    work: &mut &mut [u8],
-    rows: &mut &mut [u32],
-    terms: &mut &mut [u32],
-    store: &mut &mut [u8],
-    st: &mut [usize; Layout::WORDS],
-) -> u8
-    requires { ⌜ Ready (now (now doc)) (held (now work) (now rows) (now terms) (now store) (now st)) × (code-among directive-kinds (getD (now st) kind-word 0) ≡ true) ⌝ }
-    ensures { λ r. ⌜ Directs (now (now (doc .entry))) (held (now (work .entry)) (now (rows .entry)) (now (terms .entry)) (now (store .entry)) (now (st .entry))) (held (now (work .exit)) (now (rows .exit)) (now (terms .exit)) (now (store .exit)) (now (st .exit))) r ⌝ }
-{
-    0
-}
-
-pub fn subject(
-    doc: &&[u8],
-    work: &mut &mut [u8],
-    rows: &mut &mut [u32],
-    terms: &mut &mut [u32],
-    store: &mut &mut [u8],
-    st: &mut [usize; Layout::WORDS],
-) -> u8
-    requires { ⌜ Ready (now (now doc)) (held (now work) (now rows) (now terms) (now store) (now st)) ⌝ }
-    ensures { λ r. ⌜ Subject (now (now (doc .entry))) (held (now (work .entry)) (now (rows .entry)) (now (terms .entry)) (now (store .entry)) (now (st .entry))) (held (now (work .exit)) (now (rows .exit)) (now (terms .exit)) (now (store .exit)) (now (st .exit))) r ⌝ }
-{
-    0
-}
-
-pub fn predicates(
-    doc: &&[u8],
-    work: &mut &mut [u8],
-    rows: &mut &mut [u32],
-    terms: &mut &mut [u32],
-    store: &mut &mut [u8],
-    st: &mut [usize; Layout::WORDS],
-) -> u8
-    requires { ⌜ (Ready (now (now doc)) (held (now work) (now rows) (now terms) (now store) (now st)) × (getD (now st) x-word 0 < 4294967296)) × (0 < getD (now st) x-word 0) ⌝ }
-    ensures { λ r. ⌜ Predicates (now (now (doc .entry))) (held (now (work .entry)) (now (rows .entry)) (now (terms .entry)) (now (store .entry)) (now (st .entry))) (held (now (work .exit)) (now (rows .exit)) (now (terms .exit)) (now (store .exit)) (now (st .exit))) r ⌝ }
-{
-    0
-}
 
 fn is_directive(kind: usize) -> bool
     ensures { λ r. ⌜ r ≡ code-among directive-kinds kind ⌝ }
@@ -117,11 +48,11 @@ fn block(
             nodes::enter(doc, st, 0);
             return 0;
         }
-        let c = subject(doc, work, rows, terms, store, st);
+        let c = subjects::subject(doc, work, rows, terms, store, st);
         if c != 0 {
             return c;
         }
-        let d = predicates(doc, work, rows, terms, store, st);
+        let d = subjects::predicates(doc, work, rows, terms, store, st);
         if d != 0 {
             return d;
         }
@@ -171,7 +102,7 @@ fn named_graph(
     nodes::pass(doc, st);
     nodes::aim(st, 0, 0, 0, 0, 0);
     if subjects::is_label(st[Words::KIND]) {
-        let c = put_term(doc, work, rows, terms, store, st);
+        let c = leaves::put_term(doc, work, rows, terms, store, st);
         if c != 0 {
             return c;
         }
@@ -181,7 +112,7 @@ fn named_graph(
     if st[Words::KIND] != 22 {
         return reading::unexpected(*doc, st);
     }
-    let d = put_bracket(doc, work, rows, terms, store, st);
+    let d = leaves::put_bracket(doc, work, rows, terms, store, st);
     if d != 0 {
         return d;
     }
@@ -206,7 +137,7 @@ fn triples(
     requires { ⌜ (Ready (now (now doc)) (held (now work) (now rows) (now terms) (now store) (now st)) × (mode ≤ 1)) × Plain mode (getD (now st) kind-word 0) ⌝ }
     ensures { λ r. ⌜ Statement (mode-of mode) (now (now (doc .entry))) (held (now (work .entry)) (now (rows .entry)) (now (terms .entry)) (now (store .entry)) (now (st .entry))) (held (now (work .exit)) (now (rows .exit)) (now (terms .exit)) (now (store .exit)) (now (st .exit))) r ⌝ }
 {
-    let c = subject(doc, work, rows, terms, store, st);
+    let c = subjects::subject(doc, work, rows, terms, store, st);
     if c != 0 {
         return c;
     }
@@ -214,7 +145,7 @@ fn triples(
         let n = st[Words::X];
         return graph(doc, work, rows, terms, store, st, n);
     }
-    let d = predicates(doc, work, rows, terms, store, st);
+    let d = subjects::predicates(doc, work, rows, terms, store, st);
     if d != 0 {
         return d;
     }
@@ -253,7 +184,7 @@ fn one_statement(
 {
     let kind = st[Words::KIND];
     if is_directive(kind) {
-        return directive(doc, work, rows, terms, store, st);
+        return directives::directive(doc, work, rows, terms, store, st);
     }
     if mode == 0 {
         if kind == 26 {

@@ -33,7 +33,7 @@ use Rattle.leaves.proofs.close_list.Reads as close-list-reads
 use Rattle.nesting.proofs.enter_list.Reads as enter-list-reads
 use Rattle.leaves.proofs.put_bracket.Reads as put-bracket-reads
 use Rattle.leaves.proofs.put_paren.Reads as put-paren-reads
-use Rattle.nesting.proofs.put_string.Reads as put-string-reads
+use Rattle.literals.proofs.put_string.Reads as put-string-reads
 use Rattle.leaves.proofs.put_term.Reads as put-term-reads
 use Rattle.nesting.proofs.skip_semicolons.Reads as skip-semicolons-reads
 use Rattle.nodes.proofs.aim.Reads as aim-reads

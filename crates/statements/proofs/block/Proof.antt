@@ -12,8 +12,8 @@ use Rattle.statements.proofs.block.Lts as lts
 use Rattle.nodes.proofs.enter.Reads as enter-reads
 use Rattle.nodes.proofs.pass.Reads as pass-reads
 use Rattle.reading.proofs.unexpected.Reads as unexpected-reads
-use Rattle.statements.proofs.predicates.Reads as predicates-reads
-use Rattle.statements.proofs.subject.Reads as subject-reads
+use Rattle.subjects.proofs.predicates.Reads as predicates-reads
+use Rattle.subjects.proofs.subject.Reads as subject-reads
 
 abbrev Inv-loop : tie.InvT-loop
 Inv-loop doc work₀ rows₀ terms₀ store₀ st₀ work rows terms store st = BlockInv (doc .now) (held work₀ rows₀ terms₀ store₀ st₀) (held work rows terms store st)

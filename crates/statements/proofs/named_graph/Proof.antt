@@ -8,8 +8,8 @@ use Rattle.nodes.proofs.leave.Reads as leave-reads
 use Rattle.nodes.proofs.pass.Reads as pass-reads
 use Rattle.reading.proofs.unexpected.Reads as unexpected-reads
 use Rattle.statements.proofs.graph.Reads as graph-reads
-use Rattle.statements.proofs.put_bracket.Reads as put-bracket-reads
-use Rattle.statements.proofs.put_term.Reads as put-term-reads
+use Rattle.leaves.proofs.put_bracket.Reads as put-bracket-reads
+use Rattle.leaves.proofs.put_term.Reads as put-term-reads
 use Rattle.subjects.proofs.is_label.Reads as is-label-reads
 
 -- src/lib.rt:171:5

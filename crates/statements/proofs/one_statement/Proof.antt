@@ -5,7 +5,7 @@ use Rattle.statements.proofs.one_statement.Statement.{statement}
 use Rattle.statements.proofs.one_statement.Tie as tie
 use Rattle.statements.proofs.one_statement.Reads as reads
 use Rattle.statements.proofs.one_statement.Lts as lts
-use Rattle.statements.proofs.directive.Reads as directive-reads
+use Rattle.directives.proofs.directive.Reads as directive-reads
 use Rattle.statements.proofs.graph.Reads as graph-reads
 use Rattle.statements.proofs.is_directive.Reads as is-directive-reads
 use Rattle.statements.proofs.named_graph.Reads as named-graph-reads
@@ -25,7 +25,7 @@ directive-requires c κs = (c .before .before .before .before .before .before .b
 
 -- src/lib.rt:256:9
 returns : tie.Need-returns
-returns c = c .directive .ensures _
+returns c = let d = c .directive .ensures in record { turns = d .turns _; later = d .later }
 
 -- src/lib.rt:260:13
 graph-requires : tie.Need-graph-requires

@@ -10,8 +10,8 @@ use Rattle.nodes.proofs.pass.Reads as pass-reads
 use Rattle.reading.proofs.unexpected.Reads as unexpected-reads
 use Rattle.statements.proofs.graph.Reads as graph-reads
 use Rattle.statements.proofs.is_graph_label.Reads as is-graph-label-reads
-use Rattle.statements.proofs.predicates.Reads as predicates-reads
-use Rattle.statements.proofs.subject.Reads as subject-reads
+use Rattle.subjects.proofs.predicates.Reads as predicates-reads
+use Rattle.subjects.proofs.subject.Reads as subject-reads
 
 -- src/lib.rt:209:9
 subject-requires : tie.Need-subject-requires
