@@ -1,6 +1,6 @@
 -- What the readers of a directive's parts ask for, and what stands in the document.
 use mathlib.Core.Path.{_≡_, refl, sym, ap, _∙_, subst}
-use mathlib.Core.List.{List, [], _∷_}
+use mathlib.Core.List.{List}
 use mathlib.Core.Bool.{Bool, true, false, _||_}
 use Prim.Native.Nat.{ℕ, _+_, _-_, _≤_, _<_}
 use native.Mathlib.Omega.{arith}
@@ -9,14 +9,13 @@ use lib.Dec.{eqb}
 use lib.ListN.{length, getD, take, drop, length-drop}
 use lib.Seq.{length-take-le, take-take, getD-take}
 use denote.Ref.{RefT}
-use Rattle.text.specs.Text.{Text, is, until}
+use Rattle.text.specs.Text.{Text, is}
 use Rattle.text.proofs.Compare.{contrary}
-use Rattle.token.specs.Regular.{Match, hit}
+use Rattle.token.specs.Regular.{hit}
 use Rattle.token.specs.Terminals.{token-at}
 use Rattle.utf8.specs.Utf8.{decode}
 use Rattle.iri.specs.Code.{before}
 use Rattle.iri.proofs.Places.{until-take}
-use Rattle.scope.specs.Environment.{Environment}
 use Rattle.scope.specs.Code.{in-force, Usable, Beside}
 use Rattle.scope.proofs.Directives.{in-force-words}
 use Rattle.state.specs.Words.{kind-word, at-word, len-word}
@@ -42,9 +41,6 @@ able-passed doc work st st' d g a p =
 module _ (doc work : Text) (st : List ℕ) (a : Able doc work st) where
   token-kind : (k : ℕ) → getD st kind-word 0 ≡ k → (k ≡ 0 → ⊥) → (k ≡ 31 → ⊥) → TokenHere doc st
   token-kind k e z y = a .cursor .token (λ h. z (sym e ∙ h)) (λ h. y (sym e ∙ h))
-
-  pub unexpected-call : Cursor doc st × (length st ≡ 90)
-  unexpected-call = (a .cursor, a .usable .words)
 
   pub pass-call : (k : ℕ) → getD st kind-word 0 ≡ k → (k ≡ 0 → ⊥) → (k ≡ 31 → ⊥) → (Cursor doc st × TokenHere doc st) × (length st ≡ 90)
   pass-call k e z y = ((a .cursor, token-kind k e z y), a .usable .words)

@@ -10,7 +10,7 @@ use lib.Dec.{ltb}
 use lib.ListN.{length, getD, take, drop, length-drop}
 use lib.Seq.{length-take-le}
 use denote.Ref.{RefT, at-last}
-use Rattle.text.specs.Text.{Text, cond, is, until}
+use Rattle.text.specs.Text.{Text, cond, is}
 use Rattle.token.specs.Kind.{Kind, kind-code, kind-of-code, IRIREF, «PNAME_NS», dot}
 use Rattle.token.specs.Tokens.{Token}
 use Rattle.grammar.specs.Productions.{Mode, trig}
@@ -20,7 +20,7 @@ use Rattle.dataset.specs.Constructors.{prefix, iri-of, awaiting, namespace-of a
 use Rattle.table.specs.Tables.{or-zero}
 use Rattle.machine.specs.Memory.{Memory, Write, return, in-environment}
 use Rattle.machine.specs.Frame.{Directive, prefix-name, namespace-of, new-base, last-dot, Open, directive, statement}
-use Rattle.machine.specs.Rules.{Rule, _⇒_, find-rule, rules}
+use Rattle.machine.specs.Rules.{_⇒_, find-rule, rules}
 use Rattle.machine.specs.Refusals.{new-depth}
 use Rattle.machine.specs.Step.{Room, State, first-refusal, awaited-by, tests}
 use Rattle.machine.specs.Demand.{Fits}

@@ -1,14 +1,14 @@
 -- One token of a directive: it is passed, refused, or changes what is in force.
 use mathlib.Core.Path.{_≡_, refl, sym, ap, ap₂, _∙_, subst}
 use mathlib.Core.List.{List, [], _∷_}
-use mathlib.Core.Bool.{Bool, true, false}
+use mathlib.Core.Bool.{Bool, false}
 use mathlib.Core.Option.{some}
-use Prim.Native.Nat.{ℕ, _+_, _≤_, _<_}
+use Prim.Native.Nat.{ℕ, _+_}
 use native.Mathlib.Omega.{arith}
-use lib.ListN.{length, getD, drop}
+use lib.ListN.{length, getD}
 use denote.Ref.{RefT, at-last}
 use Rattle.text.specs.Text.{Text}
-use Rattle.token.specs.Kind.{Kind, kind-of-code, among, open-bracket, open-paren, close-bracket, close-paren}
+use Rattle.token.specs.Kind.{kind-of-code, among, open-bracket, open-paren, close-bracket, close-paren}
 use Rattle.lexer.specs.Rest.{rest}
 use Rattle.grammar.specs.Productions.{Mode}
 use Rattle.scope.specs.Environment.{Environment}
@@ -19,13 +19,13 @@ use Rattle.machine.specs.Frame.{Open}
 use Rattle.machine.specs.Rules.{find-rule, rules}
 use Rattle.machine.specs.Refusals.{new-depth}
 use Rattle.machine.specs.Step.{State, first-refusal, tests}
-use Rattle.state.specs.Words.{kind-word, at-word, len-word, depth-word, graph-word}
-use Rattle.state.specs.Cursor.{Cursor, TokenHere}
+use Rattle.state.specs.Words.{kind-word, depth-word, graph-word}
+use Rattle.state.specs.Cursor.{TokenHere}
 use Rattle.state.specs.Represents.{Tables, room-in, Represents}
 use Rattle.address.specs.Addresses.{Leaves}
-use Rattle.reading.specs.Reading.{Held, held, tables-of, here, Holding, Ready, Same, Turns}
+use Rattle.reading.specs.Reading.{Held, held, tables-of, here, Holding, Ready, Turns}
 use Rattle.reading.proofs.Compose.{same-all}
-use Rattle.reading.proofs.Turning.{TokenTurns, turns-token}
+use Rattle.reading.proofs.Turning.{turns-token}
 use Rattle.nodes.specs.Nodes.{Passed}
 use Rattle.nodes.proofs.Passing.{represents-words}
 

@@ -1,5 +1,4 @@
-use native.Mathlib.Omega.{arith}
-use mathlib.Core.Path.{refl, sym, _∙_}
+use mathlib.Core.Path.{refl}
 use Rattle.directives.proofs.Calling.{able-ready, able-passed, pass-call, keyword-some, keyword-read, keyword-last}
 use Rattle.directives.proofs.Parts.{directs, at-prefix-keyword, prefix-keyword, at-base-keyword, base-keyword}
 use borrow.Author.Needs.{needs}

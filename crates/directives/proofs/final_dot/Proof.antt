@@ -1,5 +1,4 @@
 use native.Mathlib.Omega.{arith}
-use mathlib.Core.Path.{refl, sym, _∙_}
 use Rattle.directives.proofs.Parts.{dot-none, dot-done}
 use borrow.Author.Needs.{needs}
 use Rattle.directives.proofs.final_dot.Statement.{statement}

@@ -1,5 +1,3 @@
-use native.Mathlib.Omega.{arith}
-use mathlib.Core.Path.{refl, sym, _∙_}
 use Rattle.directives.proofs.Calling.{prefix-there}
 use borrow.Author.Needs.{needs}
 use Rattle.directives.proofs.prefix_length.Statement.{statement}

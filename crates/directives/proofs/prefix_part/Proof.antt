@@ -1,6 +1,5 @@
 use native.Mathlib.Omega.{arith}
-use mathlib.Core.Path.{refl, sym, _∙_}
-use Rattle.directives.proofs.Calling.{unexpected-call, pass-call, able-passed, prefix-fits}
+use Rattle.directives.proofs.Calling.{pass-call, able-passed, prefix-fits}
 use Rattle.directives.proofs.Parts.{name-none, name-long, name-done}
 use borrow.Author.Needs.{needs}
 use Rattle.directives.proofs.prefix_part.Statement.{statement}
