@@ -1,28 +1,25 @@
 -- Behind a subject: what is open there, and its predicates.
-use mathlib.Core.Path.{_≡_, refl, sym, ap, _∙_, subst}
+use mathlib.Core.Path.{_≡_, refl, _∙_, subst}
 use mathlib.Core.List.{List, [], _∷_, _++_}
-use mathlib.Core.Bool.{Bool, true, false, not, _||_}
-use mathlib.Core.Option.{Option, none, some}
-use Prim.Native.Nat.{ℕ, zero, suc, _+_, _-_, _≤_, _<_}
+use mathlib.Core.Bool.{Bool, false}
+use mathlib.Core.Option.{none}
+use Prim.Native.Nat.{ℕ, zero, suc, _≤_, _<_}
 use native.Mathlib.Omega.{arith}
 use borrow.Author.Tests.{ne-eqb}
-use lib.Dec.{T, eqb}
-use lib.ListN.{length, getD}
-use denote.Ref.{RefT}
-use Rattle.text.specs.Text.{Text, cond}
+use lib.ListN.{getD}
+use Rattle.text.specs.Text.{Text}
 use Rattle.text.proofs.Compare.{by, contrary}
-use Rattle.token.specs.Kind.{Kind, kinds, kind-of-code, among, open-brace}
+use Rattle.token.specs.Kind.{Kind, kind-of-code, among, open-brace}
 use Rattle.token.specs.Tokens.{Token}
 use Rattle.token.proofs.KindCodes.{each-kind}
-use Rattle.grammar.specs.Productions.{Mode, trig}
-use Rattle.machine.specs.Memory.{Memory}
-use Rattle.machine.specs.Frame.{Ending, full-stop, brace, Place, top, subject-before, object-of, element-of, Frame, label-or-subject, verb, verb-or-end, object, Open, statement}
+use Rattle.grammar.specs.Productions.{Mode}
+use Rattle.machine.specs.Frame.{Ending, full-stop, Place, top, subject-before, object-of, element-of, Frame, label-or-subject, verb, verb-or-end, object, Open, statement}
 use Rattle.machine.specs.Rules.{Rule, _⇒_, find-rule, end-rules, verb-rules, frame-rules}
-use Rattle.state.specs.Words.{kind-word, at-word, depth-word, list-word, x-word}
-use Rattle.reading.specs.Reading.{code-among, Held, held, here, Ready, Reads, Turns, on-top}
+use Rattle.state.specs.Words.{kind-word, at-word, list-word, x-word}
+use Rattle.reading.specs.Reading.{code-among, Held, here, Ready, Turns, on-top}
 use Rattle.reading.proofs.Tests.{kinds-of, among-any, among-code}
-use Rattle.reading.proofs.Turning.{turns-comes, turns-then, turns-stop}
-use Rattle.nodes.specs.Nodes.{Verbs, Ends, verb-kinds}
+use Rattle.reading.proofs.Turning.{turns-comes, turns-then}
+use Rattle.nodes.specs.Nodes.{Ends, verb-kinds}
 use Rattle.nodes.proofs.Predicates.{verbs-verb, verbs-or-end, verbs-label, no-verb}
 use Rattle.nesting.specs.Nesting.{Listed}
 use Rattle.subjects.specs.Subjects.{Outer, after-subject, SubjectAt, Subject, Predicates}

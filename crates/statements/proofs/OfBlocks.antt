@@ -1,26 +1,25 @@
 -- The triples in braces.
-use mathlib.Core.Path.{_≡_, refl, sym, ap, _∙_, subst}
+use mathlib.Core.Path.{_≡_, refl, _∙_, subst}
 use mathlib.Core.List.{List, [], _∷_, _++_}
-use mathlib.Core.Bool.{Bool, true, false, not, _||_}
-use mathlib.Core.Option.{Option, none, some}
-use Prim.Native.Nat.{ℕ, zero, suc, _+_, _-_, _≤_, _<_}
+use mathlib.Core.Bool.{Bool, false}
+use mathlib.Core.Option.{none, some}
+use Prim.Native.Nat.{ℕ, _-_, _≤_, _<_}
 use native.Mathlib.Omega.{arith}
 use borrow.Author.Tests.{ne-eqb}
-use lib.Dec.{T, eqb}
+use lib.Dec.{T}
 use lib.ListN.{length, getD}
 use denote.Ref.{RefT}
-use Rattle.text.specs.Text.{Text, cond}
+use Rattle.text.specs.Text.{Text}
 use Rattle.text.proofs.Booleans.{all}
 use Rattle.token.specs.Kind.{Kind, kind-of-code, among, dot, close-brace}
 use Rattle.token.specs.Tokens.{Token}
 use Rattle.token.proofs.KindCodes.{each-kind}
 use Rattle.grammar.specs.Productions.{Mode, trig}
-use Rattle.machine.specs.Memory.{Memory, Write, return, _>>=_, _>>_, enter}
+use Rattle.machine.specs.Memory.{Write, return, _>>=_, enter}
 use Rattle.machine.specs.Frame.{Ending, brace, Place, subject-before, Frame, triples-or-end, Open, statement}
-use Rattle.machine.specs.Rules.{Rule, _⇒_, find-rule, subject-rules, end-rules, frame-rules, above, rules}
-use Rattle.state.specs.Words.{kind-word, at-word, depth-word, graph-word, list-word, x-word}
-use Rattle.state.specs.Cursor.{Cursor, TokenHere}
-use Rattle.reading.specs.Reading.{code-among, Held, held, here, Ready, Turns, refusal-here}
+use Rattle.machine.specs.Rules.{find-rule, subject-rules, end-rules, frame-rules, rules}
+use Rattle.state.specs.Words.{kind-word, at-word, depth-word, graph-word, x-word}
+use Rattle.reading.specs.Reading.{Held, held, here, Ready, Turns, refusal-here}
 use Rattle.reading.proofs.Tests.{kinds-of, among-any, among-code, no-rule}
 use Rattle.reading.proofs.Frames.{found-above, none-above}
 use Rattle.reading.proofs.Turning.{turns-here, turns-then, turns-stop, turns-none}

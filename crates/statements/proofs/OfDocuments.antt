@@ -1,23 +1,21 @@
 -- Statements one after another.
-use mathlib.Core.Path.{_≡_, refl, sym, ap, _∙_, subst}
-use mathlib.Core.List.{List, [], _∷_}
-use mathlib.Core.Bool.{Bool, true, false}
-use Prim.Native.Nat.{ℕ, _-_, _≤_, _<_}
-use native.Mathlib.Omega.{arith}
+use mathlib.Core.Path.{_≡_, refl, sym, _∙_, subst}
+use mathlib.Core.List.{[]}
+use mathlib.Core.Bool.{Bool, false}
+use Prim.Native.Nat.{ℕ, _-_, _<_}
 use borrow.Author.Tests.{eq-eqb}
-use lib.Dec.{eqb}
 use lib.ListN.{length, getD}
 use Rattle.text.specs.Text.{Text, cond}
 use Rattle.grammar.specs.Productions.{Mode, trig, turtle}
-use Rattle.machine.specs.Memory.{Memory}
-use Rattle.machine.specs.Frame.{Open, statement}
+use Rattle.machine.specs.Frame.{statement}
 use Rattle.machine.specs.Read.{mode-of}
 use Rattle.state.specs.Words.{kind-word, at-word}
 use Rattle.reading.specs.Reading.{code-among, Held, Ready, Turns}
 use Rattle.reading.proofs.Turning.{turns-here, turns-then}
 use Rattle.reading.proofs.Steps.{goes-ended}
 use Rattle.nesting.proofs.Aiming.{less-left}
-use Rattle.statements.specs.Statements.{directive-kinds, Graph, Statement, Plain, ReadsAll}
+use Rattle.statements.specs.Statements.{Graph, Statement, Plain, ReadsAll}
+use Rattle.directives.specs.Directives.{directive-kinds}
 use Rattle.statements.proofs.OfGraphs.{document-at}
 
 -- In mode 0.

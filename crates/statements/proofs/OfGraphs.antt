@@ -1,21 +1,18 @@
 -- Graphs in braces, and where they are awaited.
-use mathlib.Core.Path.{_≡_, refl, sym, ap, _∙_, subst}
-use mathlib.Core.List.{List, [], _∷_, _++_}
-use mathlib.Core.Bool.{Bool, true, false}
-use mathlib.Core.Option.{Option, none, some}
-use Prim.Native.Nat.{ℕ, _+_, _-_, _≤_, _<_}
+use mathlib.Core.Path.{_≡_, refl, sym, _∙_}
+use mathlib.Core.List.{List, [], _∷_}
+use Prim.Native.Nat.{ℕ, _<_}
 use native.Mathlib.Omega.{arith}
 use borrow.Author.Tests.{ne-eqb}
-use lib.ListN.{length, getD}
+use lib.ListN.{getD}
 use denote.Ref.{RefT}
-use Rattle.text.specs.Text.{Text, cond}
-use Rattle.token.specs.Kind.{Kind, kind-of-code, among, open-brace}
+use Rattle.text.specs.Text.{Text}
+use Rattle.token.specs.Kind.{open-brace}
 use Rattle.grammar.specs.Productions.{Mode, trig}
-use Rattle.machine.specs.Memory.{Memory, enter}
-use Rattle.machine.specs.Frame.{Frame, graph-body, label-or-subject, triples-or-end, Open, statement}
-use Rattle.machine.specs.Rules.{find-rule, rules}
-use Rattle.state.specs.Words.{kind-word, at-word, depth-word}
-use Rattle.reading.specs.Reading.{Held, held, here, Ready, Turns, refusal-here}
+use Rattle.machine.specs.Frame.{graph-body, label-or-subject, statement}
+use Rattle.machine.specs.Rules.{rules}
+use Rattle.state.specs.Words.{kind-word, depth-word}
+use Rattle.reading.specs.Reading.{Held, held, Ready, refusal-here}
 use Rattle.reading.proofs.Tests.{among-code}
 use Rattle.reading.proofs.Turning.{turns-then, turns-none}
 use Rattle.reading.proofs.Steps.{here-some}

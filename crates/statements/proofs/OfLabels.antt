@@ -1,15 +1,13 @@
 -- Does a graph come behind the subject?
-use mathlib.Core.Path.{_≡_, refl, sym, ap, _∙_}
+use mathlib.Core.Path.{_≡_, sym}
 use mathlib.Core.List.{List}
 use mathlib.Core.Bool.{Bool, true, false}
 use Prim.Native.Nat.{ℕ}
-use borrow.Author.Tests.{eq-eqb, ne-eqb, eqb-true}
+use borrow.Author.Tests.{ne-eqb, eqb-true}
 use lib.Dec.{eqb}
 use lib.ListN.{getD}
-use Rattle.text.specs.Text.{cond}
 use Rattle.text.proofs.Compare.{by, contrary}
 use Rattle.state.specs.Words.{kind-word, list-word}
-use Rattle.machine.specs.Frame.{Place, top, subject-before, full-stop}
 use Rattle.statements.specs.Statements.{graph-label-test}
 
 pub other-mode : (st : List ℕ) (mode : ℕ) → (mode ≡ 0 → ⊥) → false ≡ graph-label-test st mode

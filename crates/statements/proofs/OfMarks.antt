@@ -1,28 +1,27 @@
 -- Marks and keywords of statements: tokens that write nothing, or enter a graph.
 use mathlib.Core.Path.{_≡_, refl, sym, ap, _∙_, subst}
-use mathlib.Core.List.{List, [], _∷_, _++_}
-use mathlib.Core.Bool.{Bool, true, false, not, _||_}
-use mathlib.Core.Option.{Option, none, some}
-use Prim.Native.Nat.{ℕ, suc, _+_, _-_, _≤_, _<_}
+use mathlib.Core.List.{List, [], _∷_}
+use mathlib.Core.Bool.{Bool, true, false, not}
+use mathlib.Core.Option.{none, some}
+use Prim.Native.Nat.{ℕ, _<_}
 use native.Mathlib.Omega.{arith}
-use lib.Dec.{T, eqb}
+use lib.Dec.{T}
 use lib.ListN.{length, getD}
 use denote.Ref.{RefT}
-use Rattle.text.specs.Text.{Text, cond}
+use Rattle.text.specs.Text.{Text}
 use Rattle.text.proofs.Booleans.{imp, imp-use, all}
 use Rattle.token.specs.Kind.{Kind, kinds, kind-of-code, among, close-bracket, close-paren}
-use Rattle.token.specs.Tokens.{Token}
 use Rattle.token.proofs.KindCodes.{all-kinds}
 use Rattle.grammar.specs.Productions.{Mode}
 use Rattle.dataset.specs.Constructors.{nothing}
-use Rattle.machine.specs.Memory.{Memory, Write, return, enter}
-use Rattle.machine.specs.Frame.{Frame, Open, statement}
-use Rattle.machine.specs.Rules.{find-rule, frame-rules, rules}
+use Rattle.machine.specs.Memory.{return, enter}
+use Rattle.machine.specs.Frame.{Open}
+use Rattle.machine.specs.Rules.{find-rule, rules}
 use Rattle.machine.specs.Refusals.{new-depth}
 use Rattle.machine.specs.Step.{awaited-by}
-use Rattle.state.specs.Words.{kind-word, at-word, depth-word, graph-word}
+use Rattle.state.specs.Words.{kind-word, depth-word, graph-word}
 use Rattle.state.specs.Cursor.{Cursor, TokenHere}
-use Rattle.reading.specs.Reading.{Held, held, here, Ready, Reads, Turns, Does}
+use Rattle.reading.specs.Reading.{Held, held, here, Ready, Turns}
 use Rattle.reading.proofs.Frames.{ready-does}
 use Rattle.reading.proofs.Turning.{turns-does}
 use Rattle.reading.proofs.Steps.{tied-here}

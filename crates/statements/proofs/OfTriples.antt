@@ -1,33 +1,33 @@
 -- Triples outside braces.
-use mathlib.Core.Path.{_≡_, refl, sym, ap, _∙_, subst}
-use mathlib.Core.List.{List, [], _∷_, _++_}
+use mathlib.Core.Path.{_≡_, refl, sym, _∙_, subst}
+use mathlib.Core.List.{List, [], _∷_}
 use mathlib.Core.Bool.{Bool, true, false, _||_}
-use mathlib.Core.Option.{Option, none, some}
-use Prim.Native.Nat.{ℕ, _+_, _-_, _≤_, _<_}
+use mathlib.Core.Option.{none}
+use Prim.Native.Nat.{ℕ, _≤_, _<_}
 use native.Mathlib.Omega.{arith}
 use borrow.Author.Tests.{eq-eqb, ne-eqb, eqb-true}
 use lib.Dec.{eqb}
-use lib.ListN.{length, getD}
+use lib.ListN.{getD}
 use denote.Ref.{RefT}
 use Rattle.text.specs.Text.{Text, cond}
 use Rattle.text.proofs.Booleans.{all}
 use Rattle.token.specs.Kind.{Kind, kind-of-code, among, GRAPH, dot, open-brace, at-prefix, at-base, PREFIX, BASE}
 use Rattle.token.specs.Tokens.{Token}
 use Rattle.token.proofs.KindCodes.{each-kind}
-use Rattle.grammar.specs.Productions.{Mode, trig, turtle}
-use Rattle.machine.specs.Memory.{Memory, return}
-use Rattle.machine.specs.Frame.{Ending, full-stop, Place, top, subject-before, Frame, label-or-subject, Open, statement}
+use Rattle.grammar.specs.Productions.{trig, turtle}
+use Rattle.machine.specs.Memory.{return}
+use Rattle.machine.specs.Frame.{full-stop, Place, top, subject-before, label-or-subject, Open, statement}
 use Rattle.machine.specs.Rules.{find-rule, subject-rules, document-rules, end-rules, above, rules}
 use Rattle.machine.specs.Read.{mode-of}
-use Rattle.state.specs.Words.{kind-word, at-word, depth-word, graph-word, list-word, x-word}
-use Rattle.state.specs.Cursor.{TokenHere}
+use Rattle.state.specs.Words.{kind-word, depth-word, graph-word, list-word, x-word}
 use Rattle.reading.specs.Reading.{code-among, Held, held, here, Ready, Turns, refusal-here}
 use Rattle.reading.proofs.Tests.{kinds-of, among-any, among-code, no-rule}
 use Rattle.reading.proofs.Turning.{turns-then, turns-stop, turns-none}
 use Rattle.reading.proofs.Steps.{here-some}
 use Rattle.nodes.specs.Nodes.{Passed}
 use Rattle.subjects.specs.Subjects.{subject-kinds, after-subject, SubjectAt, Subject, Predicates}
-use Rattle.statements.specs.Statements.{directive-kinds, Graph, Statement, Plain, graph-label-test}
+use Rattle.statements.specs.Statements.{Graph, Statement, Plain, graph-label-test}
+use Rattle.directives.specs.Directives.{directive-kinds}
 use Rattle.statements.proofs.OfMarks.{apart, dot-mark, mark-passes}
 use Rattle.statements.proofs.OfLabels.{labels, no-labels}
 use Rattle.statements.proofs.Behind.{Behind, no-graph, behind-subject, subject-ready}

@@ -1,3 +1,6 @@
+use Rattle.nesting.proofs.Aiming.{unexpected-call}
+use Rattle.statements.proofs.OfMarks.{mark-call, graph-mark}
+use Rattle.statements.proofs.OfNames.{name-ready, name-none, name-call, name-stop, name-graph-call, name-graph, bracket-call, bracket-stop, bracket-ready, bracket-none, bracket-leave, bracket-graph-call, bracket-graph}
 use borrow.Author.Needs.{needs}
 use Rattle.statements.proofs.named_graph.Statement.{statement}
 use Rattle.statements.proofs.named_graph.Tie as tie
@@ -14,7 +17,7 @@ use Rattle.subjects.proofs.is_label.Reads as is-label-reads
 
 -- src/lib.rt:171:5
 pass-requires : tie.Need-pass-requires
-pass-requires c κs = ?
+pass-requires c κs = mark-call _ _ 18 graph-mark (c .before .pre .0) (c .before .pre .1)
 
 -- src/lib.rt:172:5
 aim-requires : tie.Need-aim-requires
@@ -30,11 +33,11 @@ is-label-requires c κs = search needs
 
 -- src/lib.rt:174:13
 put-term-requires : tie.Need-put-term-requires
-put-term-requires c κs = ?
+put-term-requires c κs = name-call _ _ _ _ _ _ _ _ (c .before .before .before .before .before .before .before .before .before .before .before .before .pre .0) (c .before .before .before .before .before .before .before .before .before .before .before .before .pre .1) (c .before .before .before .before .before .before .before .before .before .before .pass .ensures) (c .before .before .before .before .before .before .before .before .aim .ensures) _ (c .before .before .before .before .before .before .is-label .ensures) (c .before .before .before .before .before .if1 .taken)
 
 -- src/lib.rt:176:13
 returns : tie.Need-returns
-returns c = ?
+returns c = name-stop _ _ _ _ _ _ _ _ (c .before .before .before .before .before .before .before .before .before .before .before .before .before .before .pre .0) (c .before .before .before .before .before .before .before .before .before .before .before .before .before .before .pre .1) (c .before .before .before .before .before .before .before .before .before .before .before .before .pass .ensures) (c .before .before .before .before .before .before .before .before .before .before .aim .ensures) _ (c .before .before .before .before .before .before .before .before .is-label .ensures) (c .before .before .before .before .before .before .before .if1 .taken) _ _ (c .before .put-term .ensures) (c .if2 .taken)
 
 -- src/lib.rt:178:17
 element-copy-out-n : tie.Need-element-copy-out-n
@@ -42,11 +45,11 @@ element-copy-out-n c = search needs
 
 -- src/lib.rt:179:9
 graph-requires : tie.Need-graph-requires
-graph-requires c κs = ?
+graph-requires c κs = name-graph-call _ _ _ _ _ _ _ _ (c .before .before .before .before .before .before .before .before .before .before .before .before .before .before .before .before .before .before .before .before .pre .0) (c .before .before .before .before .before .before .before .before .before .before .before .before .before .before .before .before .before .before .before .before .pre .1) (c .before .before .before .before .before .before .before .before .before .before .before .before .before .before .before .before .before .before .pass .ensures) (c .before .before .before .before .before .before .before .before .before .before .before .before .before .before .before .before .aim .ensures) _ (c .before .before .before .before .before .before .before .before .before .before .before .before .before .before .is-label .ensures) (c .before .before .before .before .before .before .before .before .before .before .before .before .before .if1 .taken) _ _ (c .before .before .before .before .before .before .before .put-term .ensures) (c .before .before .before .before .before .before .if2 .left)
 
 -- src/lib.rt:179:9
 returns-2 : tie.Need-returns-2
-returns-2 c = ?
+returns-2 c = name-graph _ _ _ _ _ _ _ _ (c .before .before .before .before .before .before .before .before .before .before .before .before .before .before .before .before .before .before .before .before .before .pre .0) (c .before .before .before .before .before .before .before .before .before .before .before .before .before .before .before .before .before .before .before .before .before .pre .1) (c .before .before .before .before .before .before .before .before .before .before .before .before .before .before .before .before .before .before .before .pass .ensures) (c .before .before .before .before .before .before .before .before .before .before .before .before .before .before .before .before .before .aim .ensures) _ (c .before .before .before .before .before .before .before .before .before .before .before .before .before .before .before .is-label .ensures) (c .before .before .before .before .before .before .before .before .before .before .before .before .before .before .if1 .taken) _ _ (c .before .before .before .before .before .before .before .before .put-term .ensures) (c .before .before .before .before .before .before .before .if2 .left) _ _ (c .graph .ensures)
 
 -- src/lib.rt:181:8
 element-copy-out-if3 : tie.Need-element-copy-out-if3
@@ -54,19 +57,19 @@ element-copy-out-if3 c = search needs
 
 -- src/lib.rt:182:9
 unexpected-requires : tie.Need-unexpected-requires
-unexpected-requires c κs = ?
+unexpected-requires c κs = unexpected-call _ _ (name-ready _ _ _ _ _ _ _ _ (c .before .before .before .before .before .before .before .before .before .before .before .pre .0) (c .before .before .before .before .before .before .before .before .before .before .before .pre .1) (c .before .before .before .before .before .before .before .before .before .pass .ensures) (c .before .before .before .before .before .before .before .aim .ensures))
 
 -- src/lib.rt:182:9
 returns-3 : tie.Need-returns-3
-returns-3 c = ?
+returns-3 c = name-none _ _ _ _ _ _ _ _ (c .before .before .before .before .before .before .before .before .before .before .before .before .pre .0) (c .before .before .before .before .before .before .before .before .before .before .before .before .pre .1) (c .before .before .before .before .before .before .before .before .before .before .pass .ensures) (c .before .before .before .before .before .before .before .before .aim .ensures) _ (c .before .before .before .before .before .before .is-label .ensures) (c .before .before .before .before .before .if1 .left) (c .before .before .before .if3 .taken) _ (c .unexpected .ensures)
 
 -- src/lib.rt:184:9
 put-bracket-requires : tie.Need-put-bracket-requires
-put-bracket-requires c κs = ?
+put-bracket-requires c κs = bracket-call _ _ _ _ _ _ _ _ (c .before .before .before .before .before .before .before .before .before .before .before .before .before .before .pre .0) (c .before .before .before .before .before .before .before .before .before .before .before .before .before .before .pre .1) (c .before .before .before .before .before .before .before .before .before .before .before .before .pass .ensures) (c .before .before .before .before .before .before .before .before .before .before .aim .ensures) (c .before .before .before .before .before .if3 .left)
 
 -- src/lib.rt:186:9
 returns-4 : tie.Need-returns-4
-returns-4 c = ?
+returns-4 c = bracket-stop _ _ _ _ _ _ _ _ (c .before .before .before .before .before .before .before .before .before .before .before .before .before .before .before .before .pre .0) (c .before .before .before .before .before .before .before .before .before .before .before .before .before .before .before .before .pre .1) (c .before .before .before .before .before .before .before .before .before .before .before .before .before .before .pass .ensures) (c .before .before .before .before .before .before .before .before .before .before .before .before .aim .ensures) (c .before .before .before .before .before .before .before .if3 .left) _ _ (c .before .put-bracket .ensures) (c .if4 .taken)
 
 -- src/lib.rt:188:13
 element-copy-out-g : tie.Need-element-copy-out-g
@@ -78,23 +81,23 @@ element-copy-out-if5 c = search needs
 
 -- src/lib.rt:190:9
 unexpected-requires-2 : tie.Need-unexpected-requires-2
-unexpected-requires-2 c κs = ?
+unexpected-requires-2 c κs = unexpected-call _ _ (bracket-ready _ _ _ _ _ _ _ _ (c .before .before .before .before .before .before .before .before .before .before .before .before .before .before .before .before .before .before .before .before .before .pre .0) (c .before .before .before .before .before .before .before .before .before .before .before .before .before .before .before .before .before .before .before .before .before .pre .1) (c .before .before .before .before .before .before .before .before .before .before .before .before .before .before .before .before .before .before .before .pass .ensures) (c .before .before .before .before .before .before .before .before .before .before .before .before .before .before .before .before .before .aim .ensures) (c .before .before .before .before .before .before .before .before .before .before .before .before .if3 .left) _ _ _ _ _ _ (c .before .before .before .before .before .before .put-bracket .ensures) (c .before .before .before .before .before .if4 .left))
 
 -- src/lib.rt:190:9
 returns-5 : tie.Need-returns-5
-returns-5 c = ?
+returns-5 c = bracket-none _ _ _ _ _ _ _ _ (c .before .before .before .before .before .before .before .before .before .before .before .before .before .before .before .before .before .before .before .before .before .before .pre .0) (c .before .before .before .before .before .before .before .before .before .before .before .before .before .before .before .before .before .before .before .before .before .before .pre .1) (c .before .before .before .before .before .before .before .before .before .before .before .before .before .before .before .before .before .before .before .before .pass .ensures) (c .before .before .before .before .before .before .before .before .before .before .before .before .before .before .before .before .before .before .aim .ensures) (c .before .before .before .before .before .before .before .before .before .before .before .before .before .if3 .left) _ _ _ _ _ _ (c .before .before .before .before .before .before .before .put-bracket .ensures) (c .before .before .before .before .before .before .if4 .left) (c .before .before .before .if5 .taken) _ (c .unexpected2 .ensures)
 
 -- src/lib.rt:192:5
 leave-requires : tie.Need-leave-requires
-leave-requires c κs = ?
+leave-requires c κs = bracket-leave _ _ _ _ _ _ _ _ (c .before .before .before .before .before .before .before .before .before .before .before .before .before .before .before .before .before .before .before .before .pre .0) (c .before .before .before .before .before .before .before .before .before .before .before .before .before .before .before .before .before .before .before .before .pre .1) (c .before .before .before .before .before .before .before .before .before .before .before .before .before .before .before .before .before .before .pass .ensures) (c .before .before .before .before .before .before .before .before .before .before .before .before .before .before .before .before .aim .ensures) (c .before .before .before .before .before .before .before .before .before .before .before .if3 .left) _ _ _ _ _ _ (c .before .before .before .before .before .put-bracket .ensures) (c .before .before .before .before .if4 .left) (c .before .if5 .left)
 
 -- src/lib.rt:193:5
 graph-requires-2 : tie.Need-graph-requires-2
-graph-requires-2 c κs = ?
+graph-requires-2 c κs = bracket-graph-call _ _ _ _ _ _ _ _ (c .before .before .before .before .before .before .before .before .before .before .before .before .before .before .before .before .before .before .before .before .before .before .before .before .before .before .pre .0) (c .before .before .before .before .before .before .before .before .before .before .before .before .before .before .before .before .before .before .before .before .before .before .before .before .before .before .pre .1) (c .before .before .before .before .before .before .before .before .before .before .before .before .before .before .before .before .before .before .before .before .before .before .before .before .pass .ensures) (c .before .before .before .before .before .before .before .before .before .before .before .before .before .before .before .before .before .before .before .before .before .before .aim .ensures) (c .before .before .before .before .before .before .before .before .before .before .before .before .before .before .before .before .before .if3 .left) _ _ _ _ _ _ (c .before .before .before .before .before .before .before .before .before .before .before .put-bracket .ensures) (c .before .before .before .before .before .before .before .before .before .before .if4 .left) _ (c .before .before .before .before .before .before .before .if5 .left) (c .before .before .before .before .before .leave .ensures)
 
 -- src/lib.rt:160:1
 returns-6 : tie.Need-returns-6
-returns-6 c = ?
+returns-6 c = bracket-graph _ _ _ _ _ _ _ _ (c .before .before .before .before .before .before .before .before .before .before .before .before .before .before .before .before .before .before .before .before .before .before .before .before .before .before .before .pre .0) (c .before .before .before .before .before .before .before .before .before .before .before .before .before .before .before .before .before .before .before .before .before .before .before .before .before .before .before .pre .1) (c .before .before .before .before .before .before .before .before .before .before .before .before .before .before .before .before .before .before .before .before .before .before .before .before .before .pass .ensures) (c .before .before .before .before .before .before .before .before .before .before .before .before .before .before .before .before .before .before .before .before .before .before .before .aim .ensures) (c .before .before .before .before .before .before .before .before .before .before .before .before .before .before .before .before .before .before .if3 .left) _ _ _ _ _ _ (c .before .before .before .before .before .before .before .before .before .before .before .before .put-bracket .ensures) (c .before .before .before .before .before .before .before .before .before .before .before .if4 .left) _ (c .before .before .before .before .before .before .before .before .if5 .left) (c .before .before .before .before .before .before .leave .ensures) _ _ (c .graph2 .ensures)
 
 pub named-graph-spec : {M : Type 1} → statement M
 named-graph-spec =
