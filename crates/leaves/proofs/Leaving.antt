@@ -1,24 +1,23 @@
 -- A token's node is written, and the cursor goes behind the token.
-use mathlib.Core.Path.{_≡_, refl, sym, ap, ap₂, _∙_, subst}
-use mathlib.Core.Logic.{_⊎_, inl, inr}
+use mathlib.Core.Path.{_≡_, refl, sym, ap, ap₂, _∙_}
 use mathlib.Core.List.{List, [], _∷_}
 use mathlib.Core.Bool.{true, false}
 use Prim.Native.Nat.{ℕ, _+_, _-_, _≤_, _<_}
 use native.Mathlib.Omega.{arith}
 use lib.ListN.{length, getD, set, length-set}
 use lib.Seq.{getD-set-same, getD-set-other}
-use denote.Ref.{RefT, at-last}
+use denote.Ref.{at-last}
 use Rattle.text.specs.Text.{Text}
 use Rattle.token.specs.Kind.{kind-of-code, among, kw-a, open-bracket, open-paren, close-bracket, close-paren}
 use Rattle.lexer.specs.Rest.{rest}
 use Rattle.scope.specs.Code.{words-size}
 use Rattle.machine.specs.Memory.{Memory, Write}
 use Rattle.machine.specs.Refusals.{too-deep, new-depth}
-use Rattle.state.specs.Words.{node-word, kind-word, at-word, len-word, depth-word, graph-word}
+use Rattle.state.specs.Words.{kind-word, depth-word, graph-word}
 use Rattle.state.specs.Cursor.{Cursor, TokenHere}
-use Rattle.state.specs.Represents.{Tables, tables, Represents, Puts}
+use Rattle.state.specs.Represents.{Tables, tables, Puts}
 use Rattle.state.specs.Writes.{placed, closed}
-use Rattle.reading.specs.Reading.{Held, held, tables-of, here, Holding, Ready, Same, Does, Gives}
+use Rattle.reading.specs.Reading.{Held, held, tables-of, here, Ready, Same, Gives}
 use Rattle.nodes.specs.Nodes.{term-kinds, spot-of, Spotted, Numbers, Closes, Passed}
 use Rattle.nodes.proofs.Moving.{token-words, cursor-words}
 use Rattle.nodes.proofs.Passing.{represents-words}

@@ -1,17 +1,15 @@
 -- The numbers that terms get, and what stays while a place is made.
-use mathlib.Core.Path.{_≡_, refl, sym, ap, _∙_}
-use mathlib.Core.List.{List, [], _∷_}
+use mathlib.Core.Path.{_≡_, refl}
 use mathlib.Core.Bool.{Bool, true, false}
 use mathlib.Core.Option.{Option, none, some}
 use Prim.Native.Nat.{ℕ, zero, suc, _<_}
 use native.Mathlib.Omega.{arith}
-use lib.ListN.{length, getD}
-use Rattle.text.specs.Text.{Text, cond}
+use lib.ListN.{length}
+use Rattle.text.specs.Text.{cond}
 use Rattle.dataset.specs.Terms.{Term, iri, blank, cell, rdf-first, rdf-rest, rdf-nil}
 use Rattle.table.specs.Tables.{number}
 use Rattle.table.proofs.Numbers.{known-zero, found-known}
 use Rattle.machine.specs.Memory.{Memory, Write, term-by, term, new-term}
-use Rattle.machine.specs.Frame.{Place, Cells}
 use Rattle.machine.specs.Rules.{hold, new-cell}
 use Rattle.machine.proofs.Extends.{adds-term}
 use Rattle.state.specs.Writes.{place-of, cells-of, begin, new-element, placed, closed}

@@ -1,28 +1,26 @@
 -- The nodes that the tokens of terms write, as the code gives them.
 use mathlib.Core.Path.{_≡_, refl, sym, ap, _∙_, subst}
-use mathlib.Core.List.{List, [], _∷_, _++_}
-use mathlib.Core.Bool.{Bool, true, false, _||_}
-use Prim.Native.Nat.{ℕ, _+_, _-_, _≤_, _<_}
+use mathlib.Core.List.{List}
+use mathlib.Core.Bool.{true, false}
+use Prim.Native.Nat.{ℕ, _-_, _≤_, _<_}
 use native.Mathlib.Omega.{arith}
 use borrow.Author.Tests.{ne-eqb}
 use lib.ListN.{length, getD, take, drop, length-drop}
 use lib.Seq.{take-all}
-use Rattle.text.specs.Text.{Text, cond, empty}
-use Rattle.limits.specs.Limits.{document-limit, iri-limit, work-size}
+use Rattle.text.specs.Text.{Text}
+use Rattle.limits.specs.Limits.{document-limit, iri-limit}
 use Rattle.token.specs.Tokens.{Token}
 use Rattle.form.specs.Form.{undo, bad, joined}
 use Rattle.form.specs.declared.Form.the-variants.{Plain}
-use Rattle.scope.specs.Code.{in-force, Usable}
 use Rattle.scope.specs.Environment.{Environment}
 use Rattle.dataset.specs.Terms.{iri, blank, label, bracket, xsd-integer, xsd-decimal, xsd-double, xsd-boolean}
-use Rattle.dataset.specs.Constructors.{iri-of, nothing, awaiting}
 use Rattle.machine.specs.Memory.{Memory, Write, term, new-term, typed, iri-term}
-use Rattle.address.specs.Tests.{token-as, Sound, iri-refusal}
+use Rattle.address.specs.Tests.{token-as, Sound}
 use Rattle.address.specs.Addresses.{front-of, back-of, StandsFor, Addresses}
 use Rattle.address.specs.declared.Address.{Address}
 use Rattle.state.specs.Words.{at-word, depth-word}
-use Rattle.state.specs.Represents.{Tables, tables, room-in, Represents, Represented, Wrote, Puts}
-use Rattle.state.specs.Writes.{node-iri, node-write, placed, SpotFits, NodeFits}
+use Rattle.state.specs.Represents.{Tables, room-in, Represents, Represented, Puts}
+use Rattle.state.specs.Writes.{node-write, placed, SpotFits, NodeFits}
 use Rattle.state.specs.declared.Spot.{Spot}
 use Rattle.state.specs.declared.Node.{Node}
 use Rattle.leaves.specs.Leaves.{spot-in, plain-node, datatype-of, PutsToken}
@@ -30,7 +28,7 @@ use Rattle.leaves.proofs.Numbering.{placed-alike}
 use Rattle.leaves.proofs.Refusing.{refusal-iri, flat, puts-token, refused-token}
 use Rattle.leaves.proofs.Terms.{iri-flat}
 
--- A slice, lent as a part of itself; what is left of one behind a start.
+-- A slice, lent as a part of itself.
 pub whole : (x : List ℕ) → take (length x - 0) (drop 0 x) ≡ x
 whole x = take-all (length x - 0) x (omega arith)
 

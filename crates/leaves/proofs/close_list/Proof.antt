@@ -9,11 +9,6 @@ use Rattle.leaves.proofs.Leaving.{put-ready, still-there, plain-refused
 use borrow.Author.Needs.{needs}
 use Rattle.leaves.proofs.close_list.Statement.{statement}
 use Rattle.leaves.proofs.close_list.Tie as tie
-use Rattle.leaves.proofs.close_list.Reads as reads
-use Rattle.leaves.proofs.close_list.Lts as lts
-use Rattle.leaves.proofs.spot_here.Reads as spot-here-reads
-use Rattle.nodes.proofs.leave.Reads as leave-reads
-use Rattle.placing.proofs.close.Reads as close-reads
 
 -- src/lib.rt:139:9
 spot-here-requires : tie.Need-spot-here-requires

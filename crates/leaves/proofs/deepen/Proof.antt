@@ -2,9 +2,6 @@ use Rattle.leaves.proofs.Leaving.{deeper-there, passed-deeper}
 use borrow.Author.Needs.{needs}
 use Rattle.leaves.proofs.deepen.Statement.{statement}
 use Rattle.leaves.proofs.deepen.Tie as tie
-use Rattle.leaves.proofs.deepen.Reads as reads
-use Rattle.leaves.proofs.deepen.Lts as lts
-use Rattle.nodes.proofs.pass.Reads as pass-reads
 
 -- src/lib.rt:43:24
 element-copy-out-st : tie.Need-element-copy-out-st

@@ -2,10 +2,6 @@ use Rattle.leaves.proofs.Writing.{back-in-buffer, back-in-token, back-b
 use borrow.Author.Needs.{needs}
 use Rattle.leaves.proofs.place_address.Statement.{statement}
 use Rattle.leaves.proofs.place_address.Tie as tie
-use Rattle.leaves.proofs.place_address.Reads as reads
-use Rattle.leaves.proofs.place_address.Lts as lts
-use Rattle.address.proofs.address_of.Reads as address-of-reads
-use Rattle.leaves.proofs.place_node.Reads as place-node-reads
 
 -- src/lib.rt:315:46
 sub-address-of : tie.Need-sub-address-of

@@ -3,9 +3,6 @@ use Rattle.leaves.proofs.Writing.{plain-fits, put-typed}
 use borrow.Author.Needs.{needs}
 use Rattle.leaves.proofs.place_boolean.Statement.{statement}
 use Rattle.leaves.proofs.place_boolean.Tie as tie
-use Rattle.leaves.proofs.place_boolean.Reads as reads
-use Rattle.leaves.proofs.place_boolean.Lts as lts
-use Rattle.leaves.proofs.place_node.Reads as place-node-reads
 
 -- src/lib.rt:271:9
 slice-aggregate-place-node : tie.Need-slice-aggregate-place-node

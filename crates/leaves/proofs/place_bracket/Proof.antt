@@ -3,9 +3,6 @@ use Rattle.leaves.proofs.Writing.{plain-fits, put-new}
 use borrow.Author.Needs.{needs}
 use Rattle.leaves.proofs.place_bracket.Statement.{statement}
 use Rattle.leaves.proofs.place_bracket.Tie as tie
-use Rattle.leaves.proofs.place_bracket.Reads as reads
-use Rattle.leaves.proofs.place_bracket.Lts as lts
-use Rattle.leaves.proofs.place_node.Reads as place-node-reads
 
 -- src/lib.rt:81:16
 array-share-prefix-byte : tie.Need-array-share-prefix-byte

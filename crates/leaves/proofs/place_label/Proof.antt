@@ -3,9 +3,6 @@ use Rattle.leaves.proofs.Writing.{label-fits, put-behind}
 use borrow.Author.Needs.{needs}
 use Rattle.leaves.proofs.place_label.Statement.{statement}
 use Rattle.leaves.proofs.place_label.Tie as tie
-use Rattle.leaves.proofs.place_label.Reads as reads
-use Rattle.leaves.proofs.place_label.Lts as lts
-use Rattle.leaves.proofs.place_node.Reads as place-node-reads
 
 -- src/lib.rt:155:9
 slice-aggregate-place-node : tie.Need-slice-aggregate-place-node

@@ -2,12 +2,6 @@ use Rattle.leaves.proofs.Writing.{typed-8, typed-9, typed-10, typed-oth
 use borrow.Author.Needs.{needs}
 use Rattle.leaves.proofs.place_literal.Statement.{statement}
 use Rattle.leaves.proofs.place_literal.Tie as tie
-use Rattle.leaves.proofs.place_literal.Reads as reads
-use Rattle.leaves.proofs.place_literal.Lts as lts
-use Rattle.leaves.proofs.place_boolean.Reads as place-boolean-reads
-use Rattle.leaves.proofs.place_decimal.Reads as place-decimal-reads
-use Rattle.leaves.proofs.place_double.Reads as place-double-reads
-use Rattle.leaves.proofs.place_integer.Reads as place-integer-reads
 
 -- src/lib.rt:290:9
 place-integer-requires : tie.Need-place-integer-requires

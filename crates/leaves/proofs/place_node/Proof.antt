@@ -2,10 +2,6 @@ use Rattle.leaves.proofs.Writing.{spot-fits, spot-put}
 use borrow.Author.Needs.{needs}
 use Rattle.leaves.proofs.place_node.Statement.{statement}
 use Rattle.leaves.proofs.place_node.Tie as tie
-use Rattle.leaves.proofs.place_node.Reads as reads
-use Rattle.leaves.proofs.place_node.Lts as lts
-use Rattle.leaves.proofs.spot_here.Reads as spot-here-reads
-use Rattle.placing.proofs.place.Reads as place-reads
 
 -- src/lib.rt:65:9
 spot-here-requires : tie.Need-spot-here-requires

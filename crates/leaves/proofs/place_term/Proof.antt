@@ -3,12 +3,6 @@ use Rattle.leaves.proofs.Terms.{term-low, type-put, label-put, literal-
 use borrow.Author.Needs.{needs}
 use Rattle.leaves.proofs.place_term.Statement.{statement}
 use Rattle.leaves.proofs.place_term.Tie as tie
-use Rattle.leaves.proofs.place_term.Reads as reads
-use Rattle.leaves.proofs.place_term.Lts as lts
-use Rattle.leaves.proofs.place_iri.Reads as place-iri-reads
-use Rattle.leaves.proofs.place_label.Reads as place-label-reads
-use Rattle.leaves.proofs.place_literal.Reads as place-literal-reads
-use Rattle.leaves.proofs.place_type.Reads as place-type-reads
 
 -- src/lib.rt:364:16
 element-copy-out-kind : tie.Need-element-copy-out-kind

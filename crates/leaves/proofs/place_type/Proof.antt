@@ -3,9 +3,6 @@ use Rattle.leaves.proofs.Writing.{plain-fits, put-iri}
 use borrow.Author.Needs.{needs}
 use Rattle.leaves.proofs.place_type.Statement.{statement}
 use Rattle.leaves.proofs.place_type.Tie as tie
-use Rattle.leaves.proofs.place_type.Reads as reads
-use Rattle.leaves.proofs.place_type.Lts as lts
-use Rattle.leaves.proofs.place_node.Reads as place-node-reads
 
 -- src/lib.rt:125:9
 slice-aggregate-place-node : tie.Need-slice-aggregate-place-node

@@ -8,10 +8,6 @@ use Rattle.leaves.proofs.Leaving.{put-ready, numbers, still-there, open
 use borrow.Author.Needs.{needs}
 use Rattle.leaves.proofs.put_bracket.Statement.{statement}
 use Rattle.leaves.proofs.put_bracket.Tie as tie
-use Rattle.leaves.proofs.put_bracket.Reads as reads
-use Rattle.leaves.proofs.put_bracket.Lts as lts
-use Rattle.leaves.proofs.deepen.Reads as deepen-reads
-use Rattle.leaves.proofs.place_bracket.Reads as place-bracket-reads
 
 -- src/lib.rt:92:25
 element-copy-out-if1 : tie.Need-element-copy-out-if1

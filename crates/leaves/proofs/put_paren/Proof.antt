@@ -9,11 +9,6 @@ use Rattle.leaves.proofs.Leaving.{put-ready, still-there, open-deep, pl
 use borrow.Author.Needs.{needs}
 use Rattle.leaves.proofs.put_paren.Statement.{statement}
 use Rattle.leaves.proofs.put_paren.Tie as tie
-use Rattle.leaves.proofs.put_paren.Reads as reads
-use Rattle.leaves.proofs.put_paren.Lts as lts
-use Rattle.leaves.proofs.deepen.Reads as deepen-reads
-use Rattle.leaves.proofs.spot_here.Reads as spot-here-reads
-use Rattle.placing.proofs.open.Reads as open-reads
 
 -- src/lib.rt:115:25
 element-copy-out-if1 : tie.Need-element-copy-out-if1

@@ -5,10 +5,6 @@ use Rattle.leaves.proofs.Leaving.{put-ready, numbers, put-refused, put-
 use borrow.Author.Needs.{needs}
 use Rattle.leaves.proofs.put_term.Statement.{statement}
 use Rattle.leaves.proofs.put_term.Tie as tie
-use Rattle.leaves.proofs.put_term.Reads as reads
-use Rattle.leaves.proofs.put_term.Lts as lts
-use Rattle.leaves.proofs.place_term.Reads as place-term-reads
-use Rattle.nodes.proofs.pass.Reads as pass-reads
 
 -- src/lib.rt:391:30
 slice-aggregate-place-term : tie.Need-slice-aggregate-place-term
