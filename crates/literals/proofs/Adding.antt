@@ -1,7 +1,7 @@
 -- From what the slices hold to what was done at a token.
-use mathlib.Core.Path.{_≡_, refl, sym, ap, _∙_, subst}
-use mathlib.Core.List.{List, [], _∷_}
-use Prim.Native.Nat.{ℕ, _+_, _≤_, _<_}
+use mathlib.Core.Path.{_≡_, refl, sym, _∙_, subst}
+use mathlib.Core.List.{List}
+use Prim.Native.Nat.{ℕ}
 use native.Mathlib.Omega.{arith}
 use lib.ListN.{length, getD, set, length-set}
 use lib.Seq.{getD-set-same}
@@ -10,11 +10,11 @@ use Rattle.text.specs.Text.{Text}
 use Rattle.lexer.specs.Rest.{rest}
 use Rattle.machine.specs.Memory.{Memory, Write}
 use Rattle.machine.specs.Refusals.{new-depth}
-use Rattle.state.specs.Words.{kind-word, at-word, len-word, depth-word, graph-word, Stays}
+use Rattle.state.specs.Words.{at-word, depth-word, graph-word}
 use Rattle.state.specs.Cursor.{left}
-use Rattle.state.specs.Represents.{Tables, tables, room-in, Represents, Represented, room-refusal, Puts}
-use Rattle.reading.specs.Reading.{Held, held, tables-of, here, Holding, Ready, Same, token-refusal, Done, Does}
-use Rattle.reading.proofs.Compose.{same-all, same-both}
+use Rattle.state.specs.Represents.{Tables, tables, room-in, Represented, room-refusal, Puts}
+use Rattle.reading.specs.Reading.{Held, held, tables-of, here, Holding, Same, token-refusal, Does}
+use Rattle.reading.proofs.Compose.{same-both}
 use Rattle.nodes.specs.Nodes.{Passed}
 use Rattle.nodes.proofs.Moving.{cursor-words, left-words}
 use Rattle.nodes.proofs.Passing.{represents-words}

@@ -1,36 +1,33 @@
 -- The nodes of string literals: they may be placed, and what is placed is what the machine writes.
 use mathlib.Core.Path.{_≡_, refl, sym, ap, _∙_, subst}
 use mathlib.Core.List.{List, [], _∷_}
-use mathlib.Core.Bool.{Bool, true, false, not, _&&_, _||_}
+use mathlib.Core.Bool.{Bool, true, false}
 use Prim.Native.Nat.{ℕ, zero, suc, _+_, _-_, _≤_, _<_}
 use native.Mathlib.Omega.{arith}
-use borrow.Author.Tests.{eqb-true, eqb-false}
+use borrow.Author.Tests.{eqb-true}
 use lib.Dec.{eqb, ltb}
 use lib.ListN.{length, getD, take, drop, length-drop}
 use lib.Seq.{getD-take, drop-drop, take-all}
-use Rattle.text.specs.Text.{Text, cond, empty}
+use Rattle.text.specs.Text.{Text}
 use Rattle.text.proofs.Compare.{by, contrary}
 use Rattle.limits.specs.Limits.{iri-limit}
-use Rattle.token.specs.Kind.{kind-of-code, iris}
+use Rattle.token.specs.Kind.{iris}
 use Rattle.token.specs.Tokens.{Token}
 use Rattle.escape.specs.Escape.{unescape, bad-escape}
 use Rattle.escape.proofs.Walk.{unescape-short}
 use Rattle.form.specs.Form.{undo, bad, joined}
-use Rattle.form.specs.declared.Form.{Form}
 use Rattle.form.specs.declared.Form.the-variants.{Plain, Escaped}
-use Rattle.iri.specs.Iri.{has-scheme}
 use Rattle.scope.specs.Environment.{Environment}
-use Rattle.scope.specs.Code.{in-force, Usable}
 use Rattle.dataset.specs.Terms.{tagged, xsd-string}
 use Rattle.dataset.specs.Constructors.{inner, tag, iri-of, nothing, awaiting}
 use Rattle.table.specs.Tables.{or-zero, store-size}
 use Rattle.machine.specs.Memory.{Memory, Write, term, typed, typed-by}
-use Rattle.machine.specs.Refusals.{no-character, undeclared, no-base, too-long, too-deep, new-depth}
+use Rattle.machine.specs.Refusals.{no-character, undeclared, no-base, too-long, too-deep}
 use Rattle.machine.specs.Step.{Room, Test, _when_, first-refusal}
 use Rattle.state.specs.Words.{kind-word, at-word, len-word, depth-word}
-use Rattle.state.specs.Cursor.{token-of, Cursor, TokenHere}
-use Rattle.state.specs.Represents.{Tables, room-in, Represents, Represented, room-refusal, Wrote, Puts}
-use Rattle.state.specs.Writes.{node-iri, node-write, begin, placed, opened-at, SpotFits, NodeFits}
+use Rattle.state.specs.Cursor.{token-of, TokenHere}
+use Rattle.state.specs.Represents.{Tables, room-in, Represents, Represented, room-refusal, Puts}
+use Rattle.state.specs.Writes.{node-write, begin, placed, opened-at, SpotFits, NodeFits}
 use Rattle.state.specs.declared.Spot.{Spot}
 use Rattle.state.specs.declared.Node.{Node}
 use Rattle.address.specs.Tests.{token-as, Sound, iri-refusal}
@@ -39,6 +36,9 @@ use Rattle.address.specs.declared.Address.{Address}
 use Rattle.address.proofs.Begins.{iriref-begins}
 use Rattle.reading.specs.Reading.{code-among, token-refusal}
 use Rattle.literals.specs.Literals.{between, text-of, Quoted, spot-at, own-spot, Located, Obeys}
+use Rattle.token.specs.Terminals.{token-at}
+use Rattle.utf8.specs.Utf8.{decode}
+use Rattle.token.specs.Regular.{hit}
 
 short-take : (n : ℕ) (s : Text) → length (take n s) ≤ length s
 short-take zero s = omega arith
@@ -295,7 +295,7 @@ module _ (doc work : Text) (t : Tables) (st : List ℕ) (buffer : Text) (a : Add
   first-byte : getD st kind-word 0 ≡ 1 → getD token-text 0 0 ≡ 60
   first-byte e =
       getD-take (getD st len-word 0) (drop (getD st at-word 0) doc) 0 0 (here-token .some-byte)
-      ∙ iriref-begins (drop (getD st at-word 0) doc) (here-token .here-valid) (getD st len-word 0) (subst (λ (j : ℕ). Rattle.token.specs.Terminals.token-at (Rattle.utf8.specs.Utf8.decode (drop (getD st at-word 0) doc)) ≡ Rattle.token.specs.Regular.hit j (getD st len-word 0)) e (here-token .matched))
+      ∙ iriref-begins (drop (getD st at-word 0) doc) (here-token .here-valid) (getD st len-word 0) (subst (λ (j : ℕ). token-at (decode (drop (getD st at-word 0) doc)) ≡ hit j (getD st len-word 0)) e (here-token .matched))
 
   stands-for : (old : Tables) (m : Memory) → Represents old m work t st → StandsFor (m .environment) token-here a (front-of a work) (back-of a token-text buffer)
   stands-for old m h =
@@ -356,16 +356,21 @@ module _ (doc work : Text) (t : Tables) (st : List ℕ) (buffer : Text) (a : Add
 
   address-there : Addresses (getD st kind-word 0) (take (getD st len-word 0) (drop (getD st at-word 0) doc)) work st buffer a
   address-there = subst (λ (x : Text). Addresses (getD st kind-word 0) (take (getD st len-word 0) (drop (getD st at-word 0) doc)) x st buffer a) (whole work)
-    (subst (λ (x : Text). Addresses (getD st kind-word 0) x (take (length work - 0) (drop 0 work)) st buffer a) lent-is A)
+      (subst (λ (x : Text). Addresses (getD st kind-word 0) x (take (length work - 0) (drop 0 work)) st buffer a) lent-is A)
 
   pub written-refused : (s : Spot) (v : Text) → (a .refused ≡ 0 → ⊥) → Obeys doc (placed s (typed-by v (token-of doc (getD st kind-word 0) (getD st at-word 0) (getD st len-word 0)))) work work t t st st (a .refused)
   written-refused s v z = typed-refused doc work t st buffer a here-token k address-there s v z
 
   module _ (z : a .refused ≡ 0) (x y at len n end : ℕ) (text : Text) (e : end ≡ at + len) (f : text ≡ inner n (take (end - at) (drop at doc))) where
     pub written-asks : Represented work t st → SpotFits (own-spot x y at) → Quoted doc at len n → Represented work t st × (SpotFits (own-spot x y at) × Located a lent-token text (take (length buffer - 0) (drop 0 buffer)) work)
-    written-asks h s q = (h, (s,
-      subst (λ (u : Text). Located a lent-token text u work) (sym (whole buffer))
-      (subst (λ (u : Text). Located a u text buffer work) (sym lent-is) (typed-located doc work t st buffer a here-token k address-there z h at len n text q (inside-is doc at len n end text e f)))))
+    written-asks h s q = (
+      h,
+      (
+        s,
+        subst (λ (u : Text). Located a lent-token text u work) (sym (whole buffer))
+            (subst (λ (u : Text). Located a u text buffer work) (sym lent-is) (typed-located doc work t st buffer a here-token k address-there z h at len n text q (inside-is doc at len n end text e f))),
+      ),
+    )
 
     pub written-puts : (work' : Text) (t' : Tables) (st' : List ℕ) (r : ℕ)
         → Puts (placed (own-spot x y at) (typed (unescape text) (joined (front-of a work) (a .form) (back-of a lent-token (take (length buffer - 0) (drop 0 buffer)))))) work work' t t' st st' r

@@ -1,7 +1,7 @@
 -- What stands between the quotes of a string: its escapes are those of the whole token, which begins with its quotes.
 use mathlib.Core.Path.{_≡_, refl, ap, sym, _∙_, subst}
 use mathlib.Core.List.{List, [], _∷_}
-use mathlib.Core.Bool.{Bool, true, false, not, _&&_, _||_}
+use mathlib.Core.Bool.{Bool, true, false, not, _&&_}
 use mathlib.Core.Logic.{inl, inr}
 use mathlib.Core.Option.{none}
 use Prim.Native.Nat.{ℕ, zero, suc, _+_, _-_, _≤_, _<_}
@@ -16,7 +16,7 @@ use Rattle.utf8.specs.Utf8.{decode, first-bad, encodes, width}
 use Rattle.utf8.proofs.Decoding.{valid-encoded}
 use Rattle.token.specs.Kind.{strings, long-strings}
 use Rattle.token.specs.Regular.{Item, item, Some, Match, hit, Hit, Longest}
-use Rattle.token.specs.Terminals.{terminals, long-terminals, three-quotes, tripled, terminals-at, token-at}
+use Rattle.token.specs.Terminals.{terminals, long-terminals, tripled, terminals-at, token-at}
 use Rattle.token.proofs.Longest.{token-longest}
 use Rattle.escape.specs.Escape.{outside, pieces, bad-pieces, bad-escape}
 use Rattle.escape.proofs.Steps.{at-plain}

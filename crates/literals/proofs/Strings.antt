@@ -1,23 +1,22 @@
 -- A string, its tag and its datatype, as the machine reads them.
-use mathlib.Core.Path.{_≡_, refl, sym, ap, _∙_, subst}
+use mathlib.Core.Path.{_≡_, refl, ap, _∙_}
 use mathlib.Core.List.{List, [], _∷_, _++_}
-use mathlib.Core.Bool.{Bool, true, false, not, _&&_, _||_}
-use mathlib.Core.Option.{Option, none, some}
-use Prim.Native.Nat.{ℕ, zero, suc, _+_, _≤_, _<_}
+use mathlib.Core.Bool.{Bool, true, false}
+use mathlib.Core.Option.{some}
+use Prim.Native.Nat.{ℕ, suc, _+_}
 use native.Mathlib.Omega.{arith}
-use borrow.Author.Tests.{ne-eqb, eq-eqb, eqb-true, eqb-false}
+use borrow.Author.Tests.{ne-eqb, eqb-true, eqb-false}
 use lib.Dec.{eqb}
-use lib.ListN.{length, getD, take, drop}
-use Rattle.text.specs.Text.{Text, cond}
-use Rattle.text.proofs.Compare.{by, contrary}
-use Rattle.token.specs.Kind.{Kind, kind-of-code, among, strings, iris, LANGTAG, carets}
+use lib.ListN.{getD}
+use Rattle.text.specs.Text.{Text}
+use Rattle.text.proofs.Compare.{by}
+use Rattle.token.specs.Kind.{kind-of-code, among, strings, iris}
 use Rattle.token.specs.Tokens.{Token}
 use Rattle.escape.specs.Escape.{bad-escape}
-use Rattle.grammar.specs.Productions.{Mode}
 use Rattle.dataset.specs.Terms.{tagged, xsd-string}
-use Rattle.dataset.specs.Constructors.{string-text, tag, nothing, awaiting}
+use Rattle.dataset.specs.Constructors.{string-text, tag}
 use Rattle.machine.specs.Memory.{Memory, Write, return, _>>=_, _>>_, term, typed, typed-by}
-use Rattle.machine.specs.Frame.{Place, Frame, Open, statement, suffix, datatype}
+use Rattle.machine.specs.Frame.{Place, Frame, statement, suffix, datatype, element-of}
 use Rattle.machine.specs.Rules.{find-rule, hold, Opening, simple, string, object-rules, frame-rules, rules}
 use Rattle.machine.specs.Refusals.{no-character, undeclared, no-base, too-long, too-deep, new-depth}
 use Rattle.machine.specs.Step.{Room, tied-to}
@@ -28,7 +27,7 @@ use Rattle.state.specs.Represents.{Tables, room-refusal}
 use Rattle.state.specs.Writes.{place-of, begin, placed, opened-at}
 use Rattle.cursor.proofs.Seeking.{ahead-token, ahead-none, ahead-end}
 use Rattle.reading.specs.Reading.{code-among, Held, here, Holding, Ready, Reads, Does, token-refusal, refusal-here}
-use Rattle.reading.proofs.Tests.{among-code, no-rule}
+use Rattle.reading.proofs.Tests.{among-code}
 use Rattle.reading.proofs.Steps.{does-comes, tied-here}
 use Rattle.reading.proofs.Frames.{found-above, reads-does, reads-none}
 use Rattle.nodes.specs.Nodes.{Slot, slot-place, spot-of, object-kinds}
@@ -124,7 +123,7 @@ own-place a =
     by (eqb (getD (a .st) list-word 0) 0) (λ e. rw e (slot-plain a (getD (a .st) x-word 0) (getD (a .st) y-word 0) refl refl (eqb-true (getD (a .st) list-word 0) 0 e)))
     (λ e. rw e (slot-list a (eqb-false (getD (a .st) list-word 0) 0 e) ∙ next (getD (a .st) terms-word 0)))
   where
-    next : (n : ℕ) → Rattle.machine.specs.Frame.element-of (suc n) ≡ place-of (n + 1) 0
+    next : (n : ℕ) → element-of (suc n) ≡ place-of (n + 1) 0
     next n = let e : n + 1 ≡ suc n = omega arith in rw e
 
 module _ (st : List ℕ) where

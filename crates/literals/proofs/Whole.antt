@@ -1,16 +1,16 @@
 -- A string with what follows it: how the steps of the routines compose.
 use mathlib.Core.Path.{_≡_, refl, sym, ap, _∙_, subst}
 use mathlib.Core.List.{List, [], _∷_}
-use mathlib.Core.Bool.{Bool, true, false, not, _||_}
-use Prim.Native.Nat.{ℕ, _+_, _-_, _/_, _≤_, _<_}
+use mathlib.Core.Bool.{Bool, true, false, not}
+use Prim.Native.Nat.{ℕ, _+_, _/_, _≤_, _<_}
 use native.Mathlib.Omega.{arith}
 use borrow.Author.Tests.{eqb-true, leb-true}
 use lib.Dec.{eqb, leb}
 use lib.ListN.{length, getD, take, drop}
 use denote.Ref.{RefT}
-use Rattle.text.specs.Text.{Text, cond}
+use Rattle.text.specs.Text.{Text}
 use Rattle.text.proofs.Compare.{by, contrary}
-use Rattle.token.specs.Kind.{strings, iris}
+use Rattle.token.specs.Kind.{strings, iris, kind-of-code}
 use Rattle.escape.specs.Escape.{bad-escape}
 use Rattle.dataset.specs.Terms.{tagged, xsd-string}
 use Rattle.dataset.specs.Constructors.{tag}
@@ -18,9 +18,9 @@ use Rattle.machine.specs.Memory.{Memory, Write, term, typed, typed-by}
 use Rattle.machine.specs.Frame.{Place, Frame, suffix, datatype}
 use Rattle.machine.specs.Read.{counted}
 use Rattle.machine.specs.Refusals.{new-depth}
-use Rattle.state.specs.Words.{terms-word, kind-word, at-word, len-word, depth-word, graph-word, list-word, x-word, y-word}
-use Rattle.state.specs.Cursor.{token-of, Cursor, TokenHere}
-use Rattle.state.specs.Represents.{Tables, room-in, Represents, Represented}
+use Rattle.state.specs.Words.{terms-word, kind-word, at-word, len-word, depth-word, graph-word, list-word}
+use Rattle.state.specs.Cursor.{Cursor, TokenHere}
+use Rattle.state.specs.Represents.{Tables, room-in, Represented}
 use Rattle.state.specs.Writes.{place-of, placed, opened-at, SpotFits}
 use Rattle.state.specs.declared.Spot.{Spot}
 use Rattle.reading.specs.Reading.{code-among, Held, held, tables-of, here, Holding, Ready, Reads, on-top, Does, refusal-here}
@@ -35,6 +35,7 @@ use Rattle.literals.proofs.Quotes.{each-string, string-quoted}
 use Rattle.literals.proofs.Strings.{string-refusal, string-seven, string-depth, tied-left, plain-reads, tied-reads, seven-reads, own-place, tag-reads, carets-reads, datatype-reads, datatype-none}
 use Rattle.literals.proofs.Adding.{adds-does}
 use Rattle.literals.proofs.Fitting.{each-iri}
+use Rattle.machine.specs.Step.{tied-to}
 
 -- ---- At a tag, ^^ or a datatype
 
@@ -60,17 +61,17 @@ token-at-cursor doc st c (z, y) = c .token z y
 ready-words : (doc : Text) (a : Held) → Ready doc a → length (a .st) ≡ 90
 ready-words doc a r = let (old, (m, h)) = r .holds in h .usable .words
 
-tag-depth : (at d : ℕ) (s : Text) (k : ℕ) → k ≡ 7 → new-depth d (record { kind = Rattle.token.specs.Kind.kind-of-code k; start = at; text = s }) ≡ d
+tag-depth : (at d : ℕ) (s : Text) (k : ℕ) → k ≡ 7 → new-depth d (record { kind = kind-of-code k; start = at; text = s }) ≡ d
 unfolding new-depth
 tag-depth at d s k e = rw e
 
-carets-depth : (at d : ℕ) (s : Text) (k : ℕ) → k ≡ 28 → d ≡ new-depth d (record { kind = Rattle.token.specs.Kind.kind-of-code k; start = at; text = s })
+carets-depth : (at d : ℕ) (s : Text) (k : ℕ) → k ≡ 28 → d ≡ new-depth d (record { kind = kind-of-code k; start = at; text = s })
 unfolding new-depth
 carets-depth at d s k e = rw e
 
-iri-depth : (at d : ℕ) (s : Text) (k : ℕ) → code-among iris k ≡ true → new-depth d (record { kind = Rattle.token.specs.Kind.kind-of-code k; start = at; text = s }) ≡ d
+iri-depth : (at d : ℕ) (s : Text) (k : ℕ) → code-among iris k ≡ true → new-depth d (record { kind = kind-of-code k; start = at; text = s }) ≡ d
 unfolding new-depth
-iri-depth at d s k e = each-iri (λ (j : ℕ). new-depth d (record { kind = Rattle.token.specs.Kind.kind-of-code j; start = at; text = s }) ≡ d) refl refl refl k e
+iri-depth at d s k e = each-iri (λ (j : ℕ). new-depth d (record { kind = kind-of-code j; start = at; text = s }) ≡ d) refl refl refl k e
 
 quiet-carets : Quiet 28
 quiet-carets = record { escapes = refl; reference = refl; name = refl; opening = refl }
@@ -153,7 +154,7 @@ module _ (doc : Text) (work rows terms store : RefT (List ℕ)) (st st1 : List �
       → Reads doc (suffix (place-of x y) at (text-of doc at len n) ∷ []) [] a b r × Steady a b r
   suffix-datatype x y at len n b r (R, s) = (
     comes-then doc (on-top (suffix (place-of x y) at (text-of doc at len n) ∷ [])) (on-top (datatype (place-of x y) at (text-of doc at len n) ∷ [])) (on-top []) a a1 b 0 r
-    (carets-reads doc a a1 0 ready x y at (text-of doc at len n) is-carets carets-token carets-does) refl R,
+        (carets-reads doc a a1 0 ready x y at (text-of doc at len n) is-carets carets-token carets-does) refl R,
     record { depth = λ e. s .depth e ∙ p .depth-is; later = λ e. omega (arith, s .later e, p .later) },
   )
 
@@ -177,12 +178,12 @@ module _ (doc : Text) (a : Held) (ready : Ready doc a) (k : code-among strings (
   pub string-bad : bad-escape (take (getD (a .st) len-word 0) (drop (getD (a .st) at-word 0) doc)) ≡ true → Fills doc a a 7 × Steady a a 7
   string-bad e = (
     seven-reads doc a a 7 ready string-here (string-token (getD (a .st) kind-word 0) k .0) k
-    (λ w. record {
-      same = same-all a;
-      refusal = λ old m h. sym (string-seven (room-in (tables-of a)) (getD (a .st) depth-word 0) (m .environment) (getD (a .st) at-word 0) (take (getD (a .st) len-word 0) (drop (getD (a .st) at-word 0) doc)) (w m .1) (getD (a .st) kind-word 0) k e);
-      place = λ z. refl;
-      done = λ z. absurd (omega arith);
-    }),
+        (λ w. record {
+          same = same-all a;
+          refusal = λ old m h. sym (string-seven (room-in (tables-of a)) (getD (a .st) depth-word 0) (m .environment) (getD (a .st) at-word 0) (take (getD (a .st) len-word 0) (drop (getD (a .st) at-word 0) doc)) (w m .1) (getD (a .st) kind-word 0) k e);
+          place = λ z. refl;
+          done = λ z. absurd (omega arith);
+        }),
     record { depth = λ z. refl; later = λ z. absurd (omega arith) },
   )
 
@@ -226,7 +227,7 @@ module _ (doc : Text) (work rows terms store : RefT (List ℕ)) (st st1 : List �
   spot-same = rw (p .spot 77 (omega arith), p .spot 78 (omega arith), p .spot 79 (omega arith), p .spot 80 (omega arith), p .spot 81 (omega arith))
 
   tied-now : tied-here doc s (string-here doc s ready k) (string-token (getD st kind-word 0) k .0) ≡ code-among ties (getD st1 kind-word 0)
-  tied-now = ap Rattle.machine.specs.Step.tied-to (p .tokens) ∙ tied-left doc st1 (p .cursor)
+  tied-now = ap tied-to (p .tokens) ∙ tied-left doc st1 (p .cursor)
 
   done-there : (w : Write ℕ) (b : Held) (r : ℕ) → Adds w s1 b at r → Does doc w s b r
   done-there w b r A =
@@ -243,7 +244,7 @@ module _ (doc : Text) (work rows terms store : RefT (List ℕ)) (st st1 : List �
   plain-fills : (b : Held) (r : ℕ) → code-among ties (getD st1 kind-word 0) ≡ false → Adds (placed (spot-at st1 at) (typed (text-of doc at len n) xsd-string)) s1 b at r → Fills doc s b r × Steady s b r
   plain-fills b r t A = (
     plain-reads doc s b r ready (string-here doc s ready k) (string-token (getD st kind-word 0) k .0) k (tied-now ∙ t)
-    (done-there (placed (spot-of s) (typed (text-of doc at len n) xsd-string)) b r (subst (λ (o : Spot). Adds (placed o (typed (text-of doc at len n) xsd-string)) s1 b at r) spot-same A)),
+        (done-there (placed (spot-of s) (typed (text-of doc at len n) xsd-string)) b r (subst (λ (o : Spot). Adds (placed o (typed (text-of doc at len n) xsd-string)) s1 b at r) spot-same A)),
     steady-there (placed (spot-at st1 at) (typed (text-of doc at len n) xsd-string)) b r A,
   )
 
@@ -291,9 +292,9 @@ module _ (doc : Text) (work rows terms store : RefT (List ℕ)) (st st1 : List �
       suffix-fills : (d : Held) (q : ℕ) → Reads doc (suffix (place-of x y) at (text-of doc at len n) ∷ []) [] b d q × Steady b d q → Fills doc s d q × Steady s d q
       suffix-fills d q (R, y′) = (
         (λ f g o.
-        comes-then doc (on-top (f ∷ [])) (on-top (suffix (slot-place s) at (text-of doc at len n) ∷ g ∷ [])) (on-top (g ∷ [])) s b d r q (to-suffix f g o) z
-        (comes-within doc (λ u. g ∷ u) (on-top (suffix (slot-place s) at (text-of doc at len n) ∷ [])) (on-top []) b d q
-        (subst (λ (v : Place). Reads doc (suffix v at (text-of doc at len n) ∷ []) [] b d q) (sym same-place) R))),
+            comes-then doc (on-top (f ∷ [])) (on-top (suffix (slot-place s) at (text-of doc at len n) ∷ g ∷ [])) (on-top (g ∷ [])) s b d r q (to-suffix f g o) z
+            (comes-within doc (λ u. g ∷ u) (on-top (suffix (slot-place s) at (text-of doc at len n) ∷ [])) (on-top []) b d q
+            (subst (λ (v : Place). Reads doc (suffix v at (text-of doc at len n) ∷ []) [] b d q) (sym same-place) R))),
         record { depth = λ e. y′ .depth e ∙ steady-there (opened-at (spot-at st1 at)) b r A .depth z; later = λ e. omega (arith, y′ .later e, steady-there (opened-at (spot-at st1 at)) b r A .later z) },
       )
 

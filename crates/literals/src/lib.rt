@@ -290,7 +290,18 @@ fn place_written(
         last: 0,
         at: at,
     };
-    place_address(&doc[from..to], text, &buffer[0..], work, rows, terms, store, st, spot, a)
+    place_address(
+        &doc[from..to],
+        text,
+        &buffer[0..],
+        work,
+        rows,
+        terms,
+        store,
+        st,
+        spot,
+        a,
+    )
 }
 
 fn place_typed(
@@ -310,7 +321,20 @@ fn place_typed(
     ensures { λ r. ⌜ Obeys (now (doc .entry)) (placed (own-spot x y at) (typed-by (text-of (now (doc .entry)) at len quotes) (token-of (now (doc .entry)) (getD (now (st .entry)) kind-word 0) (getD (now (st .entry)) at-word 0) (getD (now (st .entry)) len-word 0)))) (now (work .entry)) (now (work .exit)) (tables (now (rows .entry)) (now (terms .entry)) (now (store .entry))) (tables (now (rows .exit)) (now (terms .exit)) (now (store .exit))) (now (st .entry)) (now (st .exit)) r ⌝ }
 {
     let mut buffer = [0u8; Limits::IRI];
-    place_written(doc, work, rows, terms, store, st, at, len, quotes, x, y, &mut buffer)
+    place_written(
+        doc,
+        work,
+        rows,
+        terms,
+        store,
+        st,
+        at,
+        len,
+        quotes,
+        x,
+        y,
+        &mut buffer,
+    )
 }
 
 // A string that is complete, the cursor behind it. Where it is refused, the cursor is set back.
@@ -373,7 +397,19 @@ fn put_tagged(
     requires { ⌜ (Ready (now (now doc)) (held (now work) (now rows) (now terms) (now store) (now st)) × (SpotFits (own-spot x y at) × Quoted (now (now doc)) at len quotes)) × (getD (now st) kind-word 0 ≡ 7) ⌝ }
     ensures { λ r. ⌜ Does (now (now (doc .entry))) (placed (own-spot x y at) (term (tagged (text-of (now (now (doc .entry))) at len quotes) (tag (here (now (now (doc .entry))) (held (now (work .entry)) (now (rows .entry)) (now (terms .entry)) (now (store .entry)) (now (st .entry)))))))) (held (now (work .entry)) (now (rows .entry)) (now (terms .entry)) (now (store .entry)) (now (st .entry))) (held (now (work .exit)) (now (rows .exit)) (now (terms .exit)) (now (store .exit)) (now (st .exit))) r ⌝ }
 {
-    let r = place_tagged(*doc, *work, *rows, *terms, *store, st, at, len, quotes, x, y);
+    let r = place_tagged(
+        *doc,
+        *work,
+        *rows,
+        *terms,
+        *store,
+        st,
+        at,
+        len,
+        quotes,
+        x,
+        y,
+    );
     if r != 0 {
         return r;
     }
@@ -397,7 +433,19 @@ fn put_typed(
     requires { ⌜ (Ready (now (now doc)) (held (now work) (now rows) (now terms) (now store) (now st)) × (SpotFits (own-spot x y at) × Quoted (now (now doc)) at len quotes)) × (code-among iris (getD (now st) kind-word 0) ≡ true) ⌝ }
     ensures { λ r. ⌜ Does (now (now (doc .entry))) (placed (own-spot x y at) (typed-by (text-of (now (now (doc .entry))) at len quotes) (here (now (now (doc .entry))) (held (now (work .entry)) (now (rows .entry)) (now (terms .entry)) (now (store .entry)) (now (st .entry)))))) (held (now (work .entry)) (now (rows .entry)) (now (terms .entry)) (now (store .entry)) (now (st .entry))) (held (now (work .exit)) (now (rows .exit)) (now (terms .exit)) (now (store .exit)) (now (st .exit))) r ⌝ }
 {
-    let r = place_typed(*doc, *work, *rows, *terms, *store, st, at, len, quotes, x, y);
+    let r = place_typed(
+        *doc,
+        *work,
+        *rows,
+        *terms,
+        *store,
+        st,
+        at,
+        len,
+        quotes,
+        x,
+        y,
+    );
     if r != 0 {
         return r;
     }
