@@ -143,11 +143,13 @@ module _ (doc : Text) (work₀ rows₀ terms₀ store₀ : RefT (List ℕ)) (st 
           pub properties-unexpected : (x : ℕ) → (getD y kind-word 0 ≡ 23 → ⊥) → x ≡ refusal-here doc y → Subject doc a d x
           properties-unexpected x e g =
               no-subject d x (λ f. here-some doc y (sym g ∙ f))
-              (λ mode o place s. (statement [],
+              (λ mode o place s. (
+                statement [],
                 turns-then mode doc o (statement (listed place .open-frame ∷ (after-properties place (getD u node-word 0) ++ []))) (statement []) a d d q x (at-once mode o place s (listed place .open-frame ∷ after-properties place (getD u node-word 0)) d q (listed place .reads)) w
-                (turns-comes mode doc (on-top (listed place .open-frame ∷ after-properties place (getD u node-word 0))) (on-top []) d d x
-                (reads-none doc (listed place .open-frame) (after-properties place (getD u node-word 0)) [] d x (properties-ready .0)
-                (λ f h tied. listed place .ends w f (h .known) (here doc d) tied ∙ rw (among-code (close-bracket ∷ []) (getD y kind-word 0) f (h .known), ne-eqb (getD y kind-word 0) 23 e)) g) [])))
+                    (turns-comes mode doc (on-top (listed place .open-frame ∷ after-properties place (getD u node-word 0))) (on-top []) d d x
+                    (reads-none doc (listed place .open-frame) (after-properties place (getD u node-word 0)) [] d x (properties-ready .0)
+                    (λ f h tied. listed place .ends w f (h .known) (here doc d) tied ∙ rw (among-code (close-bracket ∷ []) (getD y kind-word 0) f (h .known), ne-eqb (getD y kind-word 0) 23 e)) g) []),
+              ))
 
           pub properties-closed : getD y kind-word 0 ≡ 23 → (y' y'' : List ℕ) → Passed doc y y' (getD y depth-word 0 - 1) (getD y graph-word 0) → Aimed y' y'' 2 n 0 0 0 → Subject doc a (held work₂ rows₂ terms₂ store₂ y'') 0
           properties-closed e y' y'' p aim' =

@@ -168,4 +168,3 @@ pub fn predicates(
     }
     reading::unexpected(*doc, st)
 }
-

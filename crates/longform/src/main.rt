@@ -1,0 +1,58 @@
+// The long form of a TriG document: reads up to 65,536 bytes from standard input, prints its statements line by line, or
+// the refusal with its number and place.
+use libc::STDOUT_FILENO;
+
+fn refused(number: u8, position: usize) {
+    io::write_all(STDOUT_FILENO, b"refused ");
+    io::number::print_decimal(STDOUT_FILENO, number as u64);
+    io::write_all(STDOUT_FILENO, b" at ");
+    io::number::print_decimal(STDOUT_FILENO, position as u64);
+    io::write_all(STDOUT_FILENO, b"\n");
+}
+
+fn show(document: &[u8]) {
+    let mut work = [0u8; 131072];
+    let mut rows = [0u32; 16384];
+    let mut terms = [0u32; 16384];
+    let mut store = [0u8; 65536];
+    let mut out = [0u8; 65536];
+    let r = reader::read(
+        document,
+        &document[..0],
+        0,
+        &mut work,
+        &mut rows,
+        &mut terms,
+        &mut store,
+    );
+    if r.number != 0 {
+        refused(r.number, r.position);
+        return;
+    }
+    let w = writer::write_long_form(
+        &rows,
+        r.rows as u32,
+        &terms,
+        r.terms as u32,
+        &store,
+        r.store as u32,
+        &mut out,
+    );
+    if w.number != 0 {
+        refused(w.number, w.position);
+        return;
+    }
+    if w.position <= out.len() {
+        io::write_all(STDOUT_FILENO, &out[..w.position]);
+    }
+}
+
+fn main() {
+    let mut input = [0u8; 65537];
+    let n = io::read_full(0, &mut input);
+    if 65536 < n {
+        refused(1, 0);
+        return;
+    }
+    show(&input[..n]);
+}
