@@ -4,10 +4,38 @@ use libc::STDOUT_FILENO;
 
 fn refused(number: u8, position: usize) {
     io::write_all(STDOUT_FILENO, b"refused ");
-    io::number::print_decimal(STDOUT_FILENO, number as u64);
+    io::print_decimal(STDOUT_FILENO, number as u64);
     io::write_all(STDOUT_FILENO, b" at ");
-    io::number::print_decimal(STDOUT_FILENO, position as u64);
+    io::print_decimal(STDOUT_FILENO, position as u64);
     io::write_all(STDOUT_FILENO, b"\n");
+}
+
+// A count as the writer takes it.
+fn narrow(n: usize) -> u32 {
+    if n <= 4294967295 {
+        return n as u32;
+    }
+    0
+}
+
+fn write_rows(
+    rows: &[u32],
+    row_count: u32,
+    terms: &[u32],
+    term_count: u32,
+    store: &[u8],
+    store_count: u32,
+    out: &mut [u8],
+) {
+    let w = writer::write_long_form(rows, row_count, terms, term_count, store, store_count, out);
+    if w.number != 0 {
+        refused(w.number, w.position);
+        return;
+    }
+    let k = w.position;
+    if k <= out.len() {
+        io::write_all(STDOUT_FILENO, &out[..k]);
+    }
 }
 
 fn show(document: &[u8]) {
@@ -29,22 +57,15 @@ fn show(document: &[u8]) {
         refused(r.number, r.position);
         return;
     }
-    let w = writer::write_long_form(
+    write_rows(
         &rows,
-        r.rows as u32,
+        narrow(r.rows),
         &terms,
-        r.terms as u32,
+        narrow(r.terms),
         &store,
-        r.store as u32,
+        narrow(r.store),
         &mut out,
     );
-    if w.number != 0 {
-        refused(w.number, w.position);
-        return;
-    }
-    if w.position <= out.len() {
-        io::write_all(STDOUT_FILENO, &out[..w.position]);
-    }
 }
 
 fn main() {
