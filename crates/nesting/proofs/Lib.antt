@@ -5,4 +5,5 @@ pub mod OfObjects
 pub mod OfProperties
 pub mod OfBrackets
 pub mod OfElements
+pub mod OfLeaves
 pub mod OfNodes

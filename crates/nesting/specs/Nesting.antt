@@ -1,16 +1,18 @@
 -- What the readers that call each other say of the machine.
 use mathlib.Core.Path.{_≡_}
+use mathlib.Core.Bool.{true}
 use mathlib.Core.List.{List, [], _∷_, _++_}
 use Prim.Native.Nat.{ℕ, suc, _+_, _≤_, _<_}
 use lib.Dec.{eqb}
 use lib.ListN.{length, getD}
 use denote.Ref.{RefT}
 use Rattle.text.specs.Text.{Text, cond}
+use Rattle.token.specs.Kind.{strings}
 use Rattle.machine.specs.Frame.{Ending, Place, no-cell, Frame, bracket, list, object, after-object, after-semicolon}
 use Rattle.machine.specs.Rules.{after-node, after-properties}
 use Rattle.state.specs.Words.{terms-word, node-word, kind-word, at-word, depth-word, list-word, x-word, y-word, opened-word, last-word}
-use Rattle.reading.specs.Reading.{Held, held, Ready, Reads}
-use Rattle.nodes.specs.Nodes.{Verbs, Ends, Steady, Belongs}
+use Rattle.reading.specs.Reading.{code-among, Held, held, Ready, Reads}
+use Rattle.nodes.specs.Nodes.{PutsTerm, Fills, Verbs, Ends, Steady, Belongs}
 
 -- Semicolons were passed.
 pub record Skips (doc : Text) (st st' : List ℕ) : Type 0 where
@@ -19,6 +21,11 @@ pub record Skips (doc : Text) (st st' : List ℕ) : Type 0 where
   pub depth : getD st' depth-word 0 ≡ getD st depth-word 0
   pub later : getD st at-word 0 < getD st' at-word 0
   pub words : length st' ≡ length st
+
+-- A node of its own tokens alone was read: a term is at its place, and a string literal fills what awaited it.
+pub record Leaf (doc : Text) (a b : Held) (r : ℕ) : Type 0 where
+  pub puts : PutsTerm doc a b r
+  pub fills : code-among strings (getD (a .st) kind-word 0) ≡ true → Fills doc a b r × Steady a b r
 
 -- A bracket that is an object or element was read to its end.
 pub record Inside (doc : Text) (a b : Held) (r : ℕ) : Type 0 where

@@ -2,7 +2,7 @@
 // measure is how many brackets may still be opened. What a token writes is done outside this cycle.
 ghost use mathlib.Core.Path.{_≡_};
 ghost use mathlib.Core.List.{_∷_};
-ghost use mathlib.Core.Bool.{true};
+ghost use mathlib.Core.Bool.{true, false};
 ghost use Prim.Native.Nat.{_<_};
 ghost use lib.ListN.{length, getD};
 ghost use Rattle.dataset.specs.Terms.{blank, bracket};
@@ -14,7 +14,7 @@ ghost use Rattle.state.specs.Writes.{placed, opened-at};
 ghost use Rattle.reading.specs.Reading.{code-among, held, Ready, Does};
 ghost use Rattle.nodes.specs.Nodes.{spot-of, Spotted, Fills, Numbers, PutsTerm, Closes, Steady, term-kinds, verb-kinds};
 ghost use Rattle.token.specs.Kind.{strings, kw-a};
-ghost use Rattle.nesting.specs.Nesting.{Skips, Inside, Lists, Objects, Properties, Entered};
+ghost use Rattle.nesting.specs.Nesting.{Skips, Leaf, Inside, Lists, Objects, Properties, Entered};
 use scope::Layout;
 use state::Words;
 
@@ -31,6 +31,25 @@ fn skip_semicolons(doc: &&[u8], st: &mut [usize; Layout::WORDS])
     }
 }
 
+// A node of its own tokens alone, or a predicate. It is called from more than one place, so that the compiler does not take it,
+// with what it holds on the stack, into the recursion.
+fn leaf(
+    doc: &&[u8],
+    work: &mut &mut [u8],
+    rows: &mut &mut [u32],
+    terms: &mut &mut [u32],
+    store: &mut &mut [u8],
+    st: &mut [usize; Layout::WORDS],
+) -> u8
+    requires { ⌜ (Ready (now (now doc)) (held (now work) (now rows) (now terms) (now store) (now st)) × Spotted (held (now work) (now rows) (now terms) (now store) (now st))) × (code-among strings (getD (now st) kind-word 0) ≡ false → code-among (kw-a ∷ term-kinds) (getD (now st) kind-word 0) ≡ true) ⌝ }
+    ensures { λ r. ⌜ Leaf (now (now (doc .entry))) (held (now (work .entry)) (now (rows .entry)) (now (terms .entry)) (now (store .entry)) (now (st .entry))) (held (now (work .exit)) (now (rows .exit)) (now (terms .exit)) (now (store .exit)) (now (st .exit))) r ⌝ }
+{
+    if nodes::is_string(st[Words::KIND]) {
+        return literals::put_string(doc, work, rows, terms, store, st);
+    }
+    leaves::put_term(doc, work, rows, terms, store, st)
+}
+
 // A node where one is awaited.
 fn node(
     doc: &&[u8],
@@ -45,10 +64,10 @@ fn node(
 {
     let kind = st[Words::KIND];
     if nodes::is_term(kind) {
-        return leaves::put_term(doc, work, rows, terms, store, st);
+        return leaf(doc, work, rows, terms, store, st);
     }
     if nodes::is_string(kind) {
-        return literals::put_string(doc, work, rows, terms, store, st);
+        return leaf(doc, work, rows, terms, store, st);
     }
     if kind == 22 {
         let c = leaves::put_bracket(doc, work, rows, terms, store, st);
@@ -116,7 +135,7 @@ pub fn properties(
 {
     loop {
         nodes::aim(st, 0, 0, 0, 0, 0);
-        let c = leaves::put_term(doc, work, rows, terms, store, st);
+        let c = leaf(doc, work, rows, terms, store, st);
         if c != 0 {
             return c;
         }

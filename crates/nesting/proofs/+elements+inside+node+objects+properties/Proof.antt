@@ -9,6 +9,7 @@ use Rattle.nesting.proofs.OfBrackets.{inside-empty, inside-none, inside
 use Rattle.nesting.proofs.OfElements.{ElementsInv, elements-start, elements-ready, elements-depth, elements-small, elements-close-call, elements-close, elements-stop, elements-again, elements-less}
 use Rattle.nesting.proofs.OfNodes.{node-term, term-call, node-none, bracket-stop, bracket-depth, bracket-call, bracket-inside, list-stop, list-open, list-ready, list-depth, list-call, list-elements}
 use Rattle.nesting.proofs.Aiming.{next-small, ready-words, unexpected-call, pass-call, leave-call, negated, affirmed}
+use Rattle.text.proofs.Compare.{contrary}
 use Rattle.nesting.proofs.Skipping.{token-there}
 use borrow.Author.Needs.{needs}
 use Prim.Native.Nat.{ℕ, _<_}
@@ -33,8 +34,7 @@ use Rattle.leaves.proofs.close_list.Reads as close-list-reads
 use Rattle.nesting.proofs.enter_list.Reads as enter-list-reads
 use Rattle.leaves.proofs.put_bracket.Reads as put-bracket-reads
 use Rattle.leaves.proofs.put_paren.Reads as put-paren-reads
-use Rattle.literals.proofs.put_string.Reads as put-string-reads
-use Rattle.leaves.proofs.put_term.Reads as put-term-reads
+use Rattle.nesting.proofs.leaf.Reads as leaf-reads
 use Rattle.nesting.proofs.skip_semicolons.Reads as skip-semicolons-reads
 use Rattle.nodes.proofs.aim.Reads as aim-reads
 use Rattle.nodes.proofs.is_string.Reads as is-string-reads
@@ -455,12 +455,10 @@ inside-returns-5 t c = search inside-close
 node-element-copy-out-kind : (t : ℕ) → node-lts.Need-element-copy-out-kind (
   is-term-reads.Asked,
   is-term-reads.Learnt,
-  put-term-reads.Asked,
-  put-term-reads.Learnt,
+  leaf-reads.Asked,
+  leaf-reads.Learnt,
   is-string-reads.Asked,
   is-string-reads.Learnt,
-  put-string-reads.Asked,
-  put-string-reads.Learnt,
   put-bracket-reads.Asked,
   put-bracket-reads.Learnt,
   inside-below t,
@@ -480,12 +478,10 @@ node-element-copy-out-kind t c = search needs
 node-is-term-requires : (t : ℕ) → node-lts.Need-is-term-requires (
   is-term-reads.Asked,
   is-term-reads.Learnt,
-  put-term-reads.Asked,
-  put-term-reads.Learnt,
+  leaf-reads.Asked,
+  leaf-reads.Learnt,
   is-string-reads.Asked,
   is-string-reads.Learnt,
-  put-string-reads.Asked,
-  put-string-reads.Learnt,
   put-bracket-reads.Asked,
   put-bracket-reads.Learnt,
   inside-below t,
@@ -502,15 +498,13 @@ node-is-term-requires : (t : ℕ) → node-lts.Need-is-term-requires (
 node-is-term-requires t c κs = search needs
 
 -- src/lib.rt:116:9
-node-put-term-requires : (t : ℕ) → node-lts.Need-put-term-requires (
+node-leaf-requires : (t : ℕ) → node-lts.Need-leaf-requires (
   is-term-reads.Asked,
   is-term-reads.Learnt,
-  put-term-reads.Asked,
-  put-term-reads.Learnt,
+  leaf-reads.Asked,
+  leaf-reads.Learnt,
   is-string-reads.Asked,
   is-string-reads.Learnt,
-  put-string-reads.Asked,
-  put-string-reads.Learnt,
   put-bracket-reads.Asked,
   put-bracket-reads.Learnt,
   inside-below t,
@@ -524,18 +518,16 @@ node-put-term-requires : (t : ℕ) → node-lts.Need-put-term-requires (
   unexpected-reads.Asked,
   unexpected-reads.Learnt,
 ) (node-at t) node.Post
-node-put-term-requires t c κs = (c .before .before .before .before .before .before .before .before .pre .1, term-call (getD (c .before .before .before .before .before .before .before .before .args .st .now) 71 0) (sym (c .before .before .before .before .before .before .is-term .ensures) ∙ c .before .before .before .before .before .if1 .taken))
+node-leaf-requires t c κs = (c .before .before .before .before .before .before .before .before .pre .1, λ _. term-call (getD (c .before .before .before .before .before .before .before .before .args .st .now) 71 0) (sym (c .before .before .before .before .before .before .is-term .ensures) ∙ c .before .before .before .before .before .if1 .taken))
 
 -- src/lib.rt:116:9
 node-returns : (t : ℕ) → node-lts.Need-returns (
   is-term-reads.Asked,
   is-term-reads.Learnt,
-  put-term-reads.Asked,
-  put-term-reads.Learnt,
+  leaf-reads.Asked,
+  leaf-reads.Learnt,
   is-string-reads.Asked,
   is-string-reads.Learnt,
-  put-string-reads.Asked,
-  put-string-reads.Learnt,
   put-bracket-reads.Asked,
   put-bracket-reads.Learnt,
   inside-below t,
@@ -549,18 +541,16 @@ node-returns : (t : ℕ) → node-lts.Need-returns (
   unexpected-reads.Asked,
   unexpected-reads.Learnt,
 ) (node-at t) node.Post
-node-returns t c = node-term _ _ (c .before .before .before .before .before .before .before .before .before .pre .1 .0) _ _ (sym (c .before .before .before .before .before .before .before .is-term .ensures) ∙ c .before .before .before .before .before .before .if1 .taken) (c .put-term .ensures)
+node-returns t c = node-term _ _ (c .before .before .before .before .before .before .before .before .before .pre .1 .0) _ _ (sym (c .before .before .before .before .before .before .before .is-term .ensures) ∙ c .before .before .before .before .before .before .if1 .taken) (c .leaf .ensures .puts)
 
 -- src/lib.rt:118:8
 node-is-string-requires : (t : ℕ) → node-lts.Need-is-string-requires (
   is-term-reads.Asked,
   is-term-reads.Learnt,
-  put-term-reads.Asked,
-  put-term-reads.Learnt,
+  leaf-reads.Asked,
+  leaf-reads.Learnt,
   is-string-reads.Asked,
   is-string-reads.Learnt,
-  put-string-reads.Asked,
-  put-string-reads.Learnt,
   put-bracket-reads.Asked,
   put-bracket-reads.Learnt,
   inside-below t,
@@ -577,15 +567,13 @@ node-is-string-requires : (t : ℕ) → node-lts.Need-is-string-requires (
 node-is-string-requires t c κs = search needs
 
 -- src/lib.rt:119:9
-node-put-string-requires : (t : ℕ) → node-lts.Need-put-string-requires (
+node-leaf-requires-2 : (t : ℕ) → node-lts.Need-leaf-requires-2 (
   is-term-reads.Asked,
   is-term-reads.Learnt,
-  put-term-reads.Asked,
-  put-term-reads.Learnt,
+  leaf-reads.Asked,
+  leaf-reads.Learnt,
   is-string-reads.Asked,
   is-string-reads.Learnt,
-  put-string-reads.Asked,
-  put-string-reads.Learnt,
   put-bracket-reads.Asked,
   put-bracket-reads.Learnt,
   inside-below t,
@@ -599,18 +587,16 @@ node-put-string-requires : (t : ℕ) → node-lts.Need-put-string-requires (
   unexpected-reads.Asked,
   unexpected-reads.Learnt,
 ) (node-at t) node.Post
-node-put-string-requires t c κs = (c .before .before .before .before .before .before .before .before .before .before .pre .1, sym (c .before .before .before .before .before .before .is-string .ensures) ∙ c .before .before .before .before .before .if2 .taken)
+node-leaf-requires-2 t c κs = (c .before .before .before .before .before .before .before .before .before .before .pre .1, λ e. contrary (sym (sym (c .before .before .before .before .before .before .is-string .ensures) ∙ c .before .before .before .before .before .if2 .taken) ∙ e))
 
 -- src/lib.rt:119:9
 node-returns-2 : (t : ℕ) → node-lts.Need-returns-2 (
   is-term-reads.Asked,
   is-term-reads.Learnt,
-  put-term-reads.Asked,
-  put-term-reads.Learnt,
+  leaf-reads.Asked,
+  leaf-reads.Learnt,
   is-string-reads.Asked,
   is-string-reads.Learnt,
-  put-string-reads.Asked,
-  put-string-reads.Learnt,
   put-bracket-reads.Asked,
   put-bracket-reads.Learnt,
   inside-below t,
@@ -624,18 +610,16 @@ node-returns-2 : (t : ℕ) → node-lts.Need-returns-2 (
   unexpected-reads.Asked,
   unexpected-reads.Learnt,
 ) (node-at t) node.Post
-node-returns-2 t c = search needs
+node-returns-2 t c = c .leaf2 .ensures .fills (sym (c .before .before .before .before .before .before .before .is-string .ensures) ∙ c .before .before .before .before .before .before .if2 .taken)
 
 -- src/lib.rt:122:13
 node-put-bracket-requires : (t : ℕ) → node-lts.Need-put-bracket-requires (
   is-term-reads.Asked,
   is-term-reads.Learnt,
-  put-term-reads.Asked,
-  put-term-reads.Learnt,
+  leaf-reads.Asked,
+  leaf-reads.Learnt,
   is-string-reads.Asked,
   is-string-reads.Learnt,
-  put-string-reads.Asked,
-  put-string-reads.Learnt,
   put-bracket-reads.Asked,
   put-bracket-reads.Learnt,
   inside-below t,
@@ -655,12 +639,10 @@ node-put-bracket-requires t c κs = (c .before .before .before .before .before .
 node-returns-3 : (t : ℕ) → node-lts.Need-returns-3 (
   is-term-reads.Asked,
   is-term-reads.Learnt,
-  put-term-reads.Asked,
-  put-term-reads.Learnt,
+  leaf-reads.Asked,
+  leaf-reads.Learnt,
   is-string-reads.Asked,
   is-string-reads.Learnt,
-  put-string-reads.Asked,
-  put-string-reads.Learnt,
   put-bracket-reads.Asked,
   put-bracket-reads.Learnt,
   inside-below t,
@@ -680,12 +662,10 @@ node-returns-3 t c = bracket-stop _ _ (c .before .before .before .before .before
 node-inside-requires : (t : ℕ) → node-lts.Need-inside-requires (
   is-term-reads.Asked,
   is-term-reads.Learnt,
-  put-term-reads.Asked,
-  put-term-reads.Learnt,
+  leaf-reads.Asked,
+  leaf-reads.Learnt,
   is-string-reads.Asked,
   is-string-reads.Learnt,
-  put-string-reads.Asked,
-  put-string-reads.Learnt,
   put-bracket-reads.Asked,
   put-bracket-reads.Learnt,
   inside-below t,
@@ -705,12 +685,10 @@ node-inside-requires t c κs = (omega (arith, bracket-depth _ _ (c .before .befo
 node-returns-4 : (t : ℕ) → node-lts.Need-returns-4 (
   is-term-reads.Asked,
   is-term-reads.Learnt,
-  put-term-reads.Asked,
-  put-term-reads.Learnt,
+  leaf-reads.Asked,
+  leaf-reads.Learnt,
   is-string-reads.Asked,
   is-string-reads.Learnt,
-  put-string-reads.Asked,
-  put-string-reads.Learnt,
   put-bracket-reads.Asked,
   put-bracket-reads.Learnt,
   inside-below t,
@@ -730,12 +708,10 @@ node-returns-4 t c = bracket-inside _ _ (c .before .before .before .before .befo
 node-element-copy-out-at : (t : ℕ) → node-lts.Need-element-copy-out-at (
   is-term-reads.Asked,
   is-term-reads.Learnt,
-  put-term-reads.Asked,
-  put-term-reads.Learnt,
+  leaf-reads.Asked,
+  leaf-reads.Learnt,
   is-string-reads.Asked,
   is-string-reads.Learnt,
-  put-string-reads.Asked,
-  put-string-reads.Learnt,
   put-bracket-reads.Asked,
   put-bracket-reads.Learnt,
   inside-below t,
@@ -755,12 +731,10 @@ node-element-copy-out-at t c = search needs
 node-element-copy-out-cell : (t : ℕ) → node-lts.Need-element-copy-out-cell (
   is-term-reads.Asked,
   is-term-reads.Learnt,
-  put-term-reads.Asked,
-  put-term-reads.Learnt,
+  leaf-reads.Asked,
+  leaf-reads.Learnt,
   is-string-reads.Asked,
   is-string-reads.Learnt,
-  put-string-reads.Asked,
-  put-string-reads.Learnt,
   put-bracket-reads.Asked,
   put-bracket-reads.Learnt,
   inside-below t,
@@ -780,12 +754,10 @@ node-element-copy-out-cell t c = search needs
 node-add-cell : (t : ℕ) → node-lts.Need-add-cell (
   is-term-reads.Asked,
   is-term-reads.Learnt,
-  put-term-reads.Asked,
-  put-term-reads.Learnt,
+  leaf-reads.Asked,
+  leaf-reads.Learnt,
   is-string-reads.Asked,
   is-string-reads.Learnt,
-  put-string-reads.Asked,
-  put-string-reads.Learnt,
   put-bracket-reads.Asked,
   put-bracket-reads.Learnt,
   inside-below t,
@@ -805,12 +777,10 @@ node-add-cell t c = omega (arith, next-small _ _ (c .before .before .before .bef
 node-put-paren-requires : (t : ℕ) → node-lts.Need-put-paren-requires (
   is-term-reads.Asked,
   is-term-reads.Learnt,
-  put-term-reads.Asked,
-  put-term-reads.Learnt,
+  leaf-reads.Asked,
+  leaf-reads.Learnt,
   is-string-reads.Asked,
   is-string-reads.Learnt,
-  put-string-reads.Asked,
-  put-string-reads.Learnt,
   put-bracket-reads.Asked,
   put-bracket-reads.Learnt,
   inside-below t,
@@ -830,12 +800,10 @@ node-put-paren-requires t c κs = (c .before .before .before .before .before .be
 node-returns-5 : (t : ℕ) → node-lts.Need-returns-5 (
   is-term-reads.Asked,
   is-term-reads.Learnt,
-  put-term-reads.Asked,
-  put-term-reads.Learnt,
+  leaf-reads.Asked,
+  leaf-reads.Learnt,
   is-string-reads.Asked,
   is-string-reads.Learnt,
-  put-string-reads.Asked,
-  put-string-reads.Learnt,
   put-bracket-reads.Asked,
   put-bracket-reads.Learnt,
   inside-below t,
@@ -855,12 +823,10 @@ node-returns-5 t c = list-stop _ _ (c .before .before .before .before .before .b
 node-enter-list-requires : (t : ℕ) → node-lts.Need-enter-list-requires (
   is-term-reads.Asked,
   is-term-reads.Learnt,
-  put-term-reads.Asked,
-  put-term-reads.Learnt,
+  leaf-reads.Asked,
+  leaf-reads.Learnt,
   is-string-reads.Asked,
   is-string-reads.Learnt,
-  put-string-reads.Asked,
-  put-string-reads.Learnt,
   put-bracket-reads.Asked,
   put-bracket-reads.Learnt,
   inside-below t,
@@ -880,12 +846,10 @@ node-enter-list-requires t c κs = ready-words _ _ (list-open _ _ (c .before .be
 node-elements-requires : (t : ℕ) → node-lts.Need-elements-requires (
   is-term-reads.Asked,
   is-term-reads.Learnt,
-  put-term-reads.Asked,
-  put-term-reads.Learnt,
+  leaf-reads.Asked,
+  leaf-reads.Learnt,
   is-string-reads.Asked,
   is-string-reads.Learnt,
-  put-string-reads.Asked,
-  put-string-reads.Learnt,
   put-bracket-reads.Asked,
   put-bracket-reads.Learnt,
   inside-below t,
@@ -905,12 +869,10 @@ node-elements-requires t c κs = (omega (arith, list-depth _ _ (c .before .befor
 node-returns-6 : (t : ℕ) → node-lts.Need-returns-6 (
   is-term-reads.Asked,
   is-term-reads.Learnt,
-  put-term-reads.Asked,
-  put-term-reads.Learnt,
+  leaf-reads.Asked,
+  leaf-reads.Learnt,
   is-string-reads.Asked,
   is-string-reads.Learnt,
-  put-string-reads.Asked,
-  put-string-reads.Learnt,
   put-bracket-reads.Asked,
   put-bracket-reads.Learnt,
   inside-below t,
@@ -930,12 +892,10 @@ node-returns-6 t c = list-elements _ _ (c .before .before .before .before .befor
 node-unexpected-requires : (t : ℕ) → node-lts.Need-unexpected-requires (
   is-term-reads.Asked,
   is-term-reads.Learnt,
-  put-term-reads.Asked,
-  put-term-reads.Learnt,
+  leaf-reads.Asked,
+  leaf-reads.Learnt,
   is-string-reads.Asked,
   is-string-reads.Learnt,
-  put-string-reads.Asked,
-  put-string-reads.Learnt,
   put-bracket-reads.Asked,
   put-bracket-reads.Learnt,
   inside-below t,
@@ -955,12 +915,10 @@ node-unexpected-requires t c κs = unexpected-call _ _ (c .before .before .befor
 node-returns-7 : (t : ℕ) → node-lts.Need-returns-7 (
   is-term-reads.Asked,
   is-term-reads.Learnt,
-  put-term-reads.Asked,
-  put-term-reads.Learnt,
+  leaf-reads.Asked,
+  leaf-reads.Learnt,
   is-string-reads.Asked,
   is-string-reads.Learnt,
-  put-string-reads.Asked,
-  put-string-reads.Learnt,
   put-bracket-reads.Asked,
   put-bracket-reads.Learnt,
   inside-below t,
@@ -1091,8 +1049,8 @@ properties-μ-loop doc work₀ rows₀ terms₀ store₀ st₀ s work rows terms
 properties-loop-holds : (t : ℕ) → properties-lts.Need-loop-holds (
   aim-reads.Asked,
   aim-reads.Learnt,
-  put-term-reads.Asked,
-  put-term-reads.Learnt,
+  leaf-reads.Asked,
+  leaf-reads.Learnt,
   objects-below t,
   objects.Post,
   skip-semicolons-reads.Asked,
@@ -1106,8 +1064,8 @@ properties-loop-holds t c = search properties-start
 properties-aim-requires : (t : ℕ) → properties-lts.Need-aim-requires (
   aim-reads.Asked,
   aim-reads.Learnt,
-  put-term-reads.Asked,
-  put-term-reads.Learnt,
+  leaf-reads.Asked,
+  leaf-reads.Learnt,
   objects-below t,
   objects.Post,
   skip-semicolons-reads.Asked,
@@ -1118,11 +1076,11 @@ properties-aim-requires : (t : ℕ) → properties-lts.Need-aim-requires (
 properties-aim-requires t c κs = ready-words _ (held (c .before .loop .work) (c .before .loop .rows) (c .before .loop .terms) (c .before .loop .store) (c .before .loop .st)) (c .before .loop .inv .ready)
 
 -- src/lib.rt:187:13
-properties-put-term-requires : (t : ℕ) → properties-lts.Need-put-term-requires (
+properties-leaf-requires : (t : ℕ) → properties-lts.Need-leaf-requires (
   aim-reads.Asked,
   aim-reads.Learnt,
-  put-term-reads.Asked,
-  put-term-reads.Learnt,
+  leaf-reads.Asked,
+  leaf-reads.Learnt,
   objects-below t,
   objects.Post,
   skip-semicolons-reads.Asked,
@@ -1130,14 +1088,14 @@ properties-put-term-requires : (t : ℕ) → properties-lts.Need-put-term-requir
   is-verb-reads.Asked,
   is-verb-reads.Learnt,
 ) (properties-at t) properties.Post properties-Inv-loop properties-μ-loop
-properties-put-term-requires t c κs = properties-ready _ _ _ _ _ _ _ _ _ (c .before .before .before .before .before .before .before .loop .inv) (c .before .before .before .before .before .aim .ensures)
+properties-leaf-requires t c κs = let h = properties-ready _ _ _ _ _ _ _ _ _ (c .before .before .before .before .before .before .before .loop .inv) (c .before .before .before .before .before .aim .ensures) in (h .0, λ _. h .1)
 
 -- src/lib.rt:189:13
 properties-returns : (t : ℕ) → properties-lts.Need-returns (
   aim-reads.Asked,
   aim-reads.Learnt,
-  put-term-reads.Asked,
-  put-term-reads.Learnt,
+  leaf-reads.Asked,
+  leaf-reads.Learnt,
   objects-below t,
   objects.Post,
   skip-semicolons-reads.Asked,
@@ -1151,8 +1109,8 @@ properties-returns t c = search properties-stop
 properties-element-copy-out-p : (t : ℕ) → properties-lts.Need-element-copy-out-p (
   aim-reads.Asked,
   aim-reads.Learnt,
-  put-term-reads.Asked,
-  put-term-reads.Learnt,
+  leaf-reads.Asked,
+  leaf-reads.Learnt,
   objects-below t,
   objects.Post,
   skip-semicolons-reads.Asked,
@@ -1166,8 +1124,8 @@ properties-element-copy-out-p t c = search needs
 properties-objects-requires : (t : ℕ) → properties-lts.Need-objects-requires (
   aim-reads.Asked,
   aim-reads.Learnt,
-  put-term-reads.Asked,
-  put-term-reads.Learnt,
+  leaf-reads.Asked,
+  leaf-reads.Learnt,
   objects-below t,
   objects.Post,
   skip-semicolons-reads.Asked,
@@ -1175,14 +1133,14 @@ properties-objects-requires : (t : ℕ) → properties-lts.Need-objects-requires
   is-verb-reads.Asked,
   is-verb-reads.Learnt,
 ) (properties-at t) properties.Post properties-Inv-loop properties-μ-loop
-properties-objects-requires t c κs = (omega (arith, depth-objects _ _ _ _ _ _ _ _ _ (c .before .before .before .before .before .before .before .before .before .before .before .before .before .before .before .loop .inv) (c .before .before .before .before .before .before .before .before .before .before .before .before .before .aim .ensures) _ _ (c .before .before .before .before .before .before .before .put-term .ensures) (c .before .before .before .before .before .before .if1 .left), c .before .before .before .before .before .before .before .before .before .before .before .before .before .before .before .before .pre .0), objects-call _ _ _ _ _ _ _ _ _ (c .before .before .before .before .before .before .before .before .before .before .before .before .before .before .before .loop .inv) (c .before .before .before .before .before .before .before .before .before .before .before .before .before .aim .ensures) _ _ (c .before .before .before .before .before .before .before .put-term .ensures) (c .before .before .before .before .before .before .if1 .left) (c .before .before .before .before .before .before .before .before .before .before .before .before .before .before .before .before .pre .1 .0 .1) (c .before .before .before .before .before .before .before .before .before .before .before .before .before .before .before .before .pre .1 .1 .0) _ refl)
+properties-objects-requires t c κs = (omega (arith, depth-objects _ _ _ _ _ _ _ _ _ (c .before .before .before .before .before .before .before .before .before .before .before .before .before .before .before .loop .inv) (c .before .before .before .before .before .before .before .before .before .before .before .before .before .aim .ensures) _ _ (c .before .before .before .before .before .before .before .leaf .ensures .puts) (c .before .before .before .before .before .before .if1 .left), c .before .before .before .before .before .before .before .before .before .before .before .before .before .before .before .before .pre .0), objects-call _ _ _ _ _ _ _ _ _ (c .before .before .before .before .before .before .before .before .before .before .before .before .before .before .before .loop .inv) (c .before .before .before .before .before .before .before .before .before .before .before .before .before .aim .ensures) _ _ (c .before .before .before .before .before .before .before .leaf .ensures .puts) (c .before .before .before .before .before .before .if1 .left) (c .before .before .before .before .before .before .before .before .before .before .before .before .before .before .before .before .pre .1 .0 .1) (c .before .before .before .before .before .before .before .before .before .before .before .before .before .before .before .before .pre .1 .1 .0) _ refl)
 
 -- src/lib.rt:194:13
 properties-returns-2 : (t : ℕ) → properties-lts.Need-returns-2 (
   aim-reads.Asked,
   aim-reads.Learnt,
-  put-term-reads.Asked,
-  put-term-reads.Learnt,
+  leaf-reads.Asked,
+  leaf-reads.Learnt,
   objects-below t,
   objects.Post,
   skip-semicolons-reads.Asked,
@@ -1190,14 +1148,14 @@ properties-returns-2 : (t : ℕ) → properties-lts.Need-returns-2 (
   is-verb-reads.Asked,
   is-verb-reads.Learnt,
 ) (properties-at t) properties.Post properties-Inv-loop properties-μ-loop
-properties-returns-2 t c = properties-stop-2 _ _ _ _ _ _ _ _ _ (c .before .before .before .before .before .before .before .before .before .before .before .before .before .before .before .before .before .loop .inv) (c .before .before .before .before .before .before .before .before .before .before .before .before .before .before .before .aim .ensures) _ _ (c .before .before .before .before .before .before .before .before .before .put-term .ensures) (c .before .before .before .before .before .before .before .before .if1 .left) _ _ _ refl (c .before .objects .ensures) (c .if2 .taken)
+properties-returns-2 t c = properties-stop-2 _ _ _ _ _ _ _ _ _ (c .before .before .before .before .before .before .before .before .before .before .before .before .before .before .before .before .before .loop .inv) (c .before .before .before .before .before .before .before .before .before .before .before .before .before .before .before .aim .ensures) _ _ (c .before .before .before .before .before .before .before .before .before .leaf .ensures .puts) (c .before .before .before .before .before .before .before .before .if1 .left) _ _ _ refl (c .before .objects .ensures) (c .if2 .taken)
 
 -- src/lib.rt:196:12
 properties-element-copy-out-if3 : (t : ℕ) → properties-lts.Need-element-copy-out-if3 (
   aim-reads.Asked,
   aim-reads.Learnt,
-  put-term-reads.Asked,
-  put-term-reads.Learnt,
+  leaf-reads.Asked,
+  leaf-reads.Learnt,
   objects-below t,
   objects.Post,
   skip-semicolons-reads.Asked,
@@ -1211,8 +1169,8 @@ properties-element-copy-out-if3 t c = search needs
 properties-returns-3 : (t : ℕ) → properties-lts.Need-returns-3 (
   aim-reads.Asked,
   aim-reads.Learnt,
-  put-term-reads.Asked,
-  put-term-reads.Learnt,
+  leaf-reads.Asked,
+  leaf-reads.Learnt,
   objects-below t,
   objects.Post,
   skip-semicolons-reads.Asked,
@@ -1220,14 +1178,14 @@ properties-returns-3 : (t : ℕ) → properties-lts.Need-returns-3 (
   is-verb-reads.Asked,
   is-verb-reads.Learnt,
 ) (properties-at t) properties.Post properties-Inv-loop properties-μ-loop
-properties-returns-3 t c = properties-end _ _ _ _ _ _ _ _ _ (c .before .before .before .before .before .before .before .before .before .before .before .before .before .before .before .before .before .before .before .loop .inv) (c .before .before .before .before .before .before .before .before .before .before .before .before .before .before .before .before .before .aim .ensures) _ _ (c .before .before .before .before .before .before .before .before .before .before .before .put-term .ensures) (c .before .before .before .before .before .before .before .before .before .before .if1 .left) _ _ _ refl (c .before .before .before .objects .ensures) (c .before .before .if2 .left) (c .if3 .taken)
+properties-returns-3 t c = properties-end _ _ _ _ _ _ _ _ _ (c .before .before .before .before .before .before .before .before .before .before .before .before .before .before .before .before .before .before .before .loop .inv) (c .before .before .before .before .before .before .before .before .before .before .before .before .before .before .before .before .before .aim .ensures) _ _ (c .before .before .before .before .before .before .before .before .before .before .before .leaf .ensures .puts) (c .before .before .before .before .before .before .before .before .before .before .if1 .left) _ _ _ refl (c .before .before .before .objects .ensures) (c .before .before .if2 .left) (c .if3 .taken)
 
 -- src/lib.rt:199:9
 properties-skip-semicolons-requires : (t : ℕ) → properties-lts.Need-skip-semicolons-requires (
   aim-reads.Asked,
   aim-reads.Learnt,
-  put-term-reads.Asked,
-  put-term-reads.Learnt,
+  leaf-reads.Asked,
+  leaf-reads.Learnt,
   objects-below t,
   objects.Post,
   skip-semicolons-reads.Asked,
@@ -1235,14 +1193,14 @@ properties-skip-semicolons-requires : (t : ℕ) → properties-lts.Need-skip-sem
   is-verb-reads.Asked,
   is-verb-reads.Learnt,
 ) (properties-at t) properties.Post properties-Inv-loop properties-μ-loop
-properties-skip-semicolons-requires t c κs = skips-call _ _ _ _ _ _ _ _ _ (c .before .before .before .before .before .before .before .before .before .before .before .before .before .before .before .before .before .before .before .before .loop .inv) (c .before .before .before .before .before .before .before .before .before .before .before .before .before .before .before .before .before .before .aim .ensures) _ _ (c .before .before .before .before .before .before .before .before .before .before .before .before .put-term .ensures) (c .before .before .before .before .before .before .before .before .before .before .before .if1 .left) _ _ _ refl (c .before .before .before .before .objects .ensures) (c .before .before .before .if2 .left) (c .before .if3 .left)
+properties-skip-semicolons-requires t c κs = skips-call _ _ _ _ _ _ _ _ _ (c .before .before .before .before .before .before .before .before .before .before .before .before .before .before .before .before .before .before .before .before .loop .inv) (c .before .before .before .before .before .before .before .before .before .before .before .before .before .before .before .before .before .before .aim .ensures) _ _ (c .before .before .before .before .before .before .before .before .before .before .before .before .leaf .ensures .puts) (c .before .before .before .before .before .before .before .before .before .before .before .if1 .left) _ _ _ refl (c .before .before .before .before .objects .ensures) (c .before .before .before .if2 .left) (c .before .if3 .left)
 
 -- src/lib.rt:200:28
 properties-element-copy-out-is-verb : (t : ℕ) → properties-lts.Need-element-copy-out-is-verb (
   aim-reads.Asked,
   aim-reads.Learnt,
-  put-term-reads.Asked,
-  put-term-reads.Learnt,
+  leaf-reads.Asked,
+  leaf-reads.Learnt,
   objects-below t,
   objects.Post,
   skip-semicolons-reads.Asked,
@@ -1256,8 +1214,8 @@ properties-element-copy-out-is-verb t c = search needs
 properties-is-verb-requires : (t : ℕ) → properties-lts.Need-is-verb-requires (
   aim-reads.Asked,
   aim-reads.Learnt,
-  put-term-reads.Asked,
-  put-term-reads.Learnt,
+  leaf-reads.Asked,
+  leaf-reads.Learnt,
   objects-below t,
   objects.Post,
   skip-semicolons-reads.Asked,
@@ -1271,8 +1229,8 @@ properties-is-verb-requires t c κs = search needs
 properties-returns-4 : (t : ℕ) → properties-lts.Need-returns-4 (
   aim-reads.Asked,
   aim-reads.Learnt,
-  put-term-reads.Asked,
-  put-term-reads.Learnt,
+  leaf-reads.Asked,
+  leaf-reads.Learnt,
   objects-below t,
   objects.Post,
   skip-semicolons-reads.Asked,
@@ -1280,14 +1238,14 @@ properties-returns-4 : (t : ℕ) → properties-lts.Need-returns-4 (
   is-verb-reads.Asked,
   is-verb-reads.Learnt,
 ) (properties-at t) properties.Post properties-Inv-loop properties-μ-loop
-properties-returns-4 t c = properties-end-2 _ _ _ _ _ _ _ _ _ (c .before .before .before .before .before .before .before .before .before .before .before .before .before .before .before .before .before .before .before .before .before .before .before .before .loop .inv) (c .before .before .before .before .before .before .before .before .before .before .before .before .before .before .before .before .before .before .before .before .before .before .aim .ensures) _ _ (c .before .before .before .before .before .before .before .before .before .before .before .before .before .before .before .before .put-term .ensures) (c .before .before .before .before .before .before .before .before .before .before .before .before .before .before .before .if1 .left) _ _ _ _ _ _ _ _ refl (c .before .before .before .before .before .before .before .before .objects .ensures) (c .before .before .before .before .before .before .before .if2 .left) (c .before .before .before .skip-semicolons .ensures) (sym (c .before .is-verb .ensures) ∙ negated _ (c .if4 .taken))
+properties-returns-4 t c = properties-end-2 _ _ _ _ _ _ _ _ _ (c .before .before .before .before .before .before .before .before .before .before .before .before .before .before .before .before .before .before .before .before .before .before .before .before .loop .inv) (c .before .before .before .before .before .before .before .before .before .before .before .before .before .before .before .before .before .before .before .before .before .before .aim .ensures) _ _ (c .before .before .before .before .before .before .before .before .before .before .before .before .before .before .before .before .leaf .ensures .puts) (c .before .before .before .before .before .before .before .before .before .before .before .before .before .before .before .if1 .left) _ _ _ _ _ _ _ _ refl (c .before .before .before .before .before .before .before .before .objects .ensures) (c .before .before .before .before .before .before .before .if2 .left) (c .before .before .before .skip-semicolons .ensures) (sym (c .before .is-verb .ensures) ∙ negated _ (c .if4 .taken))
 
 -- src/lib.rt:185:5
 properties-loop-less : (t : ℕ) → properties-lts.Need-loop-less (
   aim-reads.Asked,
   aim-reads.Learnt,
-  put-term-reads.Asked,
-  put-term-reads.Learnt,
+  leaf-reads.Asked,
+  leaf-reads.Learnt,
   objects-below t,
   objects.Post,
   skip-semicolons-reads.Asked,
@@ -1295,14 +1253,14 @@ properties-loop-less : (t : ℕ) → properties-lts.Need-loop-less (
   is-verb-reads.Asked,
   is-verb-reads.Learnt,
 ) (properties-at t) properties.Post properties-Inv-loop properties-μ-loop
-properties-loop-less t c = properties-less _ _ _ _ _ _ _ _ _ (c .before .before .before .before .before .before .before .before .before .before .before .before .before .before .before .before .before .before .before .before .before .before .before .before .loop .inv) (c .before .before .before .before .before .before .before .before .before .before .before .before .before .before .before .before .before .before .before .before .before .before .aim .ensures) _ _ (c .before .before .before .before .before .before .before .before .before .before .before .before .before .before .before .before .put-term .ensures) (c .before .before .before .before .before .before .before .before .before .before .before .before .before .before .before .if1 .left) _ _ _ _ _ _ _ _ refl (c .before .before .before .before .before .before .before .before .objects .ensures) (c .before .before .before .before .before .before .before .if2 .left) (c .before .before .before .skip-semicolons .ensures)
+properties-loop-less t c = properties-less _ _ _ _ _ _ _ _ _ (c .before .before .before .before .before .before .before .before .before .before .before .before .before .before .before .before .before .before .before .before .before .before .before .before .loop .inv) (c .before .before .before .before .before .before .before .before .before .before .before .before .before .before .before .before .before .before .before .before .before .before .aim .ensures) _ _ (c .before .before .before .before .before .before .before .before .before .before .before .before .before .before .before .before .leaf .ensures .puts) (c .before .before .before .before .before .before .before .before .before .before .before .before .before .before .before .if1 .left) _ _ _ _ _ _ _ _ refl (c .before .before .before .before .before .before .before .before .objects .ensures) (c .before .before .before .before .before .before .before .if2 .left) (c .before .before .before .skip-semicolons .ensures)
 
 -- src/lib.rt:185:5
 properties-loop-again : (t : ℕ) → properties-lts.Need-loop-again (
   aim-reads.Asked,
   aim-reads.Learnt,
-  put-term-reads.Asked,
-  put-term-reads.Learnt,
+  leaf-reads.Asked,
+  leaf-reads.Learnt,
   objects-below t,
   objects.Post,
   skip-semicolons-reads.Asked,
@@ -1310,7 +1268,7 @@ properties-loop-again : (t : ℕ) → properties-lts.Need-loop-again (
   is-verb-reads.Asked,
   is-verb-reads.Learnt,
 ) (properties-at t) properties.Post properties-Inv-loop properties-μ-loop
-properties-loop-again t c = properties-again _ _ _ _ _ _ _ _ _ (c .before .before .before .before .before .before .before .before .before .before .before .before .before .before .before .before .before .before .before .before .before .before .before .before .loop .inv) (c .before .before .before .before .before .before .before .before .before .before .before .before .before .before .before .before .before .before .before .before .before .before .aim .ensures) _ _ (c .before .before .before .before .before .before .before .before .before .before .before .before .before .before .before .before .put-term .ensures) (c .before .before .before .before .before .before .before .before .before .before .before .before .before .before .before .if1 .left) _ _ _ _ _ _ _ _ refl (c .before .before .before .before .before .before .before .before .objects .ensures) (c .before .before .before .before .before .before .before .if2 .left) (c .before .before .before .skip-semicolons .ensures) (sym (c .before .is-verb .ensures) ∙ affirmed _ (c .if4 .left))
+properties-loop-again t c = properties-again _ _ _ _ _ _ _ _ _ (c .before .before .before .before .before .before .before .before .before .before .before .before .before .before .before .before .before .before .before .before .before .before .before .before .loop .inv) (c .before .before .before .before .before .before .before .before .before .before .before .before .before .before .before .before .before .before .before .before .before .before .aim .ensures) _ _ (c .before .before .before .before .before .before .before .before .before .before .before .before .before .before .before .before .leaf .ensures .puts) (c .before .before .before .before .before .before .before .before .before .before .before .before .before .before .before .if1 .left) _ _ _ _ _ _ _ _ refl (c .before .before .before .before .before .before .before .before .objects .ensures) (c .before .before .before .before .before .before .before .if2 .left) (c .before .before .before .skip-semicolons .ensures) (sym (c .before .is-verb .ensures) ∙ affirmed _ (c .if4 .left))
 
 pub +elements+inside+node+objects+properties-spec : {M : Type 1} → statement M
 +elements+inside+node+objects+properties-spec =
@@ -1370,12 +1328,10 @@ pub +elements+inside+node+objects+properties-spec : {M : Type 1} → statement M
     (λ t. node-lts.spec (
       is-term-reads.Asked,
       is-term-reads.Learnt,
-      put-term-reads.Asked,
-      put-term-reads.Learnt,
+      leaf-reads.Asked,
+      leaf-reads.Learnt,
       is-string-reads.Asked,
       is-string-reads.Learnt,
-      put-string-reads.Asked,
-      put-string-reads.Learnt,
       put-bracket-reads.Asked,
       put-bracket-reads.Learnt,
       inside-below t,
@@ -1393,10 +1349,10 @@ pub +elements+inside+node+objects+properties-spec : {M : Type 1} → statement M
     node.Post
     (node-element-copy-out-kind t)
     (node-is-term-requires t)
-    (node-put-term-requires t)
+    (node-leaf-requires t)
     (node-returns t)
     (node-is-string-requires t)
-    (node-put-string-requires t)
+    (node-leaf-requires-2 t)
     (node-returns-2 t)
     (node-put-bracket-requires t)
     (node-returns-3 t)
@@ -1436,8 +1392,8 @@ pub +elements+inside+node+objects+properties-spec : {M : Type 1} → statement M
     λ t. properties-lts.spec (
       aim-reads.Asked,
       aim-reads.Learnt,
-      put-term-reads.Asked,
-      put-term-reads.Learnt,
+      leaf-reads.Asked,
+      leaf-reads.Learnt,
       objects-below t,
       objects.Post,
       skip-semicolons-reads.Asked,
@@ -1451,7 +1407,7 @@ pub +elements+inside+node+objects+properties-spec : {M : Type 1} → statement M
     properties-μ-loop
     (properties-loop-holds t)
     (properties-aim-requires t)
-    (properties-put-term-requires t)
+    (properties-leaf-requires t)
     (properties-returns t)
     (properties-element-copy-out-p t)
     (properties-objects-requires t)

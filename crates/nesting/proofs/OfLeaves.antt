@@ -1,0 +1,40 @@
+-- A node of its own tokens alone: a term, or a string.
+use mathlib.Core.Path.{_≡_, refl, sym, _∙_}
+use mathlib.Core.Bool.{Bool, true, false, _&&_}
+use mathlib.Core.Option.{none, some}
+use Prim.Native.Nat.{ℕ}
+use native.Mathlib.Omega.{arith}
+use lib.ListN.{getD}
+use Rattle.text.specs.Text.{Text}
+use Rattle.text.proofs.Compare.{by, contrary}
+use Rattle.token.specs.Kind.{Kind, among, strings}
+use Rattle.token.specs.Tokens.{Token}
+use Rattle.token.proofs.KindCodes.{each-kind}
+use Rattle.machine.specs.Rules.{find-rule}
+use Rattle.state.specs.Words.{kind-word}
+use Rattle.reading.specs.Reading.{code-among, Held, here, Ready}
+use Rattle.reading.proofs.Tests.{kinds-of, among-any, no-rule, among-code}
+use Rattle.nodes.specs.Nodes.{term-rules, Fills, Steady, PutsTerm}
+use Rattle.nesting.specs.Nesting.{Leaf}
+
+-- No term is a string by itself.
+string-no-term : (t : Token) (k : Kind) → among strings k ≡ true → find-rule k (term-rules t) ≡ none
+string-no-term t k h =
+    no-rule (term-rules t) k
+    (by (among-any (kinds-of (term-rules t)) k)
+    (λ p. p ∙ (let e = each-kind (λ j. among-any (kinds-of (term-rules t)) j && among strings j) (λ j. false) refl k in contrary (rw (p, h) at e)))
+    (λ p. p))
+
+string-token : (k : ℕ) → code-among strings k ≡ true → (k ≡ 0 → ⊥) × (k ≡ 31 → ⊥)
+string-token k v = ((λ e. contrary (sym (rw e at v))), (λ e. contrary (sym (rw e at v))))
+
+module _ (doc : Text) (a : Held) (ready : Ready doc a) where
+  pub leaf-string : (b : Held) (r : ℕ) → code-among strings (getD (a .st) kind-word 0) ≡ true → Fills doc a b r × Steady a b r → Leaf doc a b r
+  leaf-string b r v f =
+      let (z, y) = string-token (getD (a .st) kind-word 0) v in
+      let t = ready .cursor .token z y in
+      let e = string-no-term (here doc a) (here doc a .kind) (among-code strings (getD (a .st) kind-word 0) z (t .known) ∙ v) in
+      record { puts = λ w q. (let x = sym e ∙ q in let o : _≡_ {A = ℕ} 0 1 = cc in absurd (omega arith)); fills = λ _. f }
+
+pub leaf-term : (doc : Text) (a b : Held) (r : ℕ) → code-among strings (getD (a .st) kind-word 0) ≡ false → PutsTerm doc a b r → Leaf doc a b r
+leaf-term doc a b r v p = record { puts = p; fills = λ e. contrary (sym e ∙ v) }
