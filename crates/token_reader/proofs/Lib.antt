@@ -1,0 +1,5 @@
+-- What is answered at a place, the answers one after the other, what the walks share, and examples.
+pub mod Answers
+pub mod Sequence
+pub mod Walking
+pub mod Examples
