@@ -1,0 +1,73 @@
+-- "the 32-bit counts of rows, terms, store bytes": every count fits.
+use mathlib.Core.Path.{_≡_, refl, sym, _∙_, ap, subst}
+use mathlib.Core.Bool.{Bool, true, false}
+use mathlib.Core.Option.{Option, none, some}
+use Prim.Native.Nat.{ℕ, _≤_}
+use native.Mathlib.Omega.{arith}
+use borrow.Author.Tests.{leb-true}
+use lib.Dec.{leb}
+use lib.ListN.{length}
+use Rattle.text.specs.Text.{Text, cond}
+use Rattle.token.specs.Tokens.{lexemes}
+use Rattle.utf8.specs.Utf8.{first-bad}
+use Rattle.table.specs.Layout.{row-room, term-room}
+use Rattle.machine.specs.Memory.{Memory}
+use Rattle.machine.specs.Demand.{Meets}
+use Rattle.machine.specs.Step.{Outcome, accepted, refused, run, first-refusal}
+use Rattle.machine.specs.Read.{Lent, Answer, reported, counted, room-of, mode-of, start-state, first-checks, read, read-checked, read-utf8, read-tokens}
+use Rattle.machine.proofs.Demands.{zero-meets, meets-answer}
+use Rattle.reader.specs.Reader.{LentSlices, lengths, Contract}
+use Rattle.reader.specs.declared.Reading.{Reading}
+
+pub record Small (a : Answer) : Type 0 where
+  pub rows : a .row-count ≤ 4294967295
+  pub terms : a .term-count ≤ 4294967295
+  pub store : a .store-count ≤ 4294967295
+
+counted-small : (n : ℕ) → counted n ≤ 4294967295
+counted-small n = go (leb n 4294967294) refl
+  where
+    go : (b : Bool) → leb n 4294967294 ≡ b → cond b n 4294967294 ≤ 4294967295
+    go true e = let h = leb-true n 4294967294 e in omega arith
+    go false e = omega arith
+
+module _ (doc : Text) (mode : ℕ) (base : Text) (lent : Lent) where
+  accepted-small : read doc mode base lent .number ≡ 0 → Small (read doc mode base lent)
+  accepted-small e =
+      let x = zero-meets doc mode base lent e in
+      subst Small (sym (meets-answer doc mode base lent x))
+      (record {
+        rows = omega (arith, x .room .rows, counted-small (row-room (lent .rows)));
+        terms = omega (arith, x .room .terms, counted-small (term-room (lent .terms)));
+        store = omega (arith, x .room .store, counted-small (lent .store));
+      })
+
+  none-small : (a : Answer) → a .row-count ≡ 0 → a .term-count ≡ 0 → a .store-count ≡ 0 → Small a
+  none-small a p q r = record { rows = omega arith; terms = omega arith; store = omega arith }
+
+  pub small : Small (read doc mode base lent)
+  unfolding read read-checked read-utf8 read-tokens
+  small = checked (first-refusal (first-checks doc mode base lent)) accepted-small
+    where
+      ran : (o : Outcome) → (reported (length doc) o .number ≡ 0 → Small (reported (length doc) o)) → Small (reported (length doc) o)
+      ran (accepted m) f = f refl
+      ran (refused c p) f = none-small (reported (length doc) (refused c p)) refl refl refl
+
+      decoded : (o : Option ℕ) → (read-utf8 o doc mode base lent .number ≡ 0 → Small (read-utf8 o doc mode base lent)) → Small (read-utf8 o doc mode base lent)
+      decoded (some q) f = none-small (read-utf8 (some q) doc mode base lent) refl refl refl
+      decoded none f = ran (run (mode-of mode) (room-of lent) (length doc) (lexemes doc) (start-state base)) f
+
+      checked : (o : Option ℕ) → (read-checked o doc mode base lent .number ≡ 0 → Small (read-checked o doc mode base lent)) → Small (read-checked o doc mode base lent)
+      checked (some c) f = none-small (read-checked (some c) doc mode base lent) refl refl refl
+      checked none f = decoded (first-bad doc) f
+
+-- So do those that the reader answers.
+module _ (doc : Text) (mode : ℕ) (base : Text) (old new : LentSlices) (r : Reading) (g : Contract doc mode base old new r) where
+  pub rows-small : r .rows ≤ 4294967295
+  rows-small = subst (λ n. n ≤ 4294967295) (sym (g .row-count)) (small doc mode base (lengths old) .rows)
+
+  pub terms-small : r .terms ≤ 4294967295
+  terms-small = subst (λ n. n ≤ 4294967295) (sym (g .term-count)) (small doc mode base (lengths old) .terms)
+
+  pub store-small : r .store ≤ 4294967295
+  store-small = subst (λ n. n ≤ 4294967295) (sym (g .store-count)) (small doc mode base (lengths old) .store)

@@ -1,0 +1,21 @@
+-- The answers as C sees them, in the words of the definitions, number for number.
+use Prim.Native.Nat.{ℕ}
+use Rattle.text.specs.Text.{Text}
+use Rattle.table.specs.LongForm as long
+use Rattle.reader.specs.declared.Reading.{Reading}
+use Rattle.term_text.specs.declared.Span.{Span}
+use Rattle.term_text.specs.declared.Span.the-variants.{Part, Unusable}
+use Rattle.sycamoot.specs.declared.Answer.{Answer}
+use Rattle.sycamoot.specs.declared.Text as text
+use Rattle.sycamoot.specs.declared.Written.{Written}
+
+abbrev pub reading : Answer → Reading
+reading r = record { number = r .number; position = r .position; rows = r .rows; terms = r .terms; store = r .store }
+
+-- "gives 18 and an empty part"
+abbrev pub shown : Span → text.Text
+shown (Part start size) = record { start = start; length = size; number = 0 }
+shown Unusable = record { start = 0; length = 0; number = 18 }
+
+abbrev pub written : Written → Text → long.Written
+written r out = record { number = r .number; position = r .position; output = out }

@@ -1,0 +1,91 @@
+/* Sycamoot: a reader for TriG and Turtle (RDF 1.1) that is proved to give the answers below, on every input.
+ *
+ * All memory is lent by the caller. No pointer may be null: an empty slice has any aligned pointer and the length 0. The
+ * lent slices of one call must not overlap. Nothing is kept between calls, so any number of threads may call. */
+#ifndef SYCAMOOT_H
+#define SYCAMOOT_H
+
+#include <stddef.h>
+#include <stdint.h>
+
+#ifdef __cplusplus
+extern "C" {
+#endif
+
+/* The answers, with the position that each speaks of. */
+enum sycamoot_number {
+    SYCAMOOT_ACCEPTED = 0,          /* all was read, or written: the document's length, or the length written */
+    SYCAMOOT_DOCUMENT_LENGTH = 1,   /* the document has over 1,048,576 bytes: 0 */
+    SYCAMOOT_MODE = 2,              /* the mode is neither 0 nor 1: 0 */
+    SYCAMOOT_BASE = 3,              /* the base is not empty, and no IRI of at most 1,024 bytes with a scheme: 0 */
+    SYCAMOOT_WORK = 4,              /* the work slice has under 35,840 bytes: 0 */
+    SYCAMOOT_UTF8 = 5,              /* bad UTF-8: its first byte */
+    SYCAMOOT_TOKEN = 6,             /* no token can be read: where it would begin */
+    SYCAMOOT_ESCAPE = 7,            /* a numeric escape names no character: the token */
+    SYCAMOOT_GRAMMAR = 8,           /* no document goes on like this: the token, or the document's length */
+    SYCAMOOT_PREFIX = 9,            /* a prefix that is not declared before: the token */
+    SYCAMOOT_NO_BASE = 10,          /* a relative reference, and no base in force: the token */
+    SYCAMOOT_IRI_LENGTH = 11,       /* an IRI over 1,024 bytes, or a declared prefix over 64: the token */
+    SYCAMOOT_PREFIXES = 12,         /* a 33rd distinct prefix: its IRIREF */
+    SYCAMOOT_DEPTH = 13,            /* a 65th [ or ( open at once: the token */
+    SYCAMOOT_ROWS = 14,             /* too few rows for what this token writes: the token */
+    SYCAMOOT_TERMS = 15,            /* too few terms for what this token writes: the token */
+    SYCAMOOT_STORE = 16,            /* too small a store for what this token writes: the token */
+    SYCAMOOT_OUTPUT = 17,           /* the long form does not fit its buffer: 0 */
+    SYCAMOOT_TABLES = 18            /* the tables, or a term's number, are not usable: 0 */
+};
+
+/* The languages. */
+enum sycamoot_mode { SYCAMOOT_TRIG = 0, SYCAMOOT_TURTLE = 1 };
+
+/* The kinds of a term: the first of its five words. */
+enum sycamoot_kind { SYCAMOOT_IRI = 1, SYCAMOOT_BLANK = 2, SYCAMOOT_LITERAL = 3, SYCAMOOT_TAGGED = 4 };
+
+/* Sizes. */
+#define SYCAMOOT_DOCUMENT_BYTES 1048576 /* the longest document */
+#define SYCAMOOT_WORK_BYTES 35840       /* the shortest work slice; more is used as an index of the terms */
+#define SYCAMOOT_ROW_WORDS 5            /* graph, subject, predicate, object, position of the object's first byte */
+#define SYCAMOOT_TERM_WORDS 5           /* kind, start, length, and by its kind: 0, 0; blank number, 0; datatype, 0; tag's start, length */
+#define SYCAMOOT_IRI_BYTES 1024
+#define SYCAMOOT_PREFIX_BYTES 64
+#define SYCAMOOT_PREFIX_COUNT 32
+#define SYCAMOOT_DEPTH_LEVELS 64
+
+typedef struct {
+    uint64_t position;
+    uint32_t number; /* enum sycamoot_number */
+    uint32_t rows;   /* how many rows, terms and store bytes there are; 0 after a refusal */
+    uint32_t terms;
+    uint32_t store;
+} sycamoot_answer;
+
+typedef struct {
+    uint64_t start; /* the text is length bytes of the store from start on */
+    uint64_t length;
+    uint32_t number; /* SYCAMOOT_ACCEPTED or SYCAMOOT_TABLES */
+} sycamoot_text;
+
+typedef struct {
+    uint64_t position;
+    uint32_t number; /* SYCAMOOT_ACCEPTED, SYCAMOOT_OUTPUT or SYCAMOOT_TABLES */
+} sycamoot_written;
+
+/* Reads a document. 1 to 4 leave all memory as it was. 5 to 16 leave zeros in all four slices. After 0 the rows, terms and
+ * bytes that are counted stand in front, what lies past them is as it was, and the work slice is zeros. */
+sycamoot_answer sycamoot_read(const uint8_t *document, size_t document_length, const uint8_t *base, size_t base_length,
+                              uint8_t mode, uint8_t *work, size_t work_length, uint32_t *rows, size_t row_words,
+                              uint32_t *terms, size_t term_words, uint8_t *store, size_t store_length);
+
+/* Where the text of a term lies: an IRI, a blank node's label or a literal's string. Any number and any tables may be given. */
+sycamoot_text sycamoot_term_text(const uint32_t *terms, size_t term_words, uint32_t term_count, const uint8_t *store,
+                                 size_t store_length, uint32_t store_count, uint32_t term);
+
+/* Writes the statements of the tables, one a line, over the front of out. 17 and 18 leave it as it was. */
+sycamoot_written sycamoot_write(const uint32_t *rows, size_t row_words, uint32_t row_count, const uint32_t *terms,
+                                size_t term_words, uint32_t term_count, const uint8_t *store, size_t store_length,
+                                uint32_t store_count, uint8_t *out, size_t out_length);
+
+#ifdef __cplusplus
+}
+#endif
+#endif
