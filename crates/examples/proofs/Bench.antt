@@ -1,49 +1,84 @@
--- The bench cases, a single table: what each document is answered, and what it leaves in rows, terms and store.
-use mathlib.Core.Path.{refl}
-use mathlib.Core.List.{[], _∷_, _++_}
+-- The bench cases, a single table: what each document is answered, and what each lent slice holds after it; and that the
+-- reader's call answers so.
+use mathlib.Core.Path.{_≡_, refl, ap, _∙_, subst}
+use mathlib.Core.List.{List, [], _∷_, _++_}
 use Prim.Native.Nat.{ℕ}
-use Rattle.text.proofs.Table.{_⇒_, Gives}
-use Rattle.machine.specs.Read.{computing}
-use Rattle.examples.specs.Call.{utf8, S, trig, turtle, with-rows, Short, refuses, accepts, short}
+use Rattle.text.specs.Text.{Text}
+use Rattle.text.proofs.Table.{Example, _⇒_, Gives}
+use Rattle.machine.specs.Read.{Lent, Answer, zeroed, written, refusal, read, computing}
+use Rattle.reader.specs.Reader.{LentSlices, Gives as Leaves}
+use Rattle.reader.specs.declared.Reading.{Reading}
+use Rattle.examples.specs.Call.{utf8, S, Call, trig, turtle, with-rows, answered}
+use Rattle.examples.specs.Reader.{Answers, Each}
+
+-- An accepted document with so many bytes: the counts, and what is written.
+abbrev accepted : ℕ → ℕ → ℕ → ℕ → List ℕ → List ℕ → Text → Answer
+accepted end r t s rows terms store =
+    record {
+      number = 0;
+      position = end;
+      row-count = r;
+      term-count = t;
+      store-count = s;
+      work = zeroed;
+      rows = written rows;
+      terms = written terms;
+      store = written store;
+    }
 
 -- One row, at the place `at`, of a document with so many bytes.
-abbrev integer-1 : ℕ → ℕ → Short
+abbrev integer-1 : ℕ → ℕ → Answer
 integer-1 end at =
-    accepts end (1 ∷ 4 ∷ 47 ∷ [])
+    accepted end 1 4 47
     (0 ∷ 1 ∷ 2 ∷ 4 ∷ at ∷ [])
     (1 ∷ 0 ∷ 3 ∷ 0 ∷ 0 ∷ 1 ∷ 3 ∷ 3 ∷ 0 ∷ 0 ∷ 1 ∷ 6 ∷ 40 ∷ 0 ∷ 0 ∷ 3 ∷ 46 ∷ 1 ∷ 3 ∷ 0 ∷ [])
     (utf8 "x:sx:phttp://www.w3.org/2001/XMLSchema#integer1")
 
-abbrev double-1e0 : ℕ → ℕ → Short
+abbrev double-1e0 : ℕ → ℕ → Answer
 double-1e0 end at =
-    accepts end (1 ∷ 4 ∷ 49 ∷ [])
+    accepted end 1 4 49
     (0 ∷ 1 ∷ 2 ∷ 4 ∷ at ∷ [])
     (1 ∷ 0 ∷ 3 ∷ 0 ∷ 0 ∷ 1 ∷ 3 ∷ 3 ∷ 0 ∷ 0 ∷ 1 ∷ 6 ∷ 39 ∷ 0 ∷ 0 ∷ 3 ∷ 45 ∷ 4 ∷ 3 ∷ 0 ∷ [])
     (utf8 "x:sx:phttp://www.w3.org/2001/XMLSchema#double1.e0")
 
-abbrev string-D7FF : ℕ → ℕ → Short
+abbrev string-D7FF : ℕ → ℕ → Answer
 string-D7FF end at =
-    accepts end (1 ∷ 4 ∷ 48 ∷ [])
+    accepted end 1 4 48
     (0 ∷ 1 ∷ 2 ∷ 4 ∷ at ∷ [])
     (1 ∷ 0 ∷ 3 ∷ 0 ∷ 0 ∷ 1 ∷ 3 ∷ 3 ∷ 0 ∷ 0 ∷ 1 ∷ 6 ∷ 39 ∷ 0 ∷ 0 ∷ 3 ∷ 45 ∷ 3 ∷ 3 ∷ 0 ∷ [])
     (utf8 "x:sx:phttp://www.w3.org/2001/XMLSchema#string\u{d7ff}")
 
-bench : Gives short (
-    trig [] ⇒ accepts 0 (0 ∷ 0 ∷ 0 ∷ []) [] [] []
+abbrev cases : List (Example Call Answer)
+cases =
+    trig [] ⇒ accepted 0 0 0 0 [] [] []
     ∷ trig (S "1.") ⇒ integer-1 14 12
     ∷ trig (S "1.e0.") ⇒ double-1e0 17 12
-    ∷ trig (S "1") ⇒ refuses 8 13
+    ∷ trig (S "1") ⇒ refusal 8 13
     ∷ trig (utf8 "{ " ++ S "1 }") ⇒ integer-1 17 14
-    ∷ turtle (utf8 "{ " ++ S "1 }") ⇒ refuses 8 0
-    ∷ trig (utf8 "(1) .") ⇒ refuses 8 4
-    ∷ trig (S "\"Z\"@base .") ⇒ refuses 8 15
-    ∷ trig (S "true.ex:t .") ⇒ refuses 9 12
-    ∷ trig (utf8 "PREFIX: <x:n#>") ⇒ refuses 9 0
-    ∷ trig (S "<g> .") ⇒ refuses 10 12
-    ∷ trig (S "\"\\uD800\" .") ⇒ refuses 7 12
+    ∷ turtle (utf8 "{ " ++ S "1 }") ⇒ refusal 8 0
+    ∷ trig (utf8 "(1) .") ⇒ refusal 8 4
+    ∷ trig (S "\"Z\"@base .") ⇒ refusal 8 15
+    ∷ trig (S "true.ex:t .") ⇒ refusal 9 12
+    ∷ trig (utf8 "PREFIX: <x:n#>") ⇒ refusal 9 0
+    ∷ trig (S "<g> .") ⇒ refusal 10 12
+    ∷ trig (S "\"\\uD800\" .") ⇒ refusal 7 12
     ∷ trig (S "\"\\uD7FF\" .") ⇒ string-D7FF 22 12
     -- room for one row
-    ∷ with-rows 5 (S "1, 2 .") ⇒ refuses 14 15
-    ∷ [])
+    ∷ with-rows 5 (S "1, 2 .") ⇒ refusal 14 15
+    ∷ []
+
+bench : Gives answered cases
 unfolding computing
 bench = refl
+
+-- What the definition answers, the reader's call does.
+own : (es : List (Example Call Answer)) → Gives answered es → Each es
+own [] e = tt
+own ((c ⇒ a) ∷ es) e =
+    let h : answered c ≡ a = cc in (
+      λ old new r l g. subst (λ (x : Answer). Leaves x old new r) (ap (λ (x : Lent). read (c .document) (c .mode) (c .base) x) l ∙ h) g,
+      own es cc,
+    )
+
+pub reader-bench : Each cases
+reader-bench = own cases bench

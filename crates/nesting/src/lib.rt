@@ -33,7 +33,7 @@ fn skip_semicolons(doc: &&[u8], st: &mut [usize; Layout::WORDS])
 
 // A node of its own tokens alone, or a predicate. It is called from more than one place, so that the compiler does not take it,
 // with what it holds on the stack, into the recursion.
-fn leaf(
+pub fn leaf(
     doc: &&[u8],
     work: &mut &mut [u8],
     rows: &mut &mut [u32],

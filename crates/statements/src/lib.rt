@@ -102,7 +102,7 @@ fn named_graph(
     nodes::pass(doc, st);
     nodes::aim(st, 0, 0, 0, 0, 0);
     if subjects::is_label(st[Words::KIND]) {
-        let c = leaves::put_term(doc, work, rows, terms, store, st);
+        let c = nesting::leaf(doc, work, rows, terms, store, st);
         if c != 0 {
             return c;
         }

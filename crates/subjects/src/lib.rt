@@ -42,7 +42,7 @@ fn term_subject(
     ensures { λ r. ⌜ Subject (now (now (doc .entry))) (held (now (work .entry)) (now (rows .entry)) (now (terms .entry)) (now (store .entry)) (now (st .entry))) (held (now (work .exit)) (now (rows .exit)) (now (terms .exit)) (now (store .exit)) (now (st .exit))) r ⌝ }
 {
     nodes::aim(st, 0, 0, 0, 0, 0);
-    let c = leaves::put_term(doc, work, rows, terms, store, st);
+    let c = nesting::leaf(doc, work, rows, terms, store, st);
     if c != 0 {
         return c;
     }

@@ -12,7 +12,7 @@ use Rattle.nodes.proofs.pass.Reads as pass-reads
 use Rattle.reading.proofs.unexpected.Reads as unexpected-reads
 use Rattle.statements.proofs.graph.Reads as graph-reads
 use Rattle.leaves.proofs.put_bracket.Reads as put-bracket-reads
-use Rattle.leaves.proofs.put_term.Reads as put-term-reads
+use Rattle.nesting.proofs.leaf.Reads as leaf-reads
 use Rattle.subjects.proofs.is_label.Reads as is-label-reads
 
 -- src/lib.rt:171:5
@@ -32,12 +32,12 @@ is-label-requires : tie.Need-is-label-requires
 is-label-requires c κs = search needs
 
 -- src/lib.rt:174:13
-put-term-requires : tie.Need-put-term-requires
-put-term-requires c κs = name-call _ _ _ _ _ _ _ _ (c .before .before .before .before .before .before .before .before .before .before .before .before .pre .0) (c .before .before .before .before .before .before .before .before .before .before .before .before .pre .1) (c .before .before .before .before .before .before .before .before .before .before .pass .ensures) (c .before .before .before .before .before .before .before .before .aim .ensures) _ (c .before .before .before .before .before .before .is-label .ensures) (c .before .before .before .before .before .if1 .taken)
+leaf-requires : tie.Need-leaf-requires
+leaf-requires c κs = let h = name-call _ _ _ _ _ _ _ _ (c .before .before .before .before .before .before .before .before .before .before .before .before .pre .0) (c .before .before .before .before .before .before .before .before .before .before .before .before .pre .1) (c .before .before .before .before .before .before .before .before .before .before .pass .ensures) (c .before .before .before .before .before .before .before .before .aim .ensures) _ (c .before .before .before .before .before .before .is-label .ensures) (c .before .before .before .before .before .if1 .taken) in (h .0, λ _. h .1)
 
 -- src/lib.rt:176:13
 returns : tie.Need-returns
-returns c = name-stop _ _ _ _ _ _ _ _ (c .before .before .before .before .before .before .before .before .before .before .before .before .before .before .pre .0) (c .before .before .before .before .before .before .before .before .before .before .before .before .before .before .pre .1) (c .before .before .before .before .before .before .before .before .before .before .before .before .pass .ensures) (c .before .before .before .before .before .before .before .before .before .before .aim .ensures) _ (c .before .before .before .before .before .before .before .before .is-label .ensures) (c .before .before .before .before .before .before .before .if1 .taken) _ _ (c .before .put-term .ensures) (c .if2 .taken)
+returns c = name-stop _ _ _ _ _ _ _ _ (c .before .before .before .before .before .before .before .before .before .before .before .before .before .before .pre .0) (c .before .before .before .before .before .before .before .before .before .before .before .before .before .before .pre .1) (c .before .before .before .before .before .before .before .before .before .before .before .before .pass .ensures) (c .before .before .before .before .before .before .before .before .before .before .aim .ensures) _ (c .before .before .before .before .before .before .before .before .is-label .ensures) (c .before .before .before .before .before .before .before .if1 .taken) _ _ (c .before .leaf .ensures .puts) (c .if2 .taken)
 
 -- src/lib.rt:178:17
 element-copy-out-n : tie.Need-element-copy-out-n
@@ -45,11 +45,11 @@ element-copy-out-n c = search needs
 
 -- src/lib.rt:179:9
 graph-requires : tie.Need-graph-requires
-graph-requires c κs = name-graph-call _ _ _ _ _ _ _ _ (c .before .before .before .before .before .before .before .before .before .before .before .before .before .before .before .before .before .before .before .before .pre .0) (c .before .before .before .before .before .before .before .before .before .before .before .before .before .before .before .before .before .before .before .before .pre .1) (c .before .before .before .before .before .before .before .before .before .before .before .before .before .before .before .before .before .before .pass .ensures) (c .before .before .before .before .before .before .before .before .before .before .before .before .before .before .before .before .aim .ensures) _ (c .before .before .before .before .before .before .before .before .before .before .before .before .before .before .is-label .ensures) (c .before .before .before .before .before .before .before .before .before .before .before .before .before .if1 .taken) _ _ (c .before .before .before .before .before .before .before .put-term .ensures) (c .before .before .before .before .before .before .if2 .left)
+graph-requires c κs = name-graph-call _ _ _ _ _ _ _ _ (c .before .before .before .before .before .before .before .before .before .before .before .before .before .before .before .before .before .before .before .before .pre .0) (c .before .before .before .before .before .before .before .before .before .before .before .before .before .before .before .before .before .before .before .before .pre .1) (c .before .before .before .before .before .before .before .before .before .before .before .before .before .before .before .before .before .before .pass .ensures) (c .before .before .before .before .before .before .before .before .before .before .before .before .before .before .before .before .aim .ensures) _ (c .before .before .before .before .before .before .before .before .before .before .before .before .before .before .is-label .ensures) (c .before .before .before .before .before .before .before .before .before .before .before .before .before .if1 .taken) _ _ (c .before .before .before .before .before .before .before .leaf .ensures .puts) (c .before .before .before .before .before .before .if2 .left)
 
 -- src/lib.rt:179:9
 returns-2 : tie.Need-returns-2
-returns-2 c = name-graph _ _ _ _ _ _ _ _ (c .before .before .before .before .before .before .before .before .before .before .before .before .before .before .before .before .before .before .before .before .before .pre .0) (c .before .before .before .before .before .before .before .before .before .before .before .before .before .before .before .before .before .before .before .before .before .pre .1) (c .before .before .before .before .before .before .before .before .before .before .before .before .before .before .before .before .before .before .before .pass .ensures) (c .before .before .before .before .before .before .before .before .before .before .before .before .before .before .before .before .before .aim .ensures) _ (c .before .before .before .before .before .before .before .before .before .before .before .before .before .before .before .is-label .ensures) (c .before .before .before .before .before .before .before .before .before .before .before .before .before .before .if1 .taken) _ _ (c .before .before .before .before .before .before .before .before .put-term .ensures) (c .before .before .before .before .before .before .before .if2 .left) _ _ (c .graph .ensures)
+returns-2 c = name-graph _ _ _ _ _ _ _ _ (c .before .before .before .before .before .before .before .before .before .before .before .before .before .before .before .before .before .before .before .before .before .pre .0) (c .before .before .before .before .before .before .before .before .before .before .before .before .before .before .before .before .before .before .before .before .before .pre .1) (c .before .before .before .before .before .before .before .before .before .before .before .before .before .before .before .before .before .before .before .pass .ensures) (c .before .before .before .before .before .before .before .before .before .before .before .before .before .before .before .before .before .aim .ensures) _ (c .before .before .before .before .before .before .before .before .before .before .before .before .before .before .before .is-label .ensures) (c .before .before .before .before .before .before .before .before .before .before .before .before .before .before .if1 .taken) _ _ (c .before .before .before .before .before .before .before .before .leaf .ensures .puts) (c .before .before .before .before .before .before .before .if2 .left) _ _ (c .graph .ensures)
 
 -- src/lib.rt:181:8
 element-copy-out-if3 : tie.Need-element-copy-out-if3
@@ -107,7 +107,7 @@ named-graph-spec =
     aim-requires
     element-copy-out-is-label
     is-label-requires
-    put-term-requires
+    leaf-requires
     returns
     element-copy-out-n
     graph-requires

@@ -1,0 +1,70 @@
+// The high-water mark of a call on a painted stack: no nesting, 64 lists, 64 brackets, both in turn.
+#define _GNU_SOURCE
+#include <stdint.h>
+#include <stdio.h>
+#include <string.h>
+#include <ucontext.h>
+
+#include "sycamoot.h"
+
+enum { STACK = 1 << 20, PAINT = 0xA5 };
+
+static uint8_t stack[STACK] __attribute__((aligned(16)));
+static ucontext_t back, there;
+static uint8_t document[65536], work[SYCAMOOT_WORK_BYTES + 65536];
+static uint32_t rows[65536], terms[65536];
+static uint8_t store[1 << 20];
+static size_t length;
+static sycamoot_answer answer;
+
+static void call(void)
+{
+    const char *base = "x://a/b/c/";
+    answer = sycamoot_read(document, length, (const uint8_t *)base, strlen(base), SYCAMOOT_TRIG, work, sizeof work, rows,
+                           sizeof rows / 4, terms, sizeof terms / 4, store, sizeof store);
+}
+
+static size_t high_water(void)
+{
+    memset(stack, PAINT, STACK);
+    getcontext(&there);
+    there.uc_stack.ss_sp = stack;
+    there.uc_stack.ss_size = STACK;
+    there.uc_link = &back;
+    makecontext(&there, call, 0);
+    swapcontext(&back, &there);
+    size_t i = 0;
+    while (i < STACK && stack[i] == PAINT)
+        i++;
+    return STACK - i;
+}
+
+// `depth` openings of a list (0), a bracket (1) or both in turn (2), around terms of every kind.
+static size_t nested(int kind, int depth)
+{
+    char *p = (char *)document;
+    p += sprintf(p, "@prefix m: <x:m#> . <s> <p> ");
+    for (int i = 0; i < depth; i++)
+        p += sprintf(p, kind == 0 || (kind == 2 && i % 2) ? "( 1 " : "[ <../q> 1 ; m:q ");
+    p += sprintf(p, "\"a\\u0041\"^^<./../type> ");
+    for (int i = depth; i-- > 0;)
+        p += sprintf(p, kind == 0 || (kind == 2 && i % 2) ? "<../../r%d> 'x'@en ) " : ", <../../r%d>, \"y\"^^<d> ] ", i);
+    p += sprintf(p, " .");
+    length = p - (char *)document;
+    return high_water();
+}
+
+int main(void)
+{
+    const char *names[] = {"lists", "brackets", "both in turn"};
+    printf("%-14s%10zu bytes\n", "no nesting", nested(0, 0));
+    for (int kind = 0; kind < 3; kind++) {
+        size_t one = nested(kind, 1), all = nested(kind, SYCAMOOT_DEPTH_LEVELS);
+        if (answer.number) {
+            printf("refused %u at %u\n", answer.number, (unsigned)answer.position);
+            return 1;
+        }
+        printf("%-14s%10zu bytes at depth %d, %zu a level\n", names[kind], all, SYCAMOOT_DEPTH_LEVELS, (all - one) / (SYCAMOOT_DEPTH_LEVELS - 1));
+    }
+    return 0;
+}
