@@ -1,0 +1,189 @@
+//! The compiled library's C interface. Slices are never null, and have any aligned pointer when empty.
+//!
+//! Without the feature `library` the independent reader stands in, so that this package can be tried without the archive.
+
+#[repr(C)]
+#[derive(Clone, Copy, PartialEq, Eq, Debug)]
+pub struct Answer {
+    pub position: u64,
+    pub number: u32,
+    pub rows: u32,
+    pub terms: u32,
+    pub store: u32,
+}
+
+#[repr(C)]
+#[derive(Clone, Copy, PartialEq, Eq, Debug)]
+pub struct Text {
+    pub start: u64,
+    pub length: u64,
+    pub number: u32,
+}
+
+#[repr(C)]
+#[derive(Clone, Copy, PartialEq, Eq, Debug)]
+pub struct Written {
+    pub position: u64,
+    pub number: u32,
+}
+
+#[cfg(feature = "library")]
+pub use compiled::{read, term_text, write};
+#[cfg(not(feature = "library"))]
+pub use stand_in::{read, term_text, write};
+
+#[cfg(feature = "library")]
+mod compiled {
+    use super::{Answer, Text, Written};
+    use crate::reader::long_form::Given;
+    use crate::reader::read::Lent;
+
+    extern "C" {
+        fn sycamoot_read(
+            document: *const u8,
+            document_length: usize,
+            base: *const u8,
+            base_length: usize,
+            mode: u8,
+            work: *mut u8,
+            work_length: usize,
+            rows: *mut u32,
+            row_words: usize,
+            terms: *mut u32,
+            term_words: usize,
+            store: *mut u8,
+            store_length: usize,
+        ) -> Answer;
+
+        fn sycamoot_term_text(
+            terms: *const u32,
+            term_words: usize,
+            term_count: u32,
+            store: *const u8,
+            store_length: usize,
+            store_count: u32,
+            term: u32,
+        ) -> Text;
+
+        fn sycamoot_write(
+            rows: *const u32,
+            row_words: usize,
+            row_count: u32,
+            terms: *const u32,
+            term_words: usize,
+            term_count: u32,
+            store: *const u8,
+            store_length: usize,
+            store_count: u32,
+            out: *mut u8,
+            out_length: usize,
+        ) -> Written;
+    }
+
+    pub fn read(document: &[u8], base: &[u8], mode: u8, lent: Lent) -> Answer {
+        // SAFETY: each pointer and length are one live slice's, and the lent slices are borrowed by this call alone.
+        unsafe {
+            sycamoot_read(
+                document.as_ptr(),
+                document.len(),
+                base.as_ptr(),
+                base.len(),
+                mode,
+                lent.work.as_mut_ptr(),
+                lent.work.len(),
+                lent.rows.as_mut_ptr(),
+                lent.rows.len(),
+                lent.terms.as_mut_ptr(),
+                lent.terms.len(),
+                lent.store.as_mut_ptr(),
+                lent.store.len(),
+            )
+        }
+    }
+
+    pub fn term_text(given: &Given, number: u32) -> Text {
+        // SAFETY: as above.
+        unsafe {
+            sycamoot_term_text(
+                given.terms.as_ptr(),
+                given.terms.len(),
+                given.term_count,
+                given.store.as_ptr(),
+                given.store.len(),
+                given.store_count,
+                number,
+            )
+        }
+    }
+
+    pub fn write(given: &Given, out: &mut [u8]) -> Written {
+        // SAFETY: as above.
+        unsafe {
+            sycamoot_write(
+                given.rows.as_ptr(),
+                given.rows.len(),
+                given.row_count,
+                given.terms.as_ptr(),
+                given.terms.len(),
+                given.term_count,
+                given.store.as_ptr(),
+                given.store.len(),
+                given.store_count,
+                out.as_mut_ptr(),
+                out.len(),
+            )
+        }
+    }
+}
+
+#[cfg(not(feature = "library"))]
+mod stand_in {
+    use super::{Answer, Text, Written};
+    use crate::reader::long_form::{self, Given};
+    use crate::reader::read::{self, Lent, Request};
+
+    pub fn read(document: &[u8], base: &[u8], mode: u8, lent: Lent) -> Answer {
+        let (work, row_words, term_words, store) = (lent.work.len(), lent.rows.len(), lent.terms.len(), lent.store.len());
+        let answer = read::read(&Request { document, base, mode, work, row_words, term_words, store });
+        let of = super::Answer::of(&answer);
+        answer.leave(lent);
+        of
+    }
+
+    pub fn term_text(given: &Given, number: u32) -> Text {
+        Text::of(long_form::term_text(given, number))
+    }
+
+    pub fn write(given: &Given, out: &mut [u8]) -> Written {
+        Written::of(long_form::write(given, out))
+    }
+}
+
+impl Answer {
+    /// The independent reader's answer in the library's form.
+    pub fn of(answer: &crate::reader::read::Answer) -> Self {
+        Answer {
+            position: answer.position as u64,
+            number: answer.number,
+            rows: answer.rows.len() as u32,
+            terms: answer.terms.len() as u32,
+            store: answer.store.len() as u32,
+        }
+    }
+}
+
+impl Text {
+    /// 18 comes with an empty part.
+    pub fn of(part: Option<std::ops::Range<usize>>) -> Self {
+        match part {
+            Some(part) => Text { start: part.start as u64, length: part.len() as u64, number: 0 },
+            None => Text { start: 0, length: 0, number: 18 },
+        }
+    }
+}
+
+impl Written {
+    pub fn of((number, position): (u32, usize)) -> Self {
+        Written { position: position as u64, number }
+    }
+}
