@@ -13,8 +13,14 @@ const GUARD: usize = 13;
 pub struct Guarded<T>(Vec<T>);
 
 impl<T: Copy + PartialEq> Guarded<T> {
-    pub fn new(length: usize, fill: impl FnMut() -> T) -> Self {
-        Guarded(std::iter::repeat_with(fill).take(length + 2 * GUARD).collect())
+    /// A slice and its guards, full of a pattern that is repeated as often as needed.
+    pub fn new(length: usize, pattern: &[T]) -> Self {
+        let whole = length + 2 * GUARD;
+        let mut all = Vec::with_capacity(whole);
+        while all.len() < whole {
+            all.extend_from_slice(&pattern[..pattern.len().min(whole - all.len())]);
+        }
+        Guarded(all)
     }
 
     pub fn lent(&mut self) -> &mut [T] {
@@ -43,16 +49,14 @@ pub struct Memory {
 impl Memory {
     fn new(request: &Request, seed: u64) -> Self {
         let mut random = Random(seed);
-        let first = random.next() as u8;
-        let mut byte = first;
-        let mut next_byte = || {
-            byte = byte.wrapping_add(3);
-            byte | 1
-        };
-        let work = Guarded::new(request.work, &mut next_byte);
-        let store = Guarded::new(request.store, &mut next_byte);
-        let mut word = || random.next() as u32 | 1;
-        Memory { work, rows: Guarded::new(request.row_words, &mut word), terms: Guarded::new(request.term_words, &mut word), store }
+        let words: Vec<u32> = (0..251).map(|_| random.next() as u32 | 0x0101_0101).collect();
+        let bytes: Vec<u8> = words.iter().flat_map(|word| word.to_le_bytes()).collect();
+        Memory {
+            work: Guarded::new(request.work, &bytes),
+            rows: Guarded::new(request.row_words, &words),
+            terms: Guarded::new(request.term_words, &words),
+            store: Guarded::new(request.store, &bytes),
+        }
     }
 
     pub fn lent(&mut self) -> Lent<'_> {

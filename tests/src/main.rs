@@ -1,14 +1,27 @@
 //! Evidence from outside: see USAGE.
 
+mod boundaries;
 mod call;
 mod cases;
+mod compare;
+mod examine;
+mod generate;
 mod json;
+mod known;
 mod library;
+mod limits;
 mod random;
 mod reader;
+mod readings;
+mod room;
+mod statements;
+mod w3c;
 
 const USAGE: &str = "\
-evidence cases PATH                                calls with answers (base.jsonl)";
+evidence cases PATH                                calls with answers (base.jsonl)
+evidence compare --seed N --count N --seconds S    random documents, and documents at the limits
+evidence boundaries                                limits, room, RFC 3986 5.4, readings and the bench table
+evidence w3c PATH                                  the W3C suites (the directory with index.tsv)";
 
 fn main() -> std::process::ExitCode {
     if cfg!(not(feature = "library")) {
@@ -18,6 +31,11 @@ fn main() -> std::process::ExitCode {
     let words: Vec<&str> = arguments.iter().map(String::as_str).collect();
     let good = match words[..] {
         ["cases", path] => cases::run(path),
+        ["compare", "--seed", seed, "--count", count, "--seconds", seconds] => {
+            number(seed).and_then(|seed| Ok(compare::run(seed, number(count)?, number(seconds)?)))
+        }
+        ["boundaries"] => Ok(boundaries::run()),
+        ["w3c", path] => w3c::run(path),
         _ => Err(USAGE.to_string()),
     };
     match good {
@@ -28,4 +46,8 @@ fn main() -> std::process::ExitCode {
             std::process::ExitCode::from(2)
         }
     }
+}
+
+fn number(text: &str) -> Result<u64, String> {
+    text.parse().map_err(|_| format!("{text} is no number"))
 }
