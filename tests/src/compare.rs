@@ -48,12 +48,12 @@ pub fn run(seed: u64, count: u64, seconds: u64) -> bool {
 }
 
 fn table(tally: &Tally, time: Duration) {
-    println!("documents    {} ({} accepted) in {} s", tally.documents, tally.accepted, time.as_secs());
-    println!("reads        {}", tally.reads);
-    println!("writes       {}", tally.writes);
-    println!("term texts   {}", tally.texts);
-    let numbers: Vec<String> = (0..17).map(|n| format!("{n}: {}", tally.numbers[n])).collect();
-    println!("answers      {}", numbers.join(", "));
+    println!("documents    {} ({} accepted, {} with every room) in {} s", tally.documents, tally.accepted, tally.every_room, time.as_secs());
+    for (name, numbers) in [("reads", &tally.reads[..]), ("writes", &tally.writes), ("term texts", &tally.texts)] {
+        let answers: Vec<String> =
+            numbers.iter().enumerate().filter(|(_, &count)| count > 0).map(|(number, count)| format!("{number}: {count}")).collect();
+        println!("{name:12} {} ({})", numbers.iter().sum::<u64>(), answers.join(", "));
+    }
 }
 
 /// Prints a small document that still makes a difference.

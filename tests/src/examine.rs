@@ -13,10 +13,12 @@ use crate::statements::{self, Naming};
 pub struct Tally {
     pub documents: u64,
     pub accepted: u64,
-    pub reads: u64,
-    pub writes: u64,
-    pub texts: u64,
-    pub numbers: [u64; 19],
+    /// Documents to which every smaller size of each table was lent.
+    pub every_room: u64,
+    /// Reads by the number answered, and writes and texts likewise.
+    pub reads: [u64; 17],
+    pub writes: [u64; 19],
+    pub texts: [u64; 19],
 }
 
 /// Up to so many sizes, every size of the tables is lent.
@@ -29,7 +31,6 @@ pub fn examine(subject: &Subject, seed: u64, every_room: bool, tally: &mut Tally
     let mut examiner = Examiner { subject, random: Random(seed), tally };
     examiner.tally.documents += 1;
     let answer = examiner.ample()?;
-    examiner.tally.numbers[answer.number as usize] += 1;
     examiner.work_sizes(&answer)?;
     if answer.number != 0 {
         return examiner.little_room();
@@ -60,9 +61,11 @@ fn difference<T>(call: impl Into<String>, library: impl std::fmt::Debug, wanted:
 
 impl Examiner<'_> {
     fn read(&mut self, work: usize, row_words: usize, term_words: usize, store: usize) -> Result<Answer, Difference> {
-        self.tally.reads += 1;
         let Subject { document, base, mode } = self.subject;
-        call::compare(&Request { document, base, mode: *mode, work, row_words, term_words, store }, self.random.next())
+        let request = Request { document, base, mode: *mode, work, row_words, term_words, store };
+        let answer = call::compare(&request, self.random.next())?;
+        self.tally.reads[answer.number as usize] += 1;
+        Ok(answer)
     }
 
     /// A read with room for all that the document can write.
@@ -136,6 +139,7 @@ impl Examiner<'_> {
         if rows + terms + store > EVERY_ROOM_UP_TO {
             return Ok(());
         }
+        self.tally.every_room += 1;
         for words in 0..rows {
             self.expect(14, words, terms, store)?;
             let (other, bytes) = (self.random.below(terms + 1), self.random.below(store + 1));
@@ -173,7 +177,6 @@ impl Examiner<'_> {
 
     /// Writes by both into a buffer of some length; both answers and all bytes are equal.
     fn write(&mut self, given: &Given, length: usize) -> Result<(Written, Vec<u8>), Difference> {
-        self.tally.writes += 1;
         let mut theirs = Guarded::new(length, &self.random.next().to_le_bytes());
         let mut ours = theirs.clone();
         let wanted = Written::of(long_form::write(given, ours.lent()));
@@ -183,7 +186,10 @@ impl Examiner<'_> {
         }
         match theirs.difference(&ours) {
             Some(place) => difference(format!("write into {length} bytes"), format!("{written:?}, but bytes differ at {place}"), wanted),
-            None => Ok((written, ours.lent()[..written.position as usize].to_vec())),
+            None => {
+                self.tally.writes[written.number as usize] += 1;
+                Ok((written, ours.lent()[..written.position as usize].to_vec()))
+            }
         }
     }
 
@@ -219,11 +225,11 @@ impl Examiner<'_> {
     }
 
     fn text(&mut self, given: &Given, number: u32) -> Result<(), Difference> {
-        self.tally.texts += 1;
         let (text, wanted) = (library::term_text(given, number), Text::of(long_form::term_text(given, number)));
         if text != wanted {
             return difference(format!("text of term {number}"), text, wanted);
         }
+        self.tally.texts[text.number as usize] += 1;
         Ok(())
     }
 
@@ -297,7 +303,8 @@ fn sizes(answer: &Answer) -> (usize, usize, usize) {
 
 /// A length that every answer's long form fits: each byte of a text may become six.
 fn longest_long_form(answer: &Answer) -> usize {
-    let term = |number: u32| if number == 0 { 0 } else { answer.terms[number as usize - 1][2] as usize + answer.terms[number as usize - 1][4] as usize };
+    let term =
+        |number: u32| if number == 0 { 0 } else { answer.terms[number as usize - 1][2] as usize + answer.terms[number as usize - 1][4] as usize };
     let datatype = |number: u32| match answer.terms[number as usize - 1] {
         [3, _, _, datatype, _] => term(datatype),
         _ => 0,

@@ -16,27 +16,27 @@ const RELATIVE: &[&str] = &[
 ];
 const PREFIXES: &[&str] = &["", "m", "a", "true", "PREFIX", "base", "graph", "é", "m.n", "x-1", "e", "b"];
 const LOCALS: &[&str] = &[
-    "", "a", "b", "a.b", "a..b", "1", ":", ":a", "%41", "%aF.", "\\-", "\\.", "a\\.", "\\~\\!\\$\\&\\'\\(\\)\\*\\+\\,\\;\\=\\/\\?\\#\\@\\%\\_", "é", "a\u{b7}",
-    "a-b", "_", "0e1", "a.", "\\/..\\/",
+    "", "a", "b", "a.b", "a..b", "1", ":", ":a", "%41", "%aF.", "\\-", "\\.", "a\\.", "\\~\\!\\$\\&\\'\\(\\)\\*\\+\\,\\;\\=\\/\\?\\#\\@\\%\\_", "é",
+    "a\u{b7}", "a-b", "_", "0e1", "a.", "\\/..\\/",
 ];
 const LABELS: &[&str] = &["a", "b", "b0", "b1", "0", "_", "a.b", "é", "a-b", "a\u{b7}"];
 const TAGS: &[&str] = &["en", "EN", "de-CH", "a-1-b2", "base-x", "BASE", "prefix-1", "Prefix"];
-const NUMBERS: &[&str] = &[
-    "1", "01", "+1", "-1", "0", "1.5", ".5", "-.5", "+0.50", "1e0", "1.e0", "1.5E-3", ".5e+1", "-1e10", "123456789012345678901234567890",
-];
+const NUMBERS: &[&str] =
+    &["1", "01", "+1", "-1", "0", "1.5", ".5", "-.5", "+0.50", "1e0", "1.e0", "1.5E-3", ".5e+1", "-1e10", "123456789012345678901234567890"];
 const TEXTS: &[&str] = &[
-    "", "a", "b", "open", "a b", "é", "\u{10ffff}", "\u{fffd}", "\\t\\b\\n\\r\\f\\\"\\'\\\\", "\\u0061", "\\U00000061", "\\u00E9", "\\U0001F600", "\\\\u0061", "#", "<x:>",
-    "\\u0000", "\\uD7FF", "\\uE000", "\t", "7", "true",
+    "", "a", "b", "open", "a b", "é", "\u{10ffff}", "\u{fffd}", "\\t\\b\\n\\r\\f\\\"\\'\\\\", "\\u0061", "\\U00000061", "\\u00E9", "\\U0001F600",
+    "\\\\u0061", "#", "<x:>", "\\u0000", "\\uD7FF", "\\uE000", "\t", "7", "true",
 ];
 /// Texts that long strings alone may have.
 const LONG_TEXTS: &[&str] = &["\n", "\r\n", "a\nb"];
 const BASES: &[&str] = &["http://a/b/c/d;p?q", "x:y", "x:", "http://h", "x:/a/../b#f", "x://h?q", "x:y/z"];
 /// Tokens and scraps to put into a damaged document.
 const SCRAPS: &[&str] = &[
-    ".", ";", ",", "[", "]", "(", ")", "{", "}", "^^", "a", "true", "false", "GRAPH", "graph ", "PREFIX", "BASE", "@prefix", "@base", "@en", "@", "\"", "'",
-    "\"\"\"", "''", "\"a\"", "<", ">", "<x:a>", "<g>", "m:", ":", "_:", "_:a", "1", "1.", ".5", "e", "E1", "+", "-", "#", "\n", "\r", " ", "\\", "|", "%", "%4",
-    "\\uD800", "\\uDFFF", "\\U00110000", "\\uE000", "\\u12", "<x:\\uD800>", "\"\\uDC00\"", "\u{feff}", "\u{b7}", "\u{300}", "\u{d7}", "\u{2000}", "\u{203f}", "\u{e000}",
-    "\u{c}", "[]", "()", "[ a 1 ]", "( 1 )", "nope:a", "@prefix m: <x:n#> .", "BASE <x:/>", "{}", "a a", "true.ex:t",
+    ".", ";", ",", "[", "]", "(", ")", "{", "}", "^^", "a", "true", "false", "GRAPH", "graph ", "PREFIX", "BASE", "@prefix", "@base", "@en", "@",
+    "\"", "'", "\"\"\"", "''", "\"a\"", "<", ">", "<x:a>", "<g>", "m:", ":", "_:", "_:a", "1", "1.", ".5", "e", "E1", "+", "-", "#", "\n", "\r", " ",
+    "\\", "|", "%", "%4", "\\uD800", "\\uDFFF", "\\U00110000", "\\uE000", "\\u12", "<x:\\uD800>", "\"\\uDC00\"", "\u{feff}", "\u{b7}", "\u{300}",
+    "\u{d7}", "\u{2000}", "\u{203f}", "\u{e000}", "\u{c}", "[]", "()", "[ a 1 ]", "( 1 )", "nope:a", "@prefix m: <x:n#> .", "BASE <x:/>", "{}",
+    "a a", "true.ex:t",
 ];
 
 /// A document and what is lent with it, memory aside.
@@ -50,20 +50,30 @@ pub struct Subject {
 /// A random document, one in two damaged.
 pub fn subject(random: &mut Random) -> Subject {
     let mode = u8::from(random.once_in(2));
-    let base: &[u8] = if random.once_in(2) { random.pick(BASES).as_bytes() } else { b"" };
+    let mut base = if random.once_in(2) { random.pick(BASES).as_bytes().to_vec() } else { Vec::new() };
     let mut document = document(random, mode, !base.is_empty());
     match random.below(8) {
         0 | 1 => damage_tokens(random, &mut document),
         2 | 3 => damage_bytes(random, &mut document),
         _ => {}
     }
-    // A document is read in the other mode once in a while.
-    let mode = if random.once_in(12) { 1 - mode } else { mode };
-    Subject { document, base: base.to_vec(), mode }
+    if random.once_in(40) {
+        damage_bytes(random, &mut base);
+    }
+    // A document is read in the other mode once in a while, or in none.
+    let mode = match random.below(300) {
+        0 => 2 + random.below(254) as u8,
+        1..=25 => 1 - mode,
+        _ => mode,
+    };
+    Subject { document, base, mode }
 }
 
 fn document(random: &mut Random, mode: u8, base: bool) -> Vec<u8> {
     let mut generator = Generator { random, out: Vec::new(), prefixes: Vec::new(), base, depth: 0 };
+    if generator.random.once_in(100) {
+        generator.many_prefixes();
+    }
     for _ in 0..generator.random.below(7) {
         match generator.random.below(6) {
             0 | 1 => generator.directive(),
@@ -101,8 +111,7 @@ impl Generator<'_> {
     }
 
     fn keyword(&mut self, word: &str) {
-        let text: String =
-            word.chars().map(|c| if self.random.once_in(3) { c.to_ascii_lowercase() } else { c }).collect();
+        let text: String = word.chars().map(|c| if self.random.once_in(3) { c.to_ascii_lowercase() } else { c }).collect();
         self.token(&text);
     }
 
@@ -126,6 +135,16 @@ impl Generator<'_> {
         }
         if old {
             self.token(".");
+        }
+    }
+
+    /// About as many prefixes as there may be.
+    fn many_prefixes(&mut self) {
+        for i in 0..25 + self.random.below(9) {
+            self.keyword("PREFIX");
+            self.token(&format!("p{i}:"));
+            self.token(&format!("<x:{i}>"));
+            self.prefixes.push(format!("p{i}"));
         }
     }
 
@@ -204,6 +223,9 @@ impl Generator<'_> {
 
     fn object(&mut self) {
         let nested = self.depth < 6;
+        if nested && self.random.once_in(300) {
+            return self.deep();
+        }
         match self.random.below(16) {
             0 | 1 if nested => drop(self.collection()),
             2 | 3 if nested => drop(self.bracket()),
@@ -211,6 +233,24 @@ impl Generator<'_> {
             5..=7 => self.number(),
             8..=11 => self.string(),
             _ => self.iri(),
+        }
+    }
+
+    /// Lists and brackets about as deep as they may be.
+    fn deep(&mut self) {
+        let levels = 55 + self.random.below(11);
+        let lists: Vec<bool> = (0..levels).map(|_| self.random.once_in(2)).collect();
+        for &list in &lists {
+            self.token(if list { "(" } else { "[" });
+            if !list || self.random.once_in(4) {
+                self.iri();
+            }
+        }
+        for &list in lists.iter().rev() {
+            if !list && self.out.last() != Some(&b']') && self.out.last() != Some(&b')') {
+                self.number();
+            }
+            self.token(if list { ")" } else { "]" });
         }
     }
 
@@ -252,6 +292,7 @@ impl Generator<'_> {
     fn reference(&mut self) {
         let relative = if self.base { self.random.once_in(2) } else { self.random.once_in(60) };
         let text = match (relative, self.random.below(4)) {
+            (_, 0) if self.random.once_in(20) => self.long_reference(relative),
             (true, 0) => self.random_reference(),
             (true, _) => self.random.pick(RELATIVE).to_string(),
             (false, _) => self.random.pick(ABSOLUTE).to_string(),
@@ -264,6 +305,16 @@ impl Generator<'_> {
     fn random_reference(&mut self) -> String {
         const CHARACTERS: &[char] = &['.', '.', '.', '/', '/', '/', '?', '#', ':', 'a', 'b'];
         (0..self.random.below(14)).map(|_| *self.random.pick(CHARACTERS)).collect()
+    }
+
+    /// A reference about as long as it may be.
+    fn long_reference(&mut self, relative: bool) -> String {
+        let part = *self.random.pick(&["a", "./", "../", "a/", "é", "/../a"]);
+        let length = 990 + self.random.below(40);
+        let scheme = if relative { "" } else { "x:" };
+        let parts = part.repeat((length - scheme.len()) / part.len());
+        let rest = "b".repeat(length - scheme.len() - parts.len());
+        format!("{scheme}{parts}{rest}")
     }
 
     /// Some characters as numeric escapes, and sometimes one that an IRIREF forbids.

@@ -15,7 +15,11 @@ pub fn parse(line: &str) -> Result<Value, String> {
     let mut parser = Parser { text: line.as_bytes(), place: 0 };
     let value = parser.value()?;
     parser.blanks();
-    if parser.place == line.len() { Ok(value) } else { Err(parser.fault()) }
+    if parser.place == line.len() {
+        Ok(value)
+    } else {
+        Err(parser.fault())
+    }
 }
 
 struct Parser<'a> {
@@ -43,7 +47,11 @@ impl Parser<'_> {
     }
 
     fn expect(&mut self, mark: u8) -> Result<(), String> {
-        if self.mark(mark) { Ok(()) } else { Err(self.fault()) }
+        if self.mark(mark) {
+            Ok(())
+        } else {
+            Err(self.fault())
+        }
     }
 
     fn value(&mut self) -> Result<Value, String> {

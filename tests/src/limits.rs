@@ -98,7 +98,11 @@ fn prefixes(limits: &mut Limits) {
     let length = declared(32).len();
     limits.add("32 prefixes", [&declared(32)[..], b"p0:a p31:b p15:c ."].concat(), Accepted);
     limits.add("33 prefixes", declared(33), Refused(12, length + "PREFIX p32: ".len()));
-    limits.add("33 prefixes, the empty one counted", [b"@prefix : <x:> .", &declared(32)[..]].concat(), Refused(12, 16 + declared(31).len() + "PREFIX p31: ".len()));
+    limits.add(
+        "33 prefixes, the empty one counted",
+        [b"@prefix : <x:> .", &declared(32)[..]].concat(),
+        Refused(12, 16 + declared(31).len() + "PREFIX p31: ".len()),
+    );
     limits.add("one declared twice at 32", [&declared(32)[..], b"PREFIX p7: <x:new#> p7:a p31:b p15:c ."].concat(), Accepted);
     limits.add("10 before 12", [&declared(32)[..], b"PREFIX q: <g>"].concat(), Refused(10, length + 10));
     limits.add("11 before 12", [&declared(32)[..], b"PREFIX q: <x:", &b"a".repeat(1023), b">"].concat(), Refused(11, length + 10));

@@ -115,3 +115,29 @@ fn extend<'a>(
         }
     })
 }
+
+#[cfg(test)]
+mod tests {
+    use super::*;
+
+    fn edges(pairs: &[(&str, &str)]) -> BTreeSet<Quad> {
+        let blank = |name: &str| Node::Blank(name.into());
+        pairs.iter().map(|(from, to)| [Node::DefaultGraph, blank(from), Node::Iri(b"x:p".to_vec()), blank(to)]).collect()
+    }
+
+    #[test]
+    fn renaming_is_found_where_there_is_one() {
+        let ring = edges(&[("a", "b"), ("b", "c"), ("c", "a")]);
+        assert!(same_up_to_renaming(&ring, &edges(&[("y", "x"), ("z", "y"), ("x", "z")])));
+        assert!(same_up_to_renaming(&edges(&[]), &edges(&[])));
+    }
+
+    /// Six nodes with one edge in and out each: colours agree, and no renaming does.
+    #[test]
+    fn equal_colours_are_not_enough() {
+        let one_ring = edges(&[("a", "b"), ("b", "c"), ("c", "d"), ("d", "e"), ("e", "f"), ("f", "a")]);
+        let two_rings = edges(&[("a", "b"), ("b", "c"), ("c", "a"), ("d", "e"), ("e", "f"), ("f", "d")]);
+        assert!(!same_up_to_renaming(&one_ring, &two_rings));
+        assert!(!same_up_to_renaming(&edges(&[("a", "a")]), &edges(&[("a", "b")])));
+    }
+}

@@ -27,8 +27,7 @@ static TRIG_DOC: Part = Star(&Alt(&[Ref(&DIRECTIVE), Ref(&BLOCK)]));
 static BLOCK: Part =
     Alt(&[Ref(&TRIPLES_OR_GRAPH), Ref(&WRAPPED_GRAPH), Ref(&TRIPLES2), Seq(&[T(Kind::Graph), Ref(&LABEL_OR_SUBJECT), Ref(&WRAPPED_GRAPH)])]);
 /// [3g] triplesOrGraph ::= labelOrSubject (wrappedGraph | predicateObjectList '.')
-static TRIPLES_OR_GRAPH: Part =
-    Seq(&[Ref(&LABEL_OR_SUBJECT), Alt(&[Ref(&WRAPPED_GRAPH), Seq(&[Ref(&PREDICATE_OBJECT_LIST), T(Kind::Dot)])])]);
+static TRIPLES_OR_GRAPH: Part = Seq(&[Ref(&LABEL_OR_SUBJECT), Alt(&[Ref(&WRAPPED_GRAPH), Seq(&[Ref(&PREDICATE_OBJECT_LIST), T(Kind::Dot)])])]);
 /// [4g] triples2 ::= blankNodePropertyList predicateObjectList? '.' | collection predicateObjectList '.'
 static TRIPLES2: Part = Alt(&[
     Seq(&[Ref(&BLANK_NODE_PROPERTY_LIST), Opt(&PREDICATE_OBJECT_LIST), T(Kind::Dot)]),
@@ -48,16 +47,11 @@ static DIRECTIVE: Part = Alt(&[
     Seq(&[T(Kind::Base), T(Kind::IriRef)]),
 ]);
 /// [6] triples ::= subject predicateObjectList | blankNodePropertyList predicateObjectList?
-static TRIPLES: Part = Alt(&[
-    Seq(&[Ref(&SUBJECT), Ref(&PREDICATE_OBJECT_LIST)]),
-    Seq(&[Ref(&BLANK_NODE_PROPERTY_LIST), Opt(&PREDICATE_OBJECT_LIST)]),
-]);
+static TRIPLES: Part =
+    Alt(&[Seq(&[Ref(&SUBJECT), Ref(&PREDICATE_OBJECT_LIST)]), Seq(&[Ref(&BLANK_NODE_PROPERTY_LIST), Opt(&PREDICATE_OBJECT_LIST)])]);
 /// [7] predicateObjectList ::= verb objectList (';' (verb objectList)?)*
-static PREDICATE_OBJECT_LIST: Part = Seq(&[
-    Ref(&VERB),
-    Ref(&OBJECT_LIST),
-    Star(&Seq(&[T(Kind::Semicolon), Opt(&Seq(&[Ref(&VERB), Ref(&OBJECT_LIST)]))])),
-]);
+static PREDICATE_OBJECT_LIST: Part =
+    Seq(&[Ref(&VERB), Ref(&OBJECT_LIST), Star(&Seq(&[T(Kind::Semicolon), Opt(&Seq(&[Ref(&VERB), Ref(&OBJECT_LIST)]))]))]);
 /// [8] objectList ::= object (',' object)*
 static OBJECT_LIST: Part = Seq(&[Ref(&OBJECT), Star(&Seq(&[T(Kind::Comma), Ref(&OBJECT)]))]);
 /// [9] verb ::= predicate | 'a', with [11] predicate ::= iri
@@ -67,8 +61,7 @@ static SUBJECT: Part = Alt(&[Ref(&IRI), Ref(&BLANK)]);
 /// [12] object ::= iri | blank | blankNodePropertyList | literal
 static OBJECT: Part = Alt(&[Ref(&IRI), Ref(&BLANK), Ref(&BLANK_NODE_PROPERTY_LIST), Ref(&LITERAL)]);
 /// [13] literal ::= RDFLiteral | NumericLiteral | BooleanLiteral, with [17] and [133s]
-static LITERAL: Part =
-    Alt(&[Ref(&RDF_LITERAL), T(Kind::Integer), T(Kind::Decimal), T(Kind::Double), T(Kind::True), T(Kind::False)]);
+static LITERAL: Part = Alt(&[Ref(&RDF_LITERAL), T(Kind::Integer), T(Kind::Decimal), T(Kind::Double), T(Kind::True), T(Kind::False)]);
 /// [14] blank ::= BlankNode | collection
 static BLANK: Part = Alt(&[Ref(&BLANK_NODE), Ref(&COLLECTION)]);
 /// [15] blankNodePropertyList ::= '[' predicateObjectList ']'
@@ -145,7 +138,7 @@ fn advance(stack: &Stack, kind: Kind, after: &mut Vec<Stack>) {
 }
 
 fn can_end(stack: &Stack) -> bool {
-    stack.as_ref().map_or(true, |cell| can_be_empty(cell.part) && can_end(&cell.below))
+    stack.as_ref().is_none_or(|cell| can_be_empty(cell.part) && can_end(&cell.below))
 }
 
 fn can_be_empty(part: &Part) -> bool {

@@ -83,8 +83,11 @@ fn skip_blanks(document: &[u8], mut place: usize) -> usize {
     place
 }
 
+/// Gives the length of a terminal at the front of a text: the longest, where there are several.
+type Matcher = fn(&[u8]) -> Option<usize>;
+
 /// Matchers in order; of equally long matches the first wins, so `@prefix` and `@base` are keywords.
-const MATCHERS: [(Kind, fn(&[u8]) -> Option<usize>); 27] = [
+const MATCHERS: [(Kind, Matcher); 27] = [
     (Kind::AtPrefix, |t| exact(t, b"@prefix")),
     (Kind::AtBase, |t| exact(t, b"@base")),
     (Kind::Prefix, |t| any_case(t, b"PREFIX")),
@@ -118,7 +121,7 @@ fn longest(text: &[u8]) -> Option<(Kind, usize)> {
     let mut best: Option<(Kind, usize)> = None;
     for (kind, matcher) in MATCHERS {
         if let Some(length) = matcher(text) {
-            if best.map_or(true, |(_, most)| length > most) {
+            if best.is_none_or(|(_, most)| length > most) {
                 best = Some((kind, length));
             }
         }
@@ -316,11 +319,7 @@ fn pname_ln(text: &[u8]) -> Option<usize> {
 fn pn_local(text: &[u8]) -> Option<usize> {
     let colon = |c| c == u32::from(b':');
     let digit = |c| (0x30..=0x39).contains(&c);
-    name(
-        text,
-        |t| one(t, |c| pn_chars_u(c) || colon(c) || digit(c)).or_else(|| plx(t)),
-        |t| one(t, |c| pn_chars(c) || colon(c)).or_else(|| plx(t)),
-    )
+    name(text, |t| one(t, |c| pn_chars_u(c) || colon(c) || digit(c)).or_else(|| plx(t)), |t| one(t, |c| pn_chars(c) || colon(c)).or_else(|| plx(t)))
 }
 
 /// [169s] PLX ::= PERCENT | PN_LOCAL_ESC

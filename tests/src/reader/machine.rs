@@ -209,7 +209,11 @@ impl<'a> Machine<'a> {
     }
 
     fn may_open(&self) -> Result<(), Refusal> {
-        if self.top() == DEEPEST { Err(13) } else { Ok(()) }
+        if self.top() == DEEPEST {
+            Err(13)
+        } else {
+            Ok(())
+        }
     }
 
     fn close_paren(&mut self, position: usize) {
