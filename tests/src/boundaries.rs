@@ -121,6 +121,7 @@ pub fn run() -> bool {
     let groups = [
         ("bench table of 01", bench()),
         ("limits", limits::all()),
+        ("longer work slices", limits::work_lengths()),
         ("room, cut behind each token", room::exact()),
         ("room, every size", room::every()),
         ("RFC 3986, 5.4", rfc_3986()),

@@ -31,7 +31,7 @@ pub fn examine(subject: &Subject, seed: u64, every_room: bool, tally: &mut Tally
     let mut examiner = Examiner { subject, random: Random(seed), tally };
     examiner.tally.documents += 1;
     let answer = examiner.ample()?;
-    examiner.work_sizes(&answer)?;
+    examiner.short_work()?;
     if answer.number != 0 {
         return examiner.little_room();
     }
@@ -60,7 +60,12 @@ fn difference<T>(call: impl Into<String>, library: impl std::fmt::Debug, wanted:
 }
 
 impl Examiner<'_> {
-    fn read(&mut self, work: usize, row_words: usize, term_words: usize, store: usize) -> Result<Answer, Difference> {
+    fn read(&mut self, row_words: usize, term_words: usize, store: usize) -> Result<Answer, Difference> {
+        let work = self.work_length();
+        self.read_with(work, row_words, term_words, store)
+    }
+
+    fn read_with(&mut self, work: usize, row_words: usize, term_words: usize, store: usize) -> Result<Answer, Difference> {
         let Subject { document, base, mode } = self.subject;
         let request = Request { document, base, mode: *mode, work, row_words, term_words, store };
         let answer = call::compare(&request, self.random.next())?;
@@ -73,23 +78,27 @@ impl Examiner<'_> {
         let length = self.subject.document.len();
         let words = (10 * length).min(MOST_WORDS) + self.random.below(12);
         let store = (50 * length).min(LONGEST_DOCUMENT + 500) + 500 + self.random.below(12);
-        self.read(LEAST_WORK, words, words, store)
+        self.read(words, words, store)
     }
 
-    /// A longer work slice changes nothing, and a shorter one is refused before the document is looked at.
-    fn work_sizes(&mut self, answer: &Answer) -> Result<(), Difference> {
-        if !self.random.once_in(8) {
-            return Ok(());
+    /// Work slices of several lengths: a longer one changes nothing.
+    fn work_length(&mut self) -> usize {
+        LEAST_WORK
+            + match self.random.below(8) {
+                0..=3 => 0,
+                4 | 5 => self.random.below(100),
+                6 => self.random.below(10_000),
+                _ => 4 * self.random.below(10_000),
+            }
+    }
+
+    /// A shorter work slice is refused before the document is looked at.
+    fn short_work(&mut self) -> Result<(), Difference> {
+        if self.random.once_in(8) {
+            self.read_with(LEAST_WORK - 1, 1000, 1000, 1000)?;
+            let shorter = self.random.below(LEAST_WORK);
+            self.read_with(shorter, 1000, 1000, 1000)?;
         }
-        let (rows, terms, store) = if answer.number == 0 { sizes(answer) } else { (1000, 1000, 1000) };
-        let longer = LEAST_WORK + self.random.below(600);
-        let same = self.read(longer, rows, terms, store)?;
-        if answer.number == 0 && same != *answer {
-            return difference(format!("read with a work slice of {longer}"), same, answer);
-        }
-        self.read(LEAST_WORK - 1, rows, terms, store)?;
-        let shorter = self.random.below(LEAST_WORK);
-        self.read(shorter, rows, terms, store)?;
         Ok(())
     }
 
@@ -98,10 +107,10 @@ impl Examiner<'_> {
         for _ in 0..3 {
             let (rows, terms, store) = (self.random.below(40), self.random.below(60), self.random.below(200));
             match self.random.below(4) {
-                0 => self.read(LEAST_WORK, rows, 2000, 5000)?,
-                1 => self.read(LEAST_WORK, 2000, terms, 5000)?,
-                2 => self.read(LEAST_WORK, 2000, 2000, store)?,
-                _ => self.read(LEAST_WORK, rows, terms, store)?,
+                0 => self.read(rows, 2000, 5000)?,
+                1 => self.read(2000, terms, 5000)?,
+                2 => self.read(2000, 2000, store)?,
+                _ => self.read(rows, terms, store)?,
             };
         }
         Ok(())
@@ -126,7 +135,7 @@ impl Examiner<'_> {
     }
 
     fn expect(&mut self, number: u32, rows: usize, terms: usize, store: usize) -> Result<(), Difference> {
-        let answer = self.read(LEAST_WORK, rows, terms, store)?;
+        let answer = self.read(rows, terms, store)?;
         if answer.number != number {
             return difference(format!("read with rows {rows}, terms {terms} words, store {store}"), answer.number, number);
         }
@@ -143,12 +152,12 @@ impl Examiner<'_> {
         for words in 0..rows {
             self.expect(14, words, terms, store)?;
             let (other, bytes) = (self.random.below(terms + 1), self.random.below(store + 1));
-            self.read(LEAST_WORK, words, other, bytes)?;
+            self.read(words, other, bytes)?;
         }
         for words in 0..terms {
             self.expect(15, rows, words, store)?;
             let bytes = self.random.below(store + 1);
-            self.read(LEAST_WORK, rows, words, bytes)?;
+            self.read(rows, words, bytes)?;
         }
         for bytes in 0..store {
             self.expect(16, rows, terms, bytes)?;

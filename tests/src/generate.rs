@@ -74,6 +74,9 @@ fn document(random: &mut Random, mode: u8, base: bool) -> Vec<u8> {
     if generator.random.once_in(100) {
         generator.many_prefixes();
     }
+    if generator.random.once_in(100) {
+        generator.many_terms();
+    }
     for _ in 0..generator.random.below(7) {
         match generator.random.below(6) {
             0 | 1 => generator.directive(),
@@ -145,6 +148,29 @@ impl Generator<'_> {
             self.token(&format!("p{i}:"));
             self.token(&format!("<x:{i}>"));
             self.prefixes.push(format!("p{i}"));
+        }
+    }
+
+    /// So many terms that finding one again takes some search.
+    fn many_terms(&mut self) {
+        let count = 2 + self.random.below(300);
+        for _ in 0..count {
+            let term = |random: &mut Random| match random.below(4) {
+                0 => format!("_:b{}", random.below(count)),
+                _ => format!("<x:{}>", random.below(count)),
+            };
+            let subject = term(self.random);
+            self.token(&subject);
+            let predicate = format!("<x:p{}>", self.random.below(4));
+            self.token(&predicate);
+            let object = match self.random.below(4) {
+                0 => format!("\"{}\"", self.random.below(count)),
+                1 => format!("\"{}\"@en", self.random.below(count)),
+                2 => self.random.below(count).to_string(),
+                _ => term(self.random),
+            };
+            self.token(&object);
+            self.token(".");
         }
     }
 

@@ -185,3 +185,13 @@ fn order_of_checks(limits: &mut Limits) {
         add(call(&format!("work of {work}, every cell"), full_prefixes(), Accepted).work(work));
     }
 }
+
+/// A longer work slice must not change an answer, however many terms have to be found again.
+pub fn work_lengths() -> Vec<Known> {
+    let document: String = (0..1500).map(|i| format!("<x:{}> <x:p> \"{}\", _:b{} .\n", i % 700, i % 400, i % 300)).collect();
+    let call = |more: usize| {
+        let work = LEAST_WORK + more;
+        known::accepted(format!("1,402 terms, work of {work}"), document.as_bytes()).rows(15_000).work(work)
+    };
+    (0..24).chain([100, 1023, 4095, 4096, 20_000, 100_000, 1_000_000]).map(call).collect()
+}
