@@ -5,6 +5,7 @@ mod call;
 mod cases;
 mod compare;
 mod examine;
+mod exhaustive;
 mod generate;
 mod json;
 mod known;
@@ -20,6 +21,7 @@ mod w3c;
 const USAGE: &str = "\
 evidence cases PATH                                calls with answers (base.jsonl)
 evidence compare --seed N --count N --seconds S    random documents, and documents at the limits
+evidence exhaustive                                all small documents of several kinds, every character
 evidence boundaries                                limits, room, RFC 3986 5.4, readings and the bench table
 evidence w3c PATH                                  the W3C suites (the directory with index.tsv)";
 
@@ -34,6 +36,7 @@ fn main() -> std::process::ExitCode {
         ["compare", "--seed", seed, "--count", count, "--seconds", seconds] => {
             number(seed).and_then(|seed| Ok(compare::run(seed, number(count)?, number(seconds)?)))
         }
+        ["exhaustive"] => Ok(exhaustive::run()),
         ["boundaries"] => Ok(boundaries::run()),
         ["w3c", path] => w3c::run(path),
         _ => Err(USAGE.to_string()),
