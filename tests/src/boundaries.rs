@@ -1,10 +1,12 @@
 //! `boundaries`: what document 01 has "run and compared", each call with its known answer.
 
+use crate::call::Difference;
 use crate::known::{accepted, known, Known};
 use crate::limits;
 use crate::readings;
 use crate::room;
 use crate::statements::Node;
+use crate::written;
 
 const S: &str = "<x:s> <x:p> ";
 const RFC_BASE: &str = "http://a/b/c/d;p?q";
@@ -128,19 +130,30 @@ pub fn run() -> bool {
         ("resolution, readings 5", resolved()),
         ("example lines of the readings", readings::all()),
     ];
+    let made_by_hand = [
+        ("writer, 18 and what passes", written::changes()),
+        ("writer, every length of output", written::lengths()),
+        ("writer, characters", written::shown()),
+        ("term texts", written::texts()),
+    ];
+    let checked = groups.map(|(group, calls)| (group, calls.iter().map(check).collect()));
     let mut all_good = true;
     println!("{:32} {:>6} {:>6}", "group", "calls", "wrong");
-    for (group, calls) in groups {
-        let mut wrong = 0;
-        for call in &calls {
-            if let Err(difference) = call.check() {
-                wrong += 1;
-                let start = &call.subject.document[..call.subject.document.len().min(400)];
-                println!("WRONG {group}: {}, document \"{}\"\n{difference}", call.name, start.escape_ascii());
-            }
+    for (group, results) in checked.into_iter().chain(made_by_hand) {
+        let wrong: Vec<&Difference> = results.iter().filter_map(|result| result.as_ref().err()).collect();
+        for difference in &wrong {
+            println!("WRONG {group}\n{difference}");
         }
-        println!("{group:32} {:>6} {wrong:>6}", calls.len());
-        all_good &= wrong == 0;
+        println!("{group:32} {:>6} {:>6}", results.len(), wrong.len());
+        all_good &= wrong.is_empty();
     }
     all_good
+}
+
+/// A call and what it is, where its answer is another.
+fn check(known: &Known) -> Result<(), Difference> {
+    known.check().map_err(|difference| {
+        let start = &known.subject.document[..known.subject.document.len().min(400)];
+        Difference { call: format!("{}: {}, document \"{}\"", known.name, difference.call, start.escape_ascii()), ..difference }
+    })
 }

@@ -274,7 +274,8 @@ impl Examiner<'_> {
             4 => value.wrapping_sub(1),
             _ => random.below(12) as u32,
         };
-        match random.below(8) {
+        match random.below(10) {
+            8 => damage_term(random, given),
             0 => given.row_count = near(random, given.row_count),
             1 => given.term_count = near(random, given.term_count),
             2 => given.store_count = near(random, given.store_count),
@@ -291,6 +292,31 @@ impl Examiner<'_> {
                 given.store[place] = *random.pick(b"\xff\x80:@a- 1<\"\\\n\0\xc3\xed");
             }
             _ => {}
+        }
+    }
+}
+
+/// Changes a term's kind, datatype or tag to something that might be another's.
+fn damage_term(random: &mut Random, given: &mut Given) {
+    let count = given.terms.len() / 5;
+    if count == 0 {
+        return;
+    }
+    let number = 1 + random.below(count);
+    let term = 5 * (number - 1);
+    match random.below(4) {
+        0 => given.terms[term] = 1 + random.below(4) as u32,
+        1 => given.terms[term + 3] = (number + random.below(3)) as u32 - 1,
+        2 => given.terms[term + 3] = 1 + random.below(number) as u32,
+        _ => {
+            let tag = *random.pick(&["base", "prefix", "Base", "base-x", "a-", "a-1"]);
+            let start = given.store_count;
+            given.store.truncate(start as usize);
+            given.store.extend(tag.bytes());
+            given.store_count += tag.len() as u32;
+            given.terms[term] = 4;
+            given.terms[term + 3] = start;
+            given.terms[term + 4] = tag.len() as u32;
         }
     }
 }

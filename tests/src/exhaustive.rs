@@ -15,6 +15,9 @@ const EDGES: &[u8] = b"\x00\x41\x7f\x80\x8f\x90\x9f\xa0\xbf\xc0\xc1\xc2\xdf\xe0\
 /// After so many differences a group prints no more.
 const MOST_SHOWN: u64 = 5;
 
+/// What a group looks at.
+type Look = fn(&mut Group);
+
 struct Group {
     documents: u64,
     wrong: u64,
@@ -81,7 +84,7 @@ impl Group {
 /// True where no document makes a difference.
 pub fn run() -> bool {
     const S: &str = "<x:s><x:p>";
-    let groups: [(&str, fn(&mut Group)); 10] = [
+    let groups: [(&str, Look); 10] = [
         ("token lists up to 6", |g| g.token_lists(6)),
         ("characters", Group::characters),
         ("bytes of UTF-8 up to 4", |g| g.texts("#", EDGES, 4, "", "")),

@@ -17,12 +17,13 @@ mod readings;
 mod room;
 mod statements;
 mod w3c;
+mod written;
 
 const USAGE: &str = "\
 evidence cases PATH                                calls with answers (base.jsonl)
 evidence compare --seed N --count N --seconds S    random documents, and documents at the limits
 evidence exhaustive                                all small documents of several kinds, every character
-evidence boundaries                                limits, room, RFC 3986 5.4, readings and the bench table
+evidence boundaries                                limits, room, RFC 3986 5.4, readings, bench table, writer
 evidence w3c PATH                                  the W3C suites (the directory with index.tsv)";
 
 fn main() -> std::process::ExitCode {
