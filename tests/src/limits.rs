@@ -57,7 +57,7 @@ fn depth(limits: &mut Limits) {
     limits.add("64 side by side", [S, &b"[], ".repeat(64), b"(()())."].concat(), Accepted);
     limits.add("64 as subject", [&b"(".repeat(64)[..], &b")".repeat(64), b"<x:p> 1 ."].concat(), Accepted);
     limits.add("65 as subject", [&b"(".repeat(65)[..], &b")".repeat(65), b"<x:p> 1 ."].concat(), Refused(13, 64));
-    limits.add("8 before 13", [S, &b"[<x:p>".repeat(64), b"{"].concat(), Refused(8, 12 + 64 * 6));
+    limits.add("8 before 13", [S, &b"[<x:p>".repeat(63), b"[["].concat(), Refused(8, 12 + 63 * 6 + 1));
     limits.add("64 in braces", [b"<x:g> {", S, &b"(".repeat(64), &b")".repeat(64), b"}"].concat(), Accepted);
     limits.add("65 in braces", [b"<x:g> {", S, &b"(".repeat(65), &b")".repeat(65), b"}"].concat(), Refused(13, 7 + 12 + 64));
     limits.add("64 and a label", [b"[] {", S, &b"(".repeat(64), &b")".repeat(64), b"}"].concat(), Accepted);

@@ -25,7 +25,7 @@ const CHANGES: &[Change] = &[
     ("rows in words that make no group", |g| g.rows.truncate(14), 18),
     ("more terms than the slice", |g| g.term_count = 7, 18),
     ("2^32 - 1 terms", |g| g.term_count = u32::MAX, 18),
-    ("five times the terms is 2^32", |g| g.term_count = 858_993_460, 18),
+    ("five times the terms is over 2^32", |g| g.term_count = 858_993_460, 18),
     ("more bytes than the store", |g| g.store_count = 16, 18),
     ("2^32 - 1 bytes", |g| g.store_count = u32::MAX, 18),
     ("a store used less than its spans", |g| g.store_count = 14, 18),
@@ -220,11 +220,14 @@ pub fn shown() -> Vec<Result<(), Difference>> {
     SHOWN.iter().map(check).collect()
 }
 
+/// A change to the tables, a term's number, and the answer then.
+type TextCall = (&'static str, fn(&mut Given), u32, Text);
+
 /// Term texts, by number.
 pub fn texts() -> Vec<Result<(), Difference>> {
     let found = |start, length| Text { start, length, number: 0 };
     let refused = Text { start: 0, length: 0, number: 18 };
-    let calls: Vec<(&str, fn(&mut Given), u32, Text)> = vec![
+    let calls: Vec<TextCall> = vec![
         ("an IRI", |_| {}, 2, found(3, 3)),
         ("a literal", |_| {}, 4, found(9, 1)),
         ("a tagged literal", |_| {}, 5, found(10, 2)),
@@ -246,7 +249,7 @@ pub fn texts() -> Vec<Result<(), Difference>> {
         ("a tag outside", |g| g.terms[24] = 9, 5, found(10, 2)),
         ("a text not UTF-8", |g| g.store[9] = 0xFF, 4, found(9, 1)),
     ];
-    let check = |(name, change, number, wanted): (&str, fn(&mut Given), u32, Text)| {
+    let check = |(name, change, number, wanted): TextCall| {
         let mut given = tables();
         change(&mut given);
         expect(&format!("{name}, the independent reader"), Text::of(long_form::term_text(&given, number)), wanted)?;

@@ -63,7 +63,7 @@ pub struct Resolved {
 /// RFC 3986, 5.2.2, for a reference without a scheme.
 pub fn resolve(base: &[u8], reference: &[u8]) -> Resolved {
     let base = split(base);
-    // `split` would never find a scheme here: the caller takes a reference that has one as written.
+    // It has no scheme: the caller takes a reference that has one as written.
     let reference = split(reference);
     let scheme = base.scheme;
     let fragment = reference.fragment;
