@@ -310,13 +310,11 @@ fn damage_term(random: &mut Random, given: &mut Given) {
         2 => given.terms[term + 3] = 1 + random.below(number) as u32,
         _ => {
             let tag = *random.pick(&["base", "prefix", "Base", "base-x", "a-", "a-1"]);
-            let start = given.store_count;
-            given.store.truncate(start as usize);
-            given.store.extend(tag.bytes());
-            given.store_count += tag.len() as u32;
             given.terms[term] = 4;
-            given.terms[term + 3] = start;
+            given.terms[term + 3] = given.store.len() as u32;
             given.terms[term + 4] = tag.len() as u32;
+            given.store.extend(tag.bytes());
+            given.store_count = given.store.len() as u32;
         }
     }
 }
