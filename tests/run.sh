@@ -10,25 +10,26 @@ rt staticlib sycamoot > "$log/library.log" 2>&1 || { cat "$log/library.log"; exi
 (cd tests && cargo build --release --offline) > "$log/build.log" 2>&1 || { cat "$log/build.log"; exit 2; }
 status=0
 
-# A name, and a command: its last line, and whether it agrees.
+# A name, how many lines of what it prints are shown, and a command that fails where something differs.
 row() {
-    name=$1
-    shift
+    name=$1 lines=$2
+    shift 2
     began=$(date +%s)
-    if "$@" > "$log/$name.log" 2>&1; then verdict=agrees; else verdict=DIFFERS status=1; fi
-    printf '%-12s%-9s%5d s  %s\n' "$name" "$verdict" "$(($(date +%s) - began))" "$(tail -n 1 "$log/$name.log")"
+    if "$@" > "$log/$name.log" 2>&1; then verdict='as it should be'; else verdict='NOT AS IT SHOULD BE' status=1; fi
+    printf '%s: %s, %d s\n' "$name" "$verdict" "$(($(date +%s) - began))"
+    tail -n "$lines" "$log/$name.log" | sed 's/^/    /'
 }
 
 evidence=tests/target/release/evidence
-if [ -n "$shared" ] && [ -d "$shared/cases" ]; then row cases $evidence cases "$shared/cases/base.jsonl"; else echo "cases: skipped, there is no directory of cases"; fi
-if [ -n "$shared" ] && [ -d "$shared/w3c" ]; then row w3c $evidence w3c "$shared/w3c"; else echo "w3c: skipped, the suites are not there"; fi
-row boundaries $evidence boundaries
-row compare $evidence compare --seed 42 --count 250000 --seconds 900
-row exhaustive $evidence exhaustive
-row c c/run.sh
-row rust sh -c 'cd rust && cargo test --offline'
-row stack bench/stack.sh
-row growth bench/growth.sh
-row speed bench/read.sh
+if [ -n "$shared" ] && [ -d "$shared/cases" ]; then row cases 3 $evidence cases "$shared/cases/base.jsonl"; else echo "cases: skipped, there is no directory of cases"; fi
+if [ -n "$shared" ] && [ -d "$shared/w3c" ]; then row w3c 9 $evidence w3c "$shared/w3c"; else echo "w3c: skipped, the suites are not there"; fi
+row boundaries 13 $evidence boundaries
+row compare 12 $evidence compare --seed 42 --count 250000 --seconds 900
+row exhaustive 14 $evidence exhaustive
+row c 1 c/run.sh
+row rust 2 sh -c 'cd rust && cargo test --offline --test reading'
+row stack 4 bench/stack.sh
+row growth 40 bench/growth.sh
+row speed 40 bench/read.sh
 echo "what each of them printed is in $log"
 exit $status

@@ -4,8 +4,8 @@ use mathlib.Core.List.{List, [], _∷_}
 use mathlib.Core.Bool.{Bool, true, false, not}
 use Prim.Native.Nat.{ℕ, _+_, _/_, _≤_, _<_}
 use native.Mathlib.Omega.{arith}
-use borrow.Author.Tests.{eqb-true, leb-true}
-use lib.Dec.{eqb, leb}
+use borrow.Author.Tests.{eqb-true}
+use lib.Dec.{eqb}
 use lib.ListN.{length, getD, take, drop}
 use denote.Ref.{RefT}
 use Rattle.text.specs.Text.{Text}
@@ -16,7 +16,6 @@ use Rattle.dataset.specs.Terms.{tagged, xsd-string}
 use Rattle.dataset.specs.Constructors.{tag}
 use Rattle.machine.specs.Memory.{Memory, Write, term, typed, typed-by}
 use Rattle.machine.specs.Frame.{Place, Frame, suffix, datatype}
-use Rattle.machine.specs.Read.{counted}
 use Rattle.machine.specs.Refusals.{new-depth}
 use Rattle.state.specs.Words.{terms-word, kind-word, at-word, len-word, depth-word, graph-word, list-word}
 use Rattle.state.specs.Cursor.{Cursor, TokenHere}
@@ -25,6 +24,7 @@ use Rattle.state.specs.Writes.{place-of, placed, opened-at, SpotFits}
 use Rattle.state.specs.declared.Spot.{Spot}
 use Rattle.reading.specs.Reading.{code-among, Held, held, tables-of, here, Holding, Ready, Reads, on-top, Does, refusal-here}
 use Rattle.reading.proofs.Compose.{same-all, comes-then, comes-stop, comes-within}
+use Rattle.reading.proofs.Numbers.{next-held}
 use Rattle.reading.proofs.Steps.{tied-here, here-some}
 use Rattle.reading.proofs.Frames.{ready-does}
 use Rattle.nodes.specs.Nodes.{Slot, slot-place, spot-of, Spotted, Fills, Steady, Passed}
@@ -187,6 +187,63 @@ module _ (doc : Text) (a : Held) (ready : Ready doc a) (k : code-among strings (
     record { depth = λ z. refl; later = λ z. absurd (omega arith) },
   )
 
+module _ (doc : Text) (work rows terms store : RefT (List ℕ)) (st st1 : List ℕ) (ready : Ready doc (held work rows terms store st)) (k : code-among ties (getD st kind-word 0) ≡ true) (z : getD st kind-word 0 ≡ 7 → ⊥)
+    (p : Passed doc st st1 (getD st depth-word 0) (getD st graph-word 0)) where
+  abbrev a : Held
+  a = held work rows terms store st
+
+  abbrev a1 : Held
+  a1 = held work rows terms store st1
+
+  is-carets : getD st kind-word 0 ≡ 28
+  is-carets = each-tie (λ (j : ℕ). (j ≡ 7 → ⊥) → j ≡ 28) (λ x. absurd (x refl)) (λ x. refl) (getD st kind-word 0) k z
+
+  carets-does : Does doc (λ m. (0, m)) a a1 0
+  carets-does = passed-same doc work rows terms store st st1 28 (getD st depth-word 0) 0 is-carets quiet-carets p (carets-depth (getD st at-word 0) (getD st depth-word 0) (here doc a .text) (getD st kind-word 0) is-carets)
+
+  carets-token : TokenHere doc st
+  carets-token = token-at-cursor doc st (ready .cursor) (tie-token (getD st kind-word 0) k)
+
+  pub datatype-call : (x y at len n : ℕ) → SpotFits (own-spot x y at) × Quoted doc at len n → Ready doc a1 × (SpotFits (own-spot x y at) × Quoted doc at len n)
+  datatype-call x y at len n s = (ready-does doc (λ m. (0, m)) a a1 0 ready carets-token (tie-token (getD st kind-word 0) k .0) carets-does refl, s)
+
+  pub suffix-datatype : (x y at len n : ℕ) (b : Held) (r : ℕ) → Reads doc (datatype (place-of x y) at (text-of doc at len n) ∷ []) [] a1 b r × Steady a1 b r
+      → Reads doc (suffix (place-of x y) at (text-of doc at len n) ∷ []) [] a b r × Steady a b r
+  suffix-datatype x y at len n b r (R, s) = (
+    comes-then doc (on-top (suffix (place-of x y) at (text-of doc at len n) ∷ [])) (on-top (datatype (place-of x y) at (text-of doc at len n) ∷ [])) (on-top []) a a1 b 0 r
+        (carets-reads doc a a1 0 ready x y at (text-of doc at len n) is-carets carets-token carets-does) refl R,
+    record { depth = λ e. s .depth e ∙ p .depth-is; later = λ e. omega (arith, s .later e, p .later) },
+  )
+
+-- ---- At the string
+
+pub no-tie : (b : Bool) → not b ≡ true → b ≡ false
+no-tie true e = contrary (sym e)
+no-tie false e = refl
+
+pub some-tie : (b : Bool) → not b ≡ false → b ≡ true
+some-tie true e = refl
+some-tie false e = contrary e
+
+module _ (doc : Text) (a : Held) (ready : Ready doc a) (k : code-among strings (getD (a .st) kind-word 0) ≡ true) where
+  string-here : TokenHere doc (a .st)
+  string-here = token-at-cursor doc (a .st) (ready .cursor) (string-token (getD (a .st) kind-word 0) k)
+
+  pub string-pass : (Cursor doc (a .st) × TokenHere doc (a .st)) × (length (a .st) ≡ 90)
+  string-pass = ((ready .cursor, string-here), ready-words doc a ready)
+
+  pub string-bad : bad-escape (take (getD (a .st) len-word 0) (drop (getD (a .st) at-word 0) doc)) ≡ true → Fills doc a a 7 × Steady a a 7
+  string-bad e = (
+    seven-reads doc a a 7 ready string-here (string-token (getD (a .st) kind-word 0) k .0) k
+        (λ w. record {
+          same = same-all a;
+          refusal = λ old m h. sym (string-seven (room-in (tables-of a)) (getD (a .st) depth-word 0) (m .environment) (getD (a .st) at-word 0) (take (getD (a .st) len-word 0) (drop (getD (a .st) at-word 0) doc)) (w m .1) (getD (a .st) kind-word 0) k e);
+          place = λ z. refl;
+          done = λ z. absurd (omega arith);
+        }),
+    record { depth = λ z. refl; later = λ z. absurd (omega arith) },
+  )
+
 most-counted : (n : ℕ) → counted n ≤ 4294967294
 most-counted n = by (leb n 4294967294) (λ e. rw e (leb-true n 4294967294 e)) (λ e. rw e (omega arith))
 
@@ -252,7 +309,7 @@ module _ (doc : Text) (work rows terms store : RefT (List ℕ)) (st st1 : List �
   string-plain q e b r t A = plain-fills b r t (subst (λ (j : ℕ). Adds (placed (spot-at st1 at) (typed (text-of doc at len j) xsd-string)) s1 b at r) e A)
 
   pub own-call : (length st1 ≡ 90) × (getD st1 terms-word 0 + 1 < 4294967296)
-  own-call = let (old, (m, h)) = ready .holds in (p .words ∙ ready-words doc s ready, next-small old m s1 (moved old m h))
+  own-call = let (old, (m, h)) = ready .holds in (p .words ∙ ready-words doc s ready, next-held old m s1 (moved old m h))
 
   pub place-call : Spotted s → Represented (work .now) (tables-of s) st1 × SpotFits (spot-at st1 at)
   place-call f = (held-on, spot-fits f)

@@ -22,3 +22,4 @@ pub mod Demands
 pub mod Order
 pub mod Rows
 pub mod Distinct
+pub mod Counted

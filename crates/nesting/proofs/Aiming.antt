@@ -5,15 +5,12 @@ use mathlib.Core.List.{List, [], _∷_}
 use mathlib.Core.Bool.{Bool, true, false, not}
 use Prim.Native.Nat.{ℕ, suc, _+_, _-_, _/_, _≤_, _<_}
 use native.Mathlib.Omega.{arith}
-use borrow.Author.Tests.{leb-true}
-use lib.Dec.{leb}
 use lib.ListN.{length, getD}
 use denote.Ref.{RefT}
 use Rattle.text.specs.Text.{Text, cond}
-use Rattle.text.proofs.Compare.{by, contrary}
+use Rattle.text.proofs.Compare.{contrary}
 use Rattle.machine.specs.Frame.{Open}
 use Rattle.machine.specs.Memory.{Memory}
-use Rattle.machine.specs.Read.{counted}
 use Rattle.grammar.specs.Productions.{Mode}
 use Rattle.state.specs.Words.{terms-word, kind-word, at-word, depth-word}
 use Rattle.state.specs.Cursor.{Cursor, TokenHere, left}
@@ -56,15 +53,6 @@ module _ (doc : Text) (work rows terms store : RefT (List ℕ)) (st st' : List �
 pub spotted : (work rows terms store : RefT (List ℕ)) (st st' : List ℕ) (list x y opened last : ℕ) → Aimed st st' list x y opened last → x < 4294967296 → y < 4294967296 → opened < 4294967296 → last < 4294967296 → Spotted (held work rows terms store st')
 spotted work rows terms store st st' list x y opened last a hx hy ho hl =
     record { x = rw (a .x-is) hx; y = rw (a .y-is) hy; opened = rw (a .opened-is) ho; last = rw (a .last-is) hl }
-
--- The next term's number fits.
-most-counted : (n : ℕ) → counted n ≤ 4294967294
-most-counted n = by (leb n 4294967294) (λ e. rw e (leb-true n 4294967294 e)) (λ e. rw e (omega arith))
-
-pub next-small : (doc : Text) (a : Held) → Ready doc a → getD (a .st) terms-word 0 + 1 < 4294967296
-next-small doc a r =
-    let (old, (m, h)) = r .holds in
-    omega (arith, h .terms-held .keeps .count, h .fits .terms, most-counted (length (a .terms .now) / 5))
 
 -- A place in the document fits.
 pub place-small : (doc : Text) (a : Held) → Ready doc a → getD (a .st) at-word 0 < 4294967296

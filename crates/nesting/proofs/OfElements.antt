@@ -19,7 +19,8 @@ use Rattle.nodes.proofs.Passing.{depth-closing}
 use Rattle.nodes.proofs.Slots.{element-slot, list-closes, cell-or-nil}
 use Rattle.nesting.specs.Nesting.{Lists, list-node}
 use Rattle.nesting.proofs.Skipping.{token-there}
-use Rattle.nesting.proofs.Aiming.{comes-aimed, ready-aimed, spotted, next-small, less-left}
+use Rattle.reading.proofs.Numbers.{next-small}
+use Rattle.nesting.proofs.Aiming.{comes-aimed, ready-aimed, spotted, less-left}
 
 -- What is known of the list's first cell: where there is none yet, all is as at the start.
 abbrev pub Head : Cells → Held → Held → Type 0

@@ -30,7 +30,8 @@ use Rattle.nodes.proofs.Slots.{term-fills, term-rule, bracket-opens, paren-open
 use Rattle.nodes.proofs.Predicates.{term-depth}
 use Rattle.nesting.specs.Nesting.{Inside, Lists, list-node, Entered}
 use Rattle.nesting.proofs.Skipping.{token-there}
-use Rattle.nesting.proofs.Aiming.{comes-aimed, ready-aimed, next-small, place-small}
+use Rattle.reading.proofs.Numbers.{next-small}
+use Rattle.nesting.proofs.Aiming.{comes-aimed, ready-aimed, place-small}
 use Rattle.nesting.proofs.OfElements.{some-place}
 
 -- The kind of a term is a token's.

@@ -3,3 +3,4 @@ pub mod Compose
 pub mod Steps
 pub mod Frames
 pub mod Turning
+pub mod Numbers

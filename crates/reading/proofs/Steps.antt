@@ -27,7 +27,7 @@ use Rattle.state.specs.Cursor.{token-of, ahead, left, Cursor, TokenHere}
 use Rattle.state.specs.Represents.{Tables, room-in, Represented}
 use Rattle.cursor.proofs.Seeking.{ahead-token, ahead-none, ahead-end}
 use Rattle.reading.specs.Reading.{Held, tables-of, here, Holding, goes, Ready, Same, Onward, Comes, token-refusal, Does, Done, escaped-kind, refusal-here}
-use Rattle.reading.proofs.Tests.{positive, refusal-none, refusal-some, code-back, among-code}
+use Rattle.reading.proofs.Tests.{positive, refusal-none, refusal-some, among-code}
 use Rattle.reading.proofs.Compose.{same-all, room-same}
 
 -- ---- One step where a rule is there

@@ -10,9 +10,8 @@ use lib.Dec.{T, eqb, ltb}
 use lib.ListN.{getD}
 use Rattle.text.specs.Text.{cond}
 use Rattle.text.proofs.Compare.{by, and-left, and-right}
-use Rattle.text.proofs.Booleans.{is-true}
-use Rattle.utf8.proofs.Tests.{below, below-at}
 use Rattle.token.specs.Kind.{Kind, kind-code, kinds, kind-of-code, among}
+use Rattle.token.proofs.KindCodes.{code-back}
 use Rattle.table.specs.Tables.{or-zero}
 use Rattle.reading.specs.Reading.{code-among}
 use Rattle.machine.specs.Step.{Test, _when_, first-refusal}
@@ -38,10 +37,6 @@ refusal-some ts z = go (first-refusal ts) z
     go (some n) z = refl
 
 -- ---- Kinds
-
-pub code-back : (k : ℕ) → (k ≡ 0 → ⊥) → k ≤ 30 → kind-code (kind-of-code k) ≡ k
-code-back zero z h = absurd (z refl)
-code-back (suc n) z h = eqb-true (kind-code (kind-of-code (suc n))) (suc n) (is-true (eqb (kind-code (kind-of-code (suc n))) (suc n)) (below-at (λ i. eqb (kind-code (kind-of-code (suc i))) (suc i)) 30 tt n (omega arith)))
 
 eqb-swap : (i j : ℕ) → eqb i j ≡ eqb j i
 eqb-swap i j = by (eqb j i) (λ x. rw (x, eq-eqb i j (sym (eqb-true j i x)))) (λ x. rw (x, ne-eqb i j (λ y. eqb-false j i x (sym y))))

@@ -23,7 +23,8 @@ use Rattle.nodes.specs.Nodes.{Aimed, Spotted, spot-of, Belongs}
 use Rattle.nodes.proofs.Slots.{begin-plain}
 use Rattle.nesting.specs.Nesting.{Lists, list-node}
 use Rattle.nesting.proofs.Skipping.{token-there}
-use Rattle.nesting.proofs.Aiming.{ready-aimed, spotted, place-small, next-small, ready-words}
+use Rattle.reading.proofs.Numbers.{next-small}
+use Rattle.nesting.proofs.Aiming.{ready-aimed, spotted, place-small, ready-words}
 use Rattle.subjects.specs.Subjects.{SubjectAt, Outer, after-subject, Subject}
 use Rattle.subjects.proofs.Rules.{subject-aimed, node-nil, list-outer, deeper-list}
 use Rattle.subjects.proofs.OfTerms.{turns-aimed, settled}

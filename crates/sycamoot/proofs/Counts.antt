@@ -1,20 +1,16 @@
 -- "the 32-bit counts of rows, terms, store bytes": every count fits.
-use mathlib.Core.Path.{_≡_, refl, sym, _∙_, ap, subst}
-use mathlib.Core.Bool.{Bool, true, false}
+use mathlib.Core.Path.{_≡_, refl, sym, subst}
 use mathlib.Core.Option.{Option, none, some}
 use Prim.Native.Nat.{ℕ, _≤_}
 use native.Mathlib.Omega.{arith}
-use borrow.Author.Tests.{leb-true}
-use lib.Dec.{leb}
 use lib.ListN.{length}
-use Rattle.text.specs.Text.{Text, cond}
+use Rattle.text.specs.Text.{Text}
 use Rattle.token.specs.Tokens.{lexemes}
 use Rattle.utf8.specs.Utf8.{first-bad}
 use Rattle.table.specs.Layout.{row-room, term-room}
-use Rattle.machine.specs.Memory.{Memory}
-use Rattle.machine.specs.Demand.{Meets}
 use Rattle.machine.specs.Step.{Outcome, accepted, refused, run, first-refusal}
-use Rattle.machine.specs.Read.{Lent, Answer, reported, counted, room-of, mode-of, start-state, first-checks, read, read-checked, read-utf8, read-tokens}
+use Rattle.machine.specs.Read.{Lent, Answer, reported, room-of, mode-of, start-state, first-checks, read, read-checked, read-utf8, read-tokens}
+use Rattle.machine.proofs.Counted.{most-counted}
 use Rattle.machine.proofs.Demands.{zero-meets, meets-answer}
 use Rattle.reader.specs.Reader.{LentSlices, lengths, Contract}
 use Rattle.reader.specs.declared.Reading.{Reading}
@@ -24,22 +20,15 @@ pub record Small (a : Answer) : Type 0 where
   pub terms : a .term-count ≤ 4294967295
   pub store : a .store-count ≤ 4294967295
 
-counted-small : (n : ℕ) → counted n ≤ 4294967295
-counted-small n = go (leb n 4294967294) refl
-  where
-    go : (b : Bool) → leb n 4294967294 ≡ b → cond b n 4294967294 ≤ 4294967295
-    go true e = let h = leb-true n 4294967294 e in omega arith
-    go false e = omega arith
-
 module _ (doc : Text) (mode : ℕ) (base : Text) (lent : Lent) where
   accepted-small : read doc mode base lent .number ≡ 0 → Small (read doc mode base lent)
   accepted-small e =
       let x = zero-meets doc mode base lent e in
       subst Small (sym (meets-answer doc mode base lent x))
       (record {
-        rows = omega (arith, x .room .rows, counted-small (row-room (lent .rows)));
-        terms = omega (arith, x .room .terms, counted-small (term-room (lent .terms)));
-        store = omega (arith, x .room .store, counted-small (lent .store));
+        rows = omega (arith, x .room .rows, most-counted (row-room (lent .rows)));
+        terms = omega (arith, x .room .terms, most-counted (term-room (lent .terms)));
+        store = omega (arith, x .room .store, most-counted (lent .store));
       })
 
   none-small : (a : Answer) → a .row-count ≡ 0 → a .term-count ≡ 0 → a .store-count ≡ 0 → Small a

@@ -2,10 +2,13 @@
 use mathlib.Core.Path.{_≡_, refl, sym, ap, _∙_, subst}
 use mathlib.Core.List.{List, [], _∷_, map}
 use mathlib.Core.Bool.{Bool, true, false}
-use Prim.Native.Nat.{ℕ, zero, suc, pred}
+use Prim.Native.Nat.{ℕ, zero, suc, pred, _≤_}
+use native.Mathlib.Omega.{arith}
+use borrow.Author.Tests.{eqb-true}
 use lib.Dec.{T, eqb, eqb→eq, eqb-refl}
 use lib.ListN.{getD, List·getD-map}
-use Rattle.text.proofs.Booleans.{and-0, and-1, all}
+use Rattle.text.proofs.Booleans.{and-0, and-1, all, is-true}
+use Rattle.utf8.proofs.Tests.{below-at}
 use Rattle.token.specs.Kind.{Kind, kind-code, kinds, kind-of-code, IRIREF, «PNAME_NS», «PNAME_LN», «BLANK_NODE_LABEL», at-prefix, at-base, LANGTAG, INTEGER, DECIMAL, DOUBLE, «STRING_LITERAL_QUOTE», «STRING_LITERAL_SINGLE_QUOTE», kw-a, kw-true, kw-false, PREFIX, BASE, GRAPH, dot, comma, semicolon, open-bracket, close-bracket, open-paren, close-paren, open-brace, close-brace, carets, «STRING_LITERAL_LONG_QUOTE», «STRING_LITERAL_LONG_SINGLE_QUOTE»}
 
 pub kind-back : (k : Kind) → kind-of-code (kind-code k) ≡ k
@@ -39,6 +42,11 @@ kind-back close-brace = refl
 kind-back carets = refl
 kind-back «STRING_LITERAL_LONG_QUOTE» = refl
 kind-back «STRING_LITERAL_LONG_SINGLE_QUOTE» = refl
+
+-- The number of the kind with a number.
+pub code-back : (k : ℕ) → (k ≡ 0 → ⊥) → k ≤ 30 → kind-code (kind-of-code k) ≡ k
+code-back zero z h = absurd (z refl)
+code-back (suc n) z h = eqb-true (kind-code (kind-of-code (suc n))) (suc n) (is-true (eqb (kind-code (kind-of-code (suc n))) (suc n)) (below-at (λ i. eqb (kind-code (kind-of-code (suc i))) (suc i)) 30 tt n (omega arith)))
 
 -- Are the two kinds the same?
 unfoldable pub same : Kind → Kind → Bool

@@ -1,19 +1,16 @@
 -- What is answered at a place: a token, that none can be read, or the end.
 use mathlib.Core.Path.{_≡_, refl, ap, ap₂, sym, subst, _∙_}
 use mathlib.Core.List.{[]}
-use Prim.Native.Nat.{ℕ, zero, suc, _+_, _-_, _≤_, _<_}
+use Prim.Native.Nat.{ℕ, _+_, _-_, _≤_, _<_}
 use native.Mathlib.Omega.{arith}
-use lib.Dec.{eqb}
 use lib.ListN.{length, take, drop, length-drop, drop-of-length-le}
 use lib.Seq.{length-take-le}
-use borrow.Author.Tests.{eqb-true}
 use Rattle.text.specs.Text.{Text}
-use Rattle.text.proofs.Booleans.{is-true}
 use Rattle.utf8.specs.Utf8.{decode, decode-from}
-use Rattle.utf8.proofs.Tests.{below-at}
 use Rattle.utf8.proofs.Decoding.{tail-eq}
 use Rattle.automaton.specs.declared.Next.{Next}
 use Rattle.token.specs.Kind.{kind-code, kind-of-code}
+use Rattle.token.proofs.KindCodes.{code-back}
 use Rattle.token.specs.Tokens.{between, lexemes-from}
 use Rattle.lexer.specs.Blanks.{BlanksAt}
 use Rattle.lexer.specs.Rest.{rest}
@@ -21,11 +18,6 @@ use Rattle.lexer.proofs.Cutting.{read-token, read-nothing, read-end}
 use Rattle.lexer_words.specs.Ahead.{NextAt}
 use Rattle.lexer_words.proofs.Clearing.{clear-none, next-zero}
 use Rattle.token_reader.specs.Next.{found, first-of, next-from, NextFrom}
-
--- The number of the kind with a number.
-code-back : (k : ℕ) → (k ≡ 0 → ⊥) → k ≤ 30 → kind-code (kind-of-code k) ≡ k
-code-back zero z h = absurd (z refl)
-code-back (suc n) z h = eqb-true (kind-code (kind-of-code (suc n))) (suc n) (is-true (eqb (kind-code (kind-of-code (suc n))) (suc n)) (below-at (λ i. eqb (kind-code (kind-of-code (suc i))) (suc i)) 30 tt n (omega arith)))
 
 -- Nothing is left past the end.
 rest-past : (doc : Text) (place : ℕ) → length doc < place → rest doc place ≡ []

@@ -8,7 +8,8 @@ use Rattle.nesting.proofs.OfProperties.{PropertiesInv, properties-start
 use Rattle.nesting.proofs.OfBrackets.{inside-empty, inside-none, inside-stop, inside-ready, inside-open, inside-close}
 use Rattle.nesting.proofs.OfElements.{ElementsInv, elements-start, elements-ready, elements-depth, elements-small, elements-close-call, elements-close, elements-stop, elements-again, elements-less}
 use Rattle.nesting.proofs.OfNodes.{node-term, term-call, node-none, bracket-stop, bracket-depth, bracket-call, bracket-inside, list-stop, list-open, list-ready, list-depth, list-call, list-elements}
-use Rattle.nesting.proofs.Aiming.{next-small, ready-words, unexpected-call, pass-call, leave-call, negated, affirmed}
+use Rattle.reading.proofs.Numbers.{next-small}
+use Rattle.nesting.proofs.Aiming.{ready-words, unexpected-call, pass-call, leave-call, negated, affirmed}
 use Rattle.text.proofs.Compare.{contrary}
 use Rattle.nesting.proofs.Skipping.{token-there}
 use borrow.Author.Needs.{needs}
