@@ -1,11 +1,11 @@
 -- Laws of the mode by name and by word.
-use mathlib.Core.Path.{_≡_, refl, sym, ap, _∙_}
+use mathlib.Core.Path.{_≡_, sym, ap, _∙_}
 use mathlib.Core.Bool.{Bool, true, false}
-use Prim.Native.Nat.{ℕ, _-_, _<_, _≤_}
+use Prim.Native.Nat.{_-_, _<_, _≤_}
 use native.Mathlib.Omega.{arith}
 use lib.ListN.{length, take, drop, length-drop}
 use lib.Seq.{take-all}
-use Rattle.text.specs.Text.{Text, ascii, cond, same-text}
+use Rattle.text.specs.Text.{Text, ascii, same-text}
 use Rattle.text.proofs.Compare.{same-length}
 use Rattle.diagnosis.specs.Choice.{ends-with, mode-by-name, mode-by-word}
 

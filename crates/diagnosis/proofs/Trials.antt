@@ -1,16 +1,16 @@
 -- Laws of a trial.
 use mathlib.Core.Path.{_≡_, refl, sym, ap, subst, _∙_}
-use mathlib.Core.Bool.{Bool, true, false, _&&_}
+use mathlib.Core.Bool.{Bool, true, false}
 use mathlib.Core.List.{[], _++_}
 use Prim.Native.Nat.{ℕ, _+_, _*_, _-_, _<_, _≤_}
 use native.Mathlib.Omega.{arith}
 use lib.Dec.{leb}
 use lib.ListN.{length, take, drop, length-take, length-drop}
 use borrow.Author.Tests.{lt-ltb, le-ltb, le-leb, lt-leb, eq-eqb, ne-eqb}
-use Rattle.text.specs.Text.{Text, cond}
+use Rattle.text.specs.Text.{Text}
 use Rattle.text.specs.Slice.{over, over-at}
 use Rattle.text.proofs.Over.{over-part, over-at-front}
-use Rattle.machine.specs.Read.{Answer, untouched, read}
+use Rattle.machine.specs.Read.{Lent, Answer, read}
 use Rattle.reader.specs.Reader.{LentSlices, lengths, Gives}
 use Rattle.reader.specs.declared.Reading.{Reading}
 use Rattle.diagnosis.specs.Samples.{samples, sample, with-sample, can-try, trial, allowed, page-after, Leaves, Takes, Tries}
@@ -57,6 +57,10 @@ sample-size kind h =
     let z = samples-size in
     let n : length (drop (8 * kind) samples) ≡ length samples - 8 * kind = length-drop (8 * kind) samples in
     simp length-take (omega arith)
+
+pub trial-reads : (page : Text) (at kind mode : ℕ) (lent : Lent) → can-try page at kind ≡ true → trial page at kind mode lent ≡ read (with-sample page at kind) mode [] lent
+unfolding trial
+trial-reads page at kind mode lent e = simp e
 
 -- The sample was written over the part of the page from the place on, k bytes.
 pub sample-put : (at kind : ℕ) (x y : Text) (k : ℕ) → k ≡ length x - at → y ≡ over (take (8 * kind + 8 - 8 * kind) (drop (8 * kind) samples)) (take k (drop at x))
