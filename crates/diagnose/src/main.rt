@@ -30,7 +30,7 @@ fn print_refusal(words: &[u8], name: &[u8], document: &[u8], number: u8, at: usi
     say(words, Phrases::AT);
     io::print_decimal(STDOUT_FILENO, at as u64);
     say(words, Phrases::THEN);
-    say(words, phrases::meaning(number, at == document.len()));
+    say(words, phrases::meaning(document, number, at));
     phrases::end_line();
 }
 
@@ -342,6 +342,9 @@ more terms than this program has room for\n\
 more text than this program has room for\n\
 the document may not end here\n\
 :\n: \n: refused \n at \n statement\n statements\n: cannot be read\n    \n    expected: \n, \n or \n...\n   \n\
+no token can be read here: a string that is not closed, or with a bad escape\n\
+no token can be read here: an IRI that is not closed, or with a character or an escape that it may not have\n\
+no token can be read here: a word that is no keyword and no prefixed name\n\
 ",
     );
 }

@@ -40,6 +40,12 @@ impl Phrases {
     pub const CUT: usize = 60;
 
     pub const BLANKS: usize = 61;
+
+    pub const NO_STRING: usize = 62;
+
+    pub const NO_IRI: usize = 63;
+
+    pub const NO_WORD: usize = 64;
 }
 
 // Writes a part of a text.
@@ -78,12 +84,26 @@ pub fn say(words: &[u8], n: usize) {
     print_part(words, from, diagnosis::line_end(words, from));
 }
 
+// What begins with a byte where no token can be read.
+fn unreadable(b: u8) -> usize {
+    match b {
+        b'"' | b'\'' => Phrases::NO_STRING,
+        b'<' => Phrases::NO_IRI,
+        b'a'..=b'z' | b'A'..=b'Z' => Phrases::NO_WORD,
+        _ => Phrases::MEANINGS + 6,
+    }
+}
+
 // The line that says what an answer means.
-pub fn meaning(number: u8, at_end: bool) -> usize {
-    if number == 8 {
-        if at_end {
+pub fn meaning(document: &[u8], number: u8, at: usize) -> usize {
+    if document.len() <= at {
+        if number == 8 {
             return Phrases::MAY_NOT_END;
         }
+        return Phrases::MEANINGS + number as usize;
+    }
+    if number == 6 {
+        return unreadable(document[at]);
     }
     Phrases::MEANINGS + number as usize
 }
