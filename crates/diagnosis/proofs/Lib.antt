@@ -1,0 +1,5 @@
+pub mod Lines
+pub mod Endings
+pub mod Trials
+pub mod Meaning
+pub mod Examples
