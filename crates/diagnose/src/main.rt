@@ -19,7 +19,7 @@ struct Said {
 
 // The words file:line:column: refused number at place: meaning
 fn print_refusal(words: &[u8], name: &[u8], document: &[u8], number: u8, at: usize) {
-    let p = diagnosis::place_of(document, at);
+    let p = documents::place_of(document, at);
     io::write_all(STDOUT_FILENO, name);
     say(words, Phrases::COLON);
     io::print_decimal(STDOUT_FILENO, p.line as u64);
@@ -202,7 +202,7 @@ fn examine_page(words: &[u8], name: &[u8], page: &mut [u8], n: usize, mode: u8) 
 // The mode of a file: the one that was said, or by its name.
 fn mode_of(said: u8, name: &[u8]) -> u8 {
     if said == 2 {
-        return diagnosis::mode_by_name(name);
+        return documents::mode_by_name(name);
     }
     said
 }
@@ -257,7 +257,7 @@ fn examine_file(words: &[u8], name: &[u8], said: u8) {
 
 // One argument: a word that says the mode, or a name.
 fn argument(words: &[u8], name: &[u8], said: Said) -> Said {
-    let mode = diagnosis::mode_by_word(name);
+    let mode = documents::mode_by_word(name);
     if mode <= 2 {
         return Said {
             mode: mode,

@@ -172,7 +172,7 @@ fn print_text(words: &[u8], document: &[u8], start: usize, from: usize, to: usiz
         say(words, Phrases::CUT);
     }
     print_shown(document, from, to, bad);
-    if to < diagnosis::line_end(document, from) {
+    if to < documents::line_end(document, from) {
         say(words, Phrases::CUT);
     }
     end_line();
@@ -190,10 +190,10 @@ fn print_under(words: &[u8], document: &[u8], start: usize, from: usize, at: usi
 
 // The line of a place, if there is something in it, and the marks.
 pub fn print_line(words: &[u8], document: &[u8], number: u8, at: usize) {
-    let p = diagnosis::place_of(document, at);
+    let p = documents::place_of(document, at);
     let start = p.start;
     let from = window_start(document, start, at);
-    let to = window_end(document, from, diagnosis::line_end(document, at));
+    let to = window_end(document, from, documents::line_end(document, at));
     if to <= from {
         return;
     }

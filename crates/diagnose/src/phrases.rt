@@ -81,7 +81,7 @@ fn line_start(words: &[u8], n: usize) -> usize {
 
 pub fn say(words: &[u8], n: usize) {
     let from = line_start(words, n);
-    print_part(words, from, diagnosis::line_end(words, from));
+    print_part(words, from, documents::line_end(words, from));
 }
 
 // What begins with a byte where no token can be read.

@@ -1,4 +1,4 @@
--- Computed: each sample is one token of its kind; places; a trial.
+-- Computed: each sample is one token of its kind; a trial.
 use mathlib.Core.Path.{_≡_, refl}
 use mathlib.Core.Bool.{Bool, true, false, _&&_}
 use mathlib.Core.List.{List, [], _∷_, _++_}
@@ -10,8 +10,6 @@ use Rattle.text.proofs.Table.{_⇒_, Gives}
 use Rattle.token.specs.Kind.{Kind, kind-code, kinds, IRIREF, «STRING_LITERAL_QUOTE», comma}
 use Rattle.token.specs.Tokens.{Token, Lexeme, token, unreadable, lexemes, computing as token-computing}
 use Rattle.machine.specs.Read.{Lent, computing as read-computing}
-use Rattle.diagnosis.specs.declared.places.Place.{Place}
-use Rattle.diagnosis.specs.Places.{place, line-end, computing as places-computing}
 use Rattle.diagnosis.specs.Samples.{samples, sample, with-sample, trial, allowed}
 use Rattle.diagnosis.proofs.Meaning.{as-lexemes, Probed}
 
@@ -29,21 +27,6 @@ all-one (k ∷ ks) = is-one k (lexemes (sample (kind-code k))) && all-one ks
 each-sample : all-one kinds ≡ true
 unfolding token-computing is-one all-one sample samples
 each-sample = refl
-
--- A line end of two bytes, a tab, and a letter of two bytes.
-lines : Text
-lines = ascii "a\r\n\t" ++ 0xC3 ∷ 0x9F ∷ ascii " b\rc"
-
-at-place : ℕ → ℕ → ℕ → Place
-at-place line column start = record { line = line; column = column; start = start }
-
-places : Gives (place lines) ((0 ⇒ at-place 1 1 0) ∷ (2 ⇒ at-place 1 3 0) ∷ (3 ⇒ at-place 2 1 3) ∷ (6 ⇒ at-place 2 3 3) ∷ (7 ⇒ at-place 2 4 3) ∷ (9 ⇒ at-place 3 1 9) ∷ [])
-unfolding places-computing lines at-place
-places = refl
-
-line-ends : Gives (line-end lines) ((0 ⇒ 1) ∷ (3 ⇒ 8) ∷ (9 ⇒ 10) ∷ (10 ⇒ 10) ∷ [])
-unfolding places-computing lines
-line-ends = refl
 
 -- Behind an object.
 lent : Lent

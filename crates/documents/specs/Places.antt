@@ -5,7 +5,7 @@ use Prim.Native.Nat.{ℕ, zero, suc, _+_}
 use lib.Dec.{ltb}
 use lib.ListN.{length, getD, drop}
 use Rattle.text.specs.Text.{Text, cond, is, between, computing as text-computing}
-use Rattle.diagnosis.specs.declared.places.Place.{Place}
+use Rattle.documents.specs.declared.places.Place.{Place}
 
 -- Is byte i the last byte of a line end?
 unfoldable pub ends-line : Text → ℕ → Bool

@@ -1,8 +1,8 @@
 use native.Mathlib.Omega.{arith}
-use Rattle.diagnosis.proofs.Endings.{short-name, turtle-name, other-name}
+use Rattle.documents.proofs.Endings.{short-name, turtle-name, other-name}
 use borrow.Author.Needs.{needs}
-use Rattle.diagnosis.proofs.choice.mode_by_name.Statement.{statement}
-use Rattle.diagnosis.proofs.choice.mode_by_name.Tie as tie
+use Rattle.documents.proofs.choice.mode_by_name.Statement.{statement}
+use Rattle.documents.proofs.choice.mode_by_name.Tie as tie
 
 returns : tie.Need-returns
 returns c = short-name _ (c .if1 .taken)

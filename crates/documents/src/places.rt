@@ -2,7 +2,7 @@
 ghost use mathlib.Core.Path.{_≡_};
 ghost use Prim.Native.Nat.{_+_, _<_, _≤_};
 ghost use lib.ListN.{length};
-ghost use Rattle.diagnosis.specs.Places.{ends-line, passed, within, place, line-end};
+ghost use Rattle.documents.specs.Places.{ends-line, passed, within, place, line-end};
 
 // Line and column of a place, from 1 on, and the place where its line begins.
 pub struct Place {

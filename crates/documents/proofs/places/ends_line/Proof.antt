@@ -1,8 +1,8 @@
 use native.Mathlib.Omega.{arith}
-use Rattle.diagnosis.proofs.Lines.{feed-ends, other-byte, return-last, return-before}
+use Rattle.documents.proofs.Lines.{feed-ends, other-byte, return-last, return-before}
 use borrow.Author.Needs.{needs}
-use Rattle.diagnosis.proofs.places.ends_line.Statement.{statement}
-use Rattle.diagnosis.proofs.places.ends_line.Tie as tie
+use Rattle.documents.proofs.places.ends_line.Statement.{statement}
+use Rattle.documents.proofs.places.ends_line.Tie as tie
 
 shared-slice-read-b : tie.Need-shared-slice-read-b
 shared-slice-read-b c = search needs

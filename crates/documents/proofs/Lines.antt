@@ -10,8 +10,8 @@ use lib.ListN.{length, getD, drop, drop-of-length-le, List·getD-eq-default}
 use lib.Seq.{drop-cons}
 use borrow.Author.Tests.{lt-ltb, le-ltb, le-leb, lt-leb, eq-eqb, ne-eqb}
 use Rattle.text.specs.Text.{Text, cond}
-use Rattle.diagnosis.specs.declared.places.Place.{Place}
-use Rattle.diagnosis.specs.Places.{ends-line, continues, passed, place, left-in-line, within, line-end}
+use Rattle.documents.specs.declared.places.Place.{Place}
+use Rattle.documents.specs.Places.{ends-line, continues, passed, place, left-in-line, within, line-end}
 
 -- ---- Line ends
 

@@ -1,11 +1,11 @@
 use Prim.Native.Nat.{_-_}
 use mathlib.Core.Path.{_≡_, refl}
 use lib.ListN.{length}
-use Rattle.diagnosis.specs.Places.{line-end}
-use Rattle.diagnosis.proofs.Lines.{stop-feed, stop-return, stop-end, line-goes-on}
+use Rattle.documents.specs.Places.{line-end}
+use Rattle.documents.proofs.Lines.{stop-feed, stop-return, stop-end, line-goes-on}
 use borrow.Author.Needs.{needs}
-use Rattle.diagnosis.proofs.places.line_end.Statement.{statement}
-use Rattle.diagnosis.proofs.places.line_end.Tie as tie
+use Rattle.documents.proofs.places.line_end.Statement.{statement}
+use Rattle.documents.proofs.places.line_end.Tie as tie
 
 abbrev Inv-loop : tie.InvT-loop
 Inv-loop document at i₀ i = line-end document i ≡ line-end document at

@@ -7,7 +7,7 @@ use lib.ListN.{length, take, drop, length-drop}
 use lib.Seq.{take-all}
 use Rattle.text.specs.Text.{Text, ascii, same-text}
 use Rattle.text.proofs.Compare.{same-length}
-use Rattle.diagnosis.specs.Choice.{ends-with, mode-by-name, mode-by-word}
+use Rattle.documents.specs.Choice.{ends-with, mode-by-name, mode-by-word}
 
 pub short-name : (name : Text) → length name < 4 → 0 ≡ mode-by-name name
 unfolding mode-by-name ends-with

@@ -1,8 +1,8 @@
 use mathlib.Core.Logic.{⊎-elim}
-use Rattle.diagnosis.proofs.Lines.{passed-end, passed-within, passed-low, passed-high}
+use Rattle.documents.proofs.Lines.{passed-end, passed-within, passed-low, passed-high}
 use borrow.Author.Needs.{needs}
-use Rattle.diagnosis.proofs.places.passed.Statement.{statement}
-use Rattle.diagnosis.proofs.places.passed.Tie as tie
+use Rattle.documents.proofs.places.passed.Statement.{statement}
+use Rattle.documents.proofs.places.passed.Tie as tie
 
 add-t6 : tie.Need-add-t6
 add-t6 c = search needs

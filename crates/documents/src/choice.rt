@@ -1,6 +1,6 @@
 // The mode in which a file is read.
 ghost use mathlib.Core.Path.{_≡_};
-ghost use Rattle.diagnosis.specs.Choice.{mode-by-name, mode-by-word};
+ghost use Rattle.documents.specs.Choice.{mode-by-name, mode-by-word};
 
 // Turtle (1) by the ending .ttl, else TriG (0).
 pub fn mode_by_name(name: &[u8]) -> u8

@@ -2,11 +2,11 @@ use Prim.Native.Nat.{_≤_, _-_}
 use mathlib.Core.Path.{_≡_, refl}
 use native.Mathlib.Omega.{arith}
 use lib.ListN.{length}
-use Rattle.diagnosis.specs.Places.{place}
-use Rattle.diagnosis.proofs.Lines.{bounded-place, next-place, place-of-end, place-inside}
+use Rattle.documents.specs.Places.{place}
+use Rattle.documents.proofs.Lines.{bounded-place, next-place, place-of-end, place-inside}
 use borrow.Author.Needs.{needs}
-use Rattle.diagnosis.proofs.places.place_of.Statement.{statement}
-use Rattle.diagnosis.proofs.places.place_of.Tie as tie
+use Rattle.documents.proofs.places.place_of.Statement.{statement}
+use Rattle.documents.proofs.places.place_of.Tie as tie
 
 abbrev Inv-loop : tie.InvT-loop
 Inv-loop document at p₀ i₀ p i = (i ≤ at) × (i ≤ length document) × (p ≡ place document i)

@@ -1,8 +1,8 @@
 use mathlib.Core.Path.{sym, _∙_}
-use Rattle.diagnosis.proofs.Endings.{first-word, second-word, third-word, no-word}
+use Rattle.documents.proofs.Endings.{first-word, second-word, third-word, no-word}
 use borrow.Author.Needs.{needs}
-use Rattle.diagnosis.proofs.choice.mode_by_word.Statement.{statement}
-use Rattle.diagnosis.proofs.choice.mode_by_word.Tie as tie
+use Rattle.documents.proofs.choice.mode_by_word.Statement.{statement}
+use Rattle.documents.proofs.choice.mode_by_word.Tie as tie
 
 slice-aggregate-same : tie.Need-slice-aggregate-same
 slice-aggregate-same c = search needs
