@@ -5,7 +5,7 @@
 #include <string.h>
 #include <time.h>
 
-enum { MOST = SYCAMOOT_DOCUMENT_BYTES + 64, STORE = 1 << 24 };
+enum { MOST = SYCAMOOT_DOCUMENT_BYTES + 128, STORE = 1 << 24, SPARE = 64, SPARE_BYTES = 1 << 16 };
 
 uint8_t document[SYCAMOOT_DOCUMENT_BYTES + 1], store[STORE];
 uint32_t rows[MOST * SYCAMOOT_ROW_WORDS], terms[MOST * SYCAMOOT_TERM_WORDS];
@@ -30,16 +30,17 @@ sycamoot_answer read_lent(const struct lent *l)
                          l->terms * SYCAMOOT_TERM_WORDS, store, l->store);
 }
 
-// An accepted document is lent just what it fills; a refused one a row and a term for two bytes, all of which it clears.
+// An accepted document is lent what it fills and a little more: a reader that is about to run out of room counts exactly what each
+// token asks for, which nobody who lends enough pays for. A refused one is lent a row and a term for two bytes, and clears them all.
 struct lent lend(const char *name)
 {
     struct lent l = {.length = load(name), .mode = strstr(name, ".ttl") ? SYCAMOOT_TURTLE : SYCAMOOT_TRIG};
     sycamoot_answer a = sycamoot_read(document, l.length, document, 0, l.mode, work, sizeof work, rows, MOST * SYCAMOOT_ROW_WORDS,
                                       terms, MOST * SYCAMOOT_TERM_WORDS, store, sizeof store);
     int accepted = a.number == SYCAMOOT_ACCEPTED;
-    l.rows = accepted ? a.rows : l.length / 2;
-    l.terms = accepted ? a.terms : l.length / 2;
-    l.store = accepted ? a.store : 4 * l.length;
+    l.rows = accepted ? a.rows + SPARE : l.length / 2;
+    l.terms = accepted ? a.terms + SPARE : l.length / 2;
+    l.store = accepted ? a.store + SPARE_BYTES : 4 * l.length;
     l.work = SYCAMOOT_WORK_BYTES + 8 * l.terms;
     l.answer = a;
     return l;

@@ -14,6 +14,7 @@ else
     echo "libserd is not installed: no comparison"
 fi
 command -v valgrind > /dev/null || echo "valgrind is not installed: no instructions"
+# shellcheck disable=SC2086
 cc -std=gnu11 -Wall -Wextra -O2 -Iinclude -o target/read-bench bench/read.c bench/lent.c target/staticlib/libsycamoot.a $serd
 python3 bench/texts.py $texts shapes 65536 262144 1048576
 
@@ -35,8 +36,8 @@ for shape in mixed few_terms many_terms long_strings deep; do
     for size in 65536 262144 1048576; do
         file=$(echo $texts/$shape-$size.*)
         speeds=$(target/read-bench "$file")
-        counts=$(for engine in $engines; do instructions $engine "$file"; done)
-        # shellcheck disable=SC2059,SC2086
+        counts=$(for engine in $engines; do instructions "$engine" "$file"; done)
+        # shellcheck disable=SC2046,SC2059,SC2086
         printf "$row" $shape $(echo $speeds | awk 'NF == 5 {$6 = sprintf("%.2f", $4 / $5)} NF == 4 {$5 = "-"; $6 = "-"} {print}') $counts
         echo "$speeds $file" | awk 'NF == 6 {print $4 / $5, $6}' >> $texts/times
     done
