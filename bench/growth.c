@@ -1,76 +1,91 @@
 // Time of the read at three sizes of one text: twice the text may take 2.2 times as long. See bench/growth.sh.
 //     growth-bench long|short NAME FILE FILE FILE    with an index, or with the shortest work slice, of which nothing is demanded
 #include <stdio.h>
+#include <stdlib.h>
 #include <string.h>
+#include <unistd.h>
 
 #include "lent.h"
 
-enum { SIZES = 3, TRIES = 6 };
+enum { SIZES = 3, ROUNDS = 201, TRIES = 4 };
 
-static const double limit = 2.2, slow = 1;
+static const double limit = 2.2, a_while = 1;
 
-struct sample {
-    const char *file;
-    size_t length;
-    uint32_t answer;
-    double best;
-};
+static struct lent sizes[SIZES];
+static double best[SIZES], growths[SIZES - 1][ROUNDS]; // of the last measurement
+static int rounds;
 
-// The best of several runs, and of those before; a slow read is not repeated, since no busy machine explains it.
-static void measure(struct sample *s, int is_short)
+static double time_of(const struct lent *l)
 {
-    struct lent l = lend(s->file);
-    if (is_short) l.work = SYCAMOOT_WORK_BYTES;
-    double begin = cpu_seconds();
-    for (int i = 0; i < 15 && cpu_seconds() - begin < slow; i++) {
-        double start = cpu_seconds();
-        s->answer = read_lent(&l).number;
-        double took = cpu_seconds() - start;
-        if (took < s->best) s->best = took;
+    double start = cpu_seconds();
+    read_lent(l);
+    return cpu_seconds() - start;
+}
+
+// One read of each size in turn, so that all meet the same machine: how many times as long the longer takes, had it twice the length.
+static void measure_round(void)
+{
+    double a_byte[SIZES];
+    for (int i = 0; i < SIZES; i++) {
+        double took = time_of(sizes + i);
+        if (took < best[i]) best[i] = took;
+        a_byte[i] = took / sizes[i].length;
     }
-    s->length = l.length;
+    for (int i = 1; i < SIZES; i++)
+        growths[i - 1][rounds] = 2 * a_byte[i] / a_byte[i - 1];
+    rounds++;
 }
 
-// How many times as long the longer text takes, had it exactly twice the length.
-static double growth(const struct sample *a, const struct sample *b)
+static int by_size(const void *a, const void *b)
 {
-    return 2 * (b->best / b->length) / (a->best / a->length);
+    double x = *(const double *)a, y = *(const double *)b;
+    return (x > y) - (x < y);
 }
 
-static int is_over(const struct sample *s)
+static void measure(void)
+{
+    rounds = 0;
+    for (double start = cpu_seconds(); rounds == 0 || (rounds < ROUNDS && cpu_seconds() - start < a_while);)
+        measure_round();
+    for (int i = 1; i < SIZES; i++)
+        qsort(growths[i - 1], rounds, sizeof(double), by_size);
+}
+
+// The median of the rounds.
+static double growth(int i) { return growths[i - 1][rounds / 2]; }
+
+static int is_over(void)
 {
     for (int i = 1; i < SIZES; i++)
-        if (growth(s + i - 1, s + i) > limit) return 1;
+        if (growth(i) > limit) return 1;
     return 0;
 }
 
-static void measure_all(struct sample *s, int is_short)
-{
-    for (int i = 0; i < SIZES; i++)
-        measure(s + i, is_short);
-}
-
-static void print(const char *name, const struct sample *s)
+static void print(const char *name)
 {
     printf("%-18s", name);
     for (int i = 0; i < SIZES; i++)
-        printf(" %9.2f", s[i].best * 1e3);
+        printf(" %9.2f", best[i] * 1e3);
     for (int i = 1; i < SIZES; i++)
-        printf(" %6.2f", growth(s + i - 1, s + i));
-    printf(" %7u%s\n", s[SIZES - 1].answer, is_over(s) ? "  over" : "");
+        printf(" %6.2f", growth(i));
+    printf(" %7u%s\n", sizes[SIZES - 1].answer.number, is_over() ? "  over" : "");
 }
 
 int main(int count, char **arguments)
 {
     if (count != 3 + SIZES) return 2;
-    struct sample s[SIZES];
-    for (int i = 0; i < SIZES; i++)
-        s[i] = (struct sample){.file = arguments[i + 3], .best = 1e9};
     int is_short = !strcmp(arguments[1], "short");
-    measure_all(s, is_short);
-    // Again while it is over, since the machine may be busy.
-    for (int i = 1; i < TRIES && !is_short && is_over(s) && s[SIZES - 1].best < slow; i++)
-        measure_all(s, is_short);
-    print(arguments[2], s);
-    return !is_short && is_over(s);
+    for (int i = 0; i < SIZES; i++) {
+        sizes[i] = lend(arguments[3 + i]);
+        if (is_short) sizes[i].work = SYCAMOOT_WORK_BYTES;
+        best[i] = 1e9;
+    }
+    measure();
+    // Again, a little later, while it is over, since the machine may be busy.
+    for (int i = 1; i < TRIES && !is_short && is_over(); i++) {
+        sleep(1);
+        measure();
+    }
+    print(arguments[2]);
+    return !is_short && is_over();
 }

@@ -5,44 +5,63 @@
 #include <string.h>
 #include <time.h>
 
-enum { MOST = SYCAMOOT_DOCUMENT_BYTES + 128, STORE = 1 << 24, SPARE = 64, SPARE_BYTES = 1 << 16 };
+enum { MOST = SYCAMOOT_DOCUMENT_BYTES + 128, STORE = 1 << 24, SPARE = 64, SPARE_BYTES = 1 << 12 };
 
-uint8_t document[SYCAMOOT_DOCUMENT_BYTES + 1], store[STORE];
+uint8_t store[STORE];
 uint32_t rows[MOST * SYCAMOOT_ROW_WORDS], terms[MOST * SYCAMOOT_TERM_WORDS];
 static uint8_t work[SYCAMOOT_WORK_BYTES + 8 * MOST];
 
-static size_t load(const char *name)
+static void load(const char *name, struct lent *l)
 {
     FILE *file = fopen(name, "rb");
     if (!file) {
         perror(name);
         exit(2);
     }
-    size_t length = fread(document, 1, SYCAMOOT_DOCUMENT_BYTES, file);
-    document[length] = 0; // where serd finds the end
+    l->document = calloc(SYCAMOOT_DOCUMENT_BYTES + 1, 1); // a zero is where serd finds the end
+    l->length = fread(l->document, 1, SYCAMOOT_DOCUMENT_BYTES, file);
     fclose(file);
-    return length;
 }
 
 sycamoot_answer read_lent(const struct lent *l)
 {
-    return sycamoot_read(document, l->length, document, 0, l->mode, work, l->work, rows, l->rows * SYCAMOOT_ROW_WORDS, terms,
+    return sycamoot_read(l->document, l->length, l->document, 0, l->mode, work, l->work, rows, l->rows * SYCAMOOT_ROW_WORDS, terms,
                          l->terms * SYCAMOOT_TERM_WORDS, store, l->store);
 }
 
+static void set_room(struct lent *l, size_t row_count, size_t term_count, size_t bytes)
+{
+    l->rows = row_count;
+    l->terms = term_count;
+    l->store = bytes;
+    l->work = SYCAMOOT_WORK_BYTES + 8 * term_count;
+}
+
+static int answers_alike(const struct lent *l)
+{
+    sycamoot_answer a = read_lent(l);
+    return a.number == l->answer.number && a.position == l->answer.position;
+}
+
 // An accepted document is lent what it fills and a little more: a reader that is about to run out of room counts exactly what each
-// token asks for, which nobody who lends enough pays for. A refused one is lent a row and a term for two bytes, and clears them all.
+// token asks for, which nobody who lends enough pays for. A refused one, which clears all that is lent, about what it has filled by
+// then: as little, by halving, as it gives the same answer with.
 struct lent lend(const char *name)
 {
-    struct lent l = {.length = load(name), .mode = strstr(name, ".ttl") ? SYCAMOOT_TURTLE : SYCAMOOT_TRIG};
-    sycamoot_answer a = sycamoot_read(document, l.length, document, 0, l.mode, work, sizeof work, rows, MOST * SYCAMOOT_ROW_WORDS,
-                                      terms, MOST * SYCAMOOT_TERM_WORDS, store, sizeof store);
-    int accepted = a.number == SYCAMOOT_ACCEPTED;
-    l.rows = accepted ? a.rows + SPARE : l.length / 2;
-    l.terms = accepted ? a.terms + SPARE : l.length / 2;
-    l.store = accepted ? a.store + SPARE_BYTES : 4 * l.length;
-    l.work = SYCAMOOT_WORK_BYTES + 8 * l.terms;
-    l.answer = a;
+    struct lent l = {.mode = strstr(name, ".ttl") ? SYCAMOOT_TURTLE : SYCAMOOT_TRIG};
+    load(name, &l);
+    set_room(&l, MOST, MOST, STORE);
+    sycamoot_answer a = l.answer = read_lent(&l);
+    if (a.number == SYCAMOOT_ACCEPTED) {
+        set_room(&l, a.rows + SPARE, a.terms + SPARE, a.store + l.length + SPARE_BYTES);
+        return l;
+    }
+    for (size_t room = l.length; room > 0; room /= 2) {
+        struct lent less = l;
+        set_room(&less, room, room, 8 * room);
+        if (!answers_alike(&less)) break;
+        l = less;
+    }
     return l;
 }
 

@@ -5,12 +5,14 @@
 #include "sycamoot.h"
 
 struct lent {
+    uint8_t *document;
     uint8_t mode;
     size_t length, work, rows, terms, store; // rows and terms are counts, the others bytes
     sycamoot_answer answer;
 };
 
-extern uint8_t document[], store[];
+// The tables, which all reads share.
+extern uint8_t store[];
 extern uint32_t rows[], terms[];
 
 // Loads a file and finds what it needs; the index has room for every term.

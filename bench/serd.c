@@ -136,7 +136,7 @@ struct counts serd_read(const struct lent *l)
     memset(slots, 0, (s.mask + 1) * sizeof *slots);
     SerdReader *reader = serd_reader_new(l->mode == SYCAMOOT_TURTLE ? SERD_TURTLE : SERD_TRIG, &s, NULL, on_base, on_prefix, on_statement, NULL);
     serd_reader_set_strict(reader, true);
-    SerdStatus status = serd_reader_read_string(reader, document);
+    SerdStatus status = serd_reader_read_string(reader, l->document);
     serd_reader_free(reader);
     serd_env_free(s.env);
     return (struct counts){status == SERD_SUCCESS, s.row_count, s.term_count};
