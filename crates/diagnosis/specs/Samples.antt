@@ -1,6 +1,7 @@
 -- What would have been allowed at a place: the text before it, a line end, and a sample of the kind of token asked for, are read.
--- LF ends a comment and no token, so that the tokens before stay as they were. What the answer means is proved in proofs/Meaning:
--- a token is allowed exactly if the tokens before it and it begin a grammatical text.
+-- What the answer means is proved in proofs/Meaning: where that text cuts into some tokens and the sample's, and nothing is refused
+-- before the sample, the token is allowed exactly if those tokens and it begin a grammatical text. That LF leaves the tokens before as
+-- they were is what the terminals say, and is not proved of every text.
 use mathlib.Core.Path.{_≡_}
 use mathlib.Core.Bool.{Bool, _&&_, _||_}
 use mathlib.Core.List.{[], _++_}
