@@ -9,7 +9,7 @@ enum { MOST = SYCAMOOT_DOCUMENT_BYTES + 128, STORE = 1 << 24, SPARE = 64, SPARE_
 
 uint8_t store[STORE];
 uint32_t rows[MOST * SYCAMOOT_ROW_WORDS], terms[MOST * SYCAMOOT_TERM_WORDS];
-static uint8_t work[SYCAMOOT_WORK_BYTES + 8 * MOST];
+static uint8_t work[SYCAMOOT_WORK_BYTES + SYCAMOOT_INDEX_BYTES * MOST];
 
 static void load(const char *name, struct lent *l)
 {
@@ -34,7 +34,7 @@ static void set_room(struct lent *l, size_t row_count, size_t term_count, size_t
     l->rows = row_count;
     l->terms = term_count;
     l->store = bytes;
-    l->work = SYCAMOOT_WORK_BYTES + 8 * term_count;
+    l->work = SYCAMOOT_WORK_BYTES + SYCAMOOT_INDEX_BYTES * term_count;
 }
 
 static int answers_alike(const struct lent *l)

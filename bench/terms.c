@@ -5,13 +5,10 @@
 #include <string.h>
 #include <time.h>
 
-size_t hash_iri(const uint8_t *text, size_t size);
-size_t find_iri(const uint8_t *work, size_t work_size, size_t key, const uint32_t *terms, size_t words, const uint8_t *store, size_t bytes,
-                size_t count, size_t used, const uint8_t *text, size_t size);
-size_t add_iri(uint8_t *work, size_t work_size, size_t key, uint32_t *terms, size_t words, uint8_t *store, size_t bytes, size_t count,
-               size_t used, const uint8_t *text, size_t size);
+size_t share_iri(uint8_t *work, size_t work_size, uint32_t *terms, size_t words, uint8_t *store, size_t bytes, size_t count, size_t used,
+                 const uint8_t *text, size_t size);
 
-enum { SIZE = 20, TOKENS = 1048576 / SIZE, WORK = 35840, INDEX = 8 * 65536, WORDS = 5 * 65536, BYTES = 1 << 21 };
+enum { SIZE = 20, TOKENS = 1048576 / SIZE, WORK = 35840, INDEX = 12 * 65536, WORDS = 5 * 65536, BYTES = 1 << 21 };
 
 static uint8_t work[WORK + INDEX], store[BYTES], tokens[TOKENS][SIZE + 1];
 static uint32_t terms[WORDS];
@@ -29,9 +26,8 @@ static double run(size_t distinct, size_t work_size) {
     size_t count = 0, used = 0;
     double start = seconds();
     for (size_t i = 0; i < TOKENS; i++) {
-        size_t key = hash_iri(tokens[i], SIZE);
-        if (!find_iri(work, work_size, key, terms, WORDS, store, BYTES, count, used, tokens[i], SIZE)) {
-            used = add_iri(work, work_size, key, terms, WORDS, store, BYTES, count, used, tokens[i], SIZE);
+        if (share_iri(work, work_size, terms, WORDS, store, BYTES, count, used, tokens[i], SIZE) > count) {
+            used += SIZE;
             count++;
         }
     }

@@ -2,6 +2,7 @@
 
 tokens: a TriG file and one text for each family of tokens (the default: about 1 MB, names without the size);
 shapes: whole documents of several shapes; worst: texts that a careless reader is slow on, some refused at their end."""
+import functools
 import itertools
 import os
 import random
@@ -61,9 +62,31 @@ def nested(i, levels=64):
     return 'm:s%d m:p %s1%s .\n' % (i % 9, '[ m:q ( ' * (levels // 2), ' ) ]' * (levels // 2))
 
 
+def mixed_in(h, text):
+    """The hash h with a text, as the index of the terms makes it for its first level."""
+    for c in text:
+        h = (h * 16777619 + (h >> 15) + ord(c)) % 2**32
+    return h
+
+
+@functools.cache
+def blocks(namespace):
+    """Pairs of blocks that leave the hash alike, one behind the other: 2^14 texts of one length with one hash."""
+    h, pairs, letters = mixed_in(0, namespace), [], random.Random(namespace)
+    while len(pairs) < 14:
+        seen = {}
+        while True:
+            block = ''.join(letters.choices('abcdefghijklmnopqrstuvwxyz', k=8))
+            other = seen.setdefault(mixed_in(h, block), block)
+            if other != block:
+                break
+        pairs.append((other, block))
+        h = mixed_in(h, block)
+    return pairs
+
+
 def colliding(i):
-    """Texts of one length with one hash: two blocks that the hash of crates/form does not tell apart, in every order."""
-    return ''.join(['rkeikopn', 'fbvfgsfy'][i >> k & 1] for k in range(14))
+    return ''.join(pair[i >> k & 1] for k, pair in enumerate(blocks('http://motors.example/terms#')))
 
 
 def prefixes(name):
@@ -134,9 +157,8 @@ worst = {
     # Terms that are alike.
     'labels.ttl': (line, lambda i: '_:%d m:p _:a%d .\n' % (i, i), ''),
     'ends.ttl': (line, lambda i: '<x:%s%06d> m:p 1 .\n' % ('a' * 990, i), ''),
-    # (the blanks keep these two measurable: a search of all before makes them take minutes)
-    'tags.ttl': (one, lambda i: '"a"@a-%d,%32s\n' % (i, ''), '1 .'),
-    'types.ttl': (one, lambda i: '"a"^^m:%d,%32s\n' % (i, ''), '1 .'),
+    'tags.ttl': (one, lambda i: '"a"@a-%d,\n' % i, '1 .'),
+    'types.ttl': (one, lambda i: '"a"^^m:%d,\n' % i, '1 .'),
     'colliding.ttl': (one, lambda i: 'm:%s,\n' % colliding(i), '1 .'),
     # Opened and closed, and refused at the end.
     'graphs.trig': (line, lambda i: 'm:g%d{}{}GRAPH m:h{}\n' % (i % 9), ''),

@@ -6,8 +6,8 @@
 
 #include "sycamoot.h"
 
-/* A longer work slice is an index of the terms: eight bytes for each term keep finding them fast. */
-enum { ROWS = 65536, TERMS = 65536, STORE = 1 << 22, WORK = SYCAMOOT_WORK_BYTES + 8 * TERMS, OUT = 1 << 24 };
+/* A longer work slice is an index of the terms, which keeps finding them fast. */
+enum { ROWS = 65536, TERMS = 65536, STORE = 1 << 22, WORK = SYCAMOOT_WORK_BYTES + SYCAMOOT_INDEX_BYTES * TERMS, OUT = 1 << 24 };
 
 static uint8_t document[SYCAMOOT_DOCUMENT_BYTES + 1];
 static uint8_t work[WORK];

@@ -43,7 +43,8 @@ enum sycamoot_kind { SYCAMOOT_IRI = 1, SYCAMOOT_BLANK = 2, SYCAMOOT_LITERAL = 3,
 
 /* Sizes. */
 #define SYCAMOOT_DOCUMENT_BYTES 1048576 /* the longest document */
-#define SYCAMOOT_WORK_BYTES 35840       /* the shortest work slice; more is used as an index of the terms */
+#define SYCAMOOT_WORK_BYTES 35840       /* the shortest work slice; more is used as an index of the terms, */
+#define SYCAMOOT_INDEX_BYTES 12         /* of which each takes so many bytes */
 #define SYCAMOOT_ROW_WORDS 5            /* graph, subject, predicate, object, position of the object's first byte */
 #define SYCAMOOT_TERM_WORDS 5           /* kind, start, length, and by its kind: 0, 0; blank number, 0; datatype, 0; tag's start, length */
 #define SYCAMOOT_IRI_BYTES 1024

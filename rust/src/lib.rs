@@ -10,6 +10,9 @@ pub use library::{Answer, Text, Written};
 pub const DOCUMENT_BYTES: usize = 1_048_576;
 /// The shortest work slice, in bytes. More is used as an index of the terms.
 pub const WORK_BYTES: usize = 35_840;
+
+/// How many bytes of the index a term takes.
+pub const INDEX_BYTES: usize = 12;
 /// The words of a row: graph, subject, predicate, object, position of the object's first byte.
 pub const ROW_WORDS: usize = 5;
 /// The words of a term.
@@ -120,7 +123,7 @@ pub struct Dataset {
 impl Dataset {
     /// Reads a document. The work slice is long enough for an index of all terms that there is room for.
     pub fn read(document: &[u8], base: &[u8], mode: Mode, room: Room) -> Result<Dataset, Refusal> {
-        let mut work = vec![0; WORK_BYTES + 8 * room.terms];
+        let mut work = vec![0; WORK_BYTES + INDEX_BYTES * room.terms];
         let mut rows = vec![0; ROW_WORDS * room.rows];
         let mut terms = vec![0; TERM_WORDS * room.terms];
         let mut store = vec![0; room.store];

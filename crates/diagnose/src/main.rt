@@ -172,7 +172,7 @@ fn examine_with(
     page: &mut [u8],
     n: usize,
     mode: u8,
-    work: &mut [u8; 560128],
+    work: &mut [u8; 822272],
     rows: &mut [u32; 327680],
     terms: &mut [u32; 327680],
     store: &mut [u8; 1048576],
@@ -182,7 +182,7 @@ fn examine_with(
 
 // The tables: 65,536 statements and terms, an index of the terms, and a document's length of text.
 fn examine_page(words: &[u8], name: &[u8], page: &mut [u8], n: usize, mode: u8) {
-    let mut work = [0u8; 560128];
+    let mut work = [0u8; 822272];
     let mut rows = [0u32; 327680];
     let mut terms = [0u32; 327680];
     let mut store = [0u8; 1048576];

@@ -12,7 +12,7 @@ use Rattle.text.proofs.Compare.{by}
 use Rattle.utf8.specs.Utf8.{encode, width}
 use Rattle.escape.specs.Escape.{Piece, plain, numeric, letter, outside, behind, digits, hex-value, letter-value, pieces-from, unescape-piece, unescape-pieces, bad-pieces, no-character, unreserve}
 use Rattle.escape.specs.Escape as escape
-use Rattle.escape.specs.Code.{inside, gives, step-outside, step-behind, step-name, step-digit, step, four, piece, bad, place, undone, most, Fair}
+use Rattle.escape.specs.Code.{inside, gives, step-outside, step-behind, step-name, step-digit, step-escape, step, four, piece, bad, place, undone, most, Fair}
 use Rattle.escape.specs.declared.Scan.{Scan}
 
 -- A number's bytes are those of its piece, and a piece of one byte is that byte.
@@ -178,18 +178,18 @@ unfolding step
 step-at-outside s c e = rw (eq-eqb (s .left) 0 e)
 
 step-at-behind : (s : Scan) (c : ℕ) → s .left ≡ 9 → step s c ≡ step-behind c
-unfolding step
-step-at-behind s c e = rw (ne-eqb (s .left) 0 (λ q. omega arith), eq-eqb (s .left) 9 e)
+unfolding step step-escape
+step-at-behind s c e = rw (ne-eqb (s .left) 0 (λ q. omega arith), ne-eqb (s .left) 10 (λ q. omega arith), eq-eqb (s .left) 9 e)
 
 step-at-name : (s : Scan) (c : ℕ) → s .left ≡ 10 → step s c ≡ step-name c
 unfolding step
-step-at-name s c e = rw (ne-eqb (s .left) 0 (λ q. omega arith), ne-eqb (s .left) 9 (λ q. omega arith), eq-eqb (s .left) 10 e)
+step-at-name s c e = rw (ne-eqb (s .left) 0 (λ q. omega arith), eq-eqb (s .left) 10 e)
 
 step-at-digit : (s : Scan) (n c : ℕ) → n ≤ 7 → s .left ≡ suc n → s .value ≤ most (8 - suc n) → step s c ≡ step-digit (suc n) (s .value * 16 + hex-value c)
-unfolding step
+unfolding step step-escape
 step-at-digit s n c h e m =
     let l : s .value % 1099511627776 ≡ s .value = mod-eq-of-lt (omega (arith, most-small (8 - suc n) (omega arith))) in
-    rw (ne-eqb (s .left) 0 (λ q. omega arith), ne-eqb (s .left) 9 (λ q. omega arith), ne-eqb (s .left) 10 (λ q. omega arith), l, e)
+    rw (ne-eqb (s .left) 0 (λ q. omega arith), ne-eqb (s .left) 10 (λ q. omega arith), ne-eqb (s .left) 9 (λ q. omega arith), l, e)
 
 fair-inside : (left v : ℕ) → left ≤ 10 → (1 ≤ left → left ≤ 8 → v ≤ most (8 - left)) → Fair (inside left v)
 fair-inside left v h f = record { small = omega arith; left = h; value = f }

@@ -32,12 +32,11 @@ step-name c = cond (eqb c 92) (inside 10 0) (gives 10 1 c)
 unfoldable pub step-digit : ℕ → ℕ → Scan
 step-digit left value = cond (eqb left 1) (gives 0 (width value) value) (inside (left - 1) value)
 
+unfoldable pub step-escape : ℕ → ℕ → ℕ → Scan
+step-escape left value c = cond (eqb left 9) (step-behind c) (step-digit left (value % 1099511627776 * 16 + hex-value c))
+
 unfoldable pub step : Scan → ℕ → Scan
-step s c =
-    cond (eqb (s .left) 0) (step-outside c)
-    (cond (eqb (s .left) 9) (step-behind c)
-    (cond (eqb (s .left) 10) (step-name c)
-    (step-digit (s .left) (s .value % 1099511627776 * 16 + hex-value c))))
+step s c = cond (eqb (s .left) 0) (step-outside c) (cond (eqb (s .left) 10) (step-name c) (step-escape (s .left) (s .value) c))
 
 -- The bytes of the piece that has just ended are the first n of these.
 unfoldable pub four : Scan → Text

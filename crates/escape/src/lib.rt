@@ -7,7 +7,7 @@ ghost use Rattle.text.specs.Text.{is, same-text, begins, some-byte};
 ghost use Rattle.text.specs.Slice.{over, over-at};
 ghost use Rattle.utf8.specs.Utf8.{width};
 ghost use Rattle.escape.specs.Escape.{hex-value, letter-value, no-character, bad-escape, unescape, unreserve};
-ghost use Rattle.escape.specs.Code.{step-outside, step-behind, step-name, step-digit, step, four, bad, undone, low, Starts, Written};
+ghost use Rattle.escape.specs.Code.{step-outside, step-behind, step-name, step-digit, step-escape, step, four, bad, undone, low, Starts, Written};
 
 // A place in an escaped text. left: 0 outside an escape, 9 behind a backslash, 1 to 8 where so many hex digits
 // are to come, 10 in a local name. n: how many bytes the piece that has just ended stands for; value: its
@@ -160,6 +160,18 @@ fn step_digit(left: usize, value: usize) -> Scan
     }
 }
 
+// After one byte more behind a backslash, or where hex digits are to come. It stands by itself so that the compiler takes the rest of
+// `step` into the loops.
+fn step_escape(left: usize, value: usize, c: u8) -> Scan
+    requires { ⌜ 0 < left ⌝ }
+    ensures { λ r. ⌜ r ≡ step-escape left value c ⌝ }
+{
+    if left == 9 {
+        return step_behind(c);
+    }
+    step_digit(left, value % 1099511627776 * 16 + hex_value(c))
+}
+
 impl Scan {
     // Before the first byte of a string's or an IRIREF's text.
     pub fn text() -> Scan
@@ -188,17 +200,13 @@ impl Scan {
         ensures { λ r. ⌜ r ≡ step self c ⌝ }
     {
         let left = self.left;
-        let value = self.value;
         if left == 0 {
             return step_outside(c);
-        }
-        if left == 9 {
-            return step_behind(c);
         }
         if left == 10 {
             return step_name(c);
         }
-        step_digit(left, value % 1099511627776 * 16 + hex_value(c))
+        step_escape(left, self.value, c)
     }
 
     // The first n are the bytes of the piece that has just ended. (They are bytes unless it names no character.)
@@ -267,7 +275,7 @@ fn put(out: &mut [u8], j: usize, b: &[usize])
 }
 
 // Whether a backslash stands in the text; without one it stands for itself.
-fn has_backslash(s: &[u8]) -> bool
+pub fn has_backslash(s: &[u8]) -> bool
     ensures { λ r. ⌜ r ≡ some-byte (is "\\") (now (s .entry)) ⌝ }
 {
     let mut i: usize = 0;

@@ -2,7 +2,7 @@
 use Prim.Native.Nat.{ℕ, _+_, _-_, _≤_, _<_}
 use mathlib.Core.Path.{_≡_, refl, ap, sym, _∙_}
 use mathlib.Core.List.{[], _∷_, _++_, append-nil}
-use mathlib.Core.Bool.{Bool, true, false}
+use mathlib.Core.Bool.{Bool, true, false, _&&_}
 use native.Mathlib.Omega.{arith}
 use lib.ListN.{length, take, drop, length-append, length-drop, drop-of-length-le}
 use lib.Seq.{take-all, length-take-le}
@@ -23,6 +23,14 @@ begins-take [] (b ∷ t) = refl
 begins-take (a ∷ s) [] = refl
 begins-take (a ∷ s) (b ∷ t) = by (eqb a b) (λ e. rw e (begins-take s t)) (λ e. rw e)
 
+and-false : (b : Bool) → (b && false) ≡ false
+and-false true = refl
+and-false false = refl
+
+and-true : (b : Bool) → (b && true) ≡ b
+and-true true = refl
+and-true false = refl
+
 -- The rest of a slice from a place on.
 pub rest-all : (x : Text) (n : ℕ) → take (length x - n) (drop n x) ≡ drop n x
 rest-all x n = take-all (length x - n) (drop n x) (omega (arith, length-drop n x))
@@ -32,14 +40,16 @@ module _ (front : Text) (form : Form) (back t : Text) where
   unfolding joined
   joined-short h = sym (same-append front (undo form back) t ∙ rw (begins-short front t h))
 
-  pub joined-not : same-text front (take (length front) t) ≡ false → false ≡ same-text (joined front form back) t
-  unfolding joined
-  joined-not e = sym (same-append front (undo form back) t ∙ rw (begins-take front t, e))
+  abbrev end-of : Text
+  end-of = take (length t - length front) (drop (length front) t)
 
-  pub joined-same : (r : Bool) → same-text front (take (length front) t) ≡ true → r ≡ same-text (undo form back) (take (length t - length front) (drop (length front) t))
-      → r ≡ same-text (joined front form back) t
+  pub joined-not : same-text (undo form back) end-of ≡ false → false ≡ same-text (joined front form back) t
   unfolding joined
-  joined-same r e h = h ∙ (rw (rest-all t (length front)) (sym (same-append front (undo form back) t ∙ rw (begins-take front t, e))))
+  joined-not e = sym (same-append front (undo form back) t ∙ rw (← rest-all t (length front), e, and-false (begins front t)))
+
+  pub joined-same : (r : Bool) → same-text (undo form back) end-of ≡ true → r ≡ same-text front (take (length front) t) → r ≡ same-text (joined front form back) t
+  unfolding joined
+  joined-same r e h = h ∙ sym (same-append front (undo form back) t ∙ rw (← rest-all t (length front), e, and-true (begins front t)) (begins-take front t))
 
 -- What a part of a slice, given back, leaves in the slice.
 pub given-back : (x y : Text) (n : ℕ) → take n x ++ (y ++ drop (length x - n) (drop n x)) ≡ take n x ++ y

@@ -1,14 +1,15 @@
--- A hash of a text: which one it is does not matter to any answer.
+-- Hashes of a text, one for each multiplier: which they are does not matter to any answer. The shift keeps texts that one
+-- multiplier does not tell apart from being alike under every other.
 use mathlib.Core.List.{[], _∷_}
-use Prim.Native.Nat.{ℕ, _+_, _*_, _%_}
+use Prim.Native.Nat.{ℕ, _+_, _*_, _/_, _%_}
 use Rattle.text.specs.Text.{Text}
 
-abbrev pub mix : ℕ → ℕ → ℕ
-mix h b = (h * 16777619 + b % 256) % 4294967296
+abbrev pub most-multiplier : ℕ
+most-multiplier = 33554432
 
-unfoldable pub hash-from : ℕ → Text → ℕ
-hash-from h [] = h
-hash-from h (b ∷ s) = hash-from (mix h b) s
+abbrev pub stir : ℕ → ℕ → ℕ → ℕ
+stir m h n = (h * m + h / 32768 + n) % 4294967296
 
-unfoldable pub hash : Text → ℕ
-hash s = hash-from 0 s
+unfoldable pub hash-from : ℕ → ℕ → Text → ℕ
+hash-from m h [] = h
+hash-from m h (b ∷ s) = hash-from m (stir m h (b % 256)) s

@@ -7,7 +7,7 @@ ghost use Rattle.text.specs.Text.{same-text};
 ghost use Rattle.text.specs.Slice.{over};
 ghost use Rattle.escape.specs.Code.{undone, Starts, Written};
 ghost use Rattle.form.specs.Form.{undo, bad, joined};
-ghost use Rattle.form.specs.Hash.{hash, hash-from};
+ghost use Rattle.form.specs.Hash.{most-multiplier, stir, hash-from};
 use escape::Scan;
 
 // How the back is written: as it is, with the escapes of strings and references, or with those of local names.
@@ -39,7 +39,7 @@ fn same_undone(form: Form, back: &[u8], t: &[u8]) -> bool
     }
 }
 
-// Whether t is the whole text.
+// Whether t is the whole text. The back is looked at first: names of one namespace differ there.
 pub fn same_joined(front: &[u8], form: Form, back: &[u8], t: &[u8]) -> bool
     ensures { λ r. ⌜ r ≡ same-text (joined (now (front .entry)) form (now (back .entry))) (now (t .entry)) ⌝ }
 {
@@ -47,8 +47,8 @@ pub fn same_joined(front: &[u8], form: Form, back: &[u8], t: &[u8]) -> bool
     if t.len() < n {
         return false;
     }
-    if text::same(front, &t[..n]) {
-        return same_undone(form, back, &t[n..]);
+    if same_undone(form, back, &t[n..]) {
+        return text::same(front, &t[..n]);
     }
     false
 }
@@ -87,39 +87,50 @@ fn wide(b: u8) -> usize
     b as usize
 }
 
-// The hash h with the bytes of s mixed in.
-fn hash_bytes(h: usize, s: &[u8]) -> usize
-    requires { ⌜ h < 4294967296 ⌝ }
-    ensures { λ r. ⌜ (r ≡ hash-from h (now (s .entry))) × (r < 4294967296) ⌝ }
+// The hash h with one number more, by the multiplier m.
+pub fn stir(m: usize, h: usize, n: usize) -> usize
+    requires { ⌜ (m ≤ most-multiplier) × ((h < 4294967296) × (n < 4294967296)) ⌝ }
+    ensures { λ r. ⌜ (r ≡ stir m h n) × (r < 4294967296) ⌝ }
+{
+    (h * m + h / 32768 + n) % 4294967296
+}
+
+// The hash h with the bytes of s.
+pub fn hash_bytes(m: usize, h: usize, s: &[u8]) -> usize
+    requires { ⌜ (m ≤ most-multiplier) × (h < 4294967296) ⌝ }
+    ensures { λ r. ⌜ (r ≡ hash-from m h (now (s .entry))) × (r < 4294967296) ⌝ }
 {
     let mut total = h;
     let mut i: usize = 0;
     while i < s.len() {
-        total = (total * 16777619 + wide(s[i]) % 256) % 4294967296;
+        total = stir(m, total, wide(s[i]) % 256);
         i += 1;
     }
     total
 }
 
 // The same with bytes that are given as numbers.
-fn hash_numbers(h: usize, s: &[usize]) -> usize
-    requires { ⌜ h < 4294967296 ⌝ }
-    ensures { λ r. ⌜ (r ≡ hash-from h (now (s .entry))) × (r < 4294967296) ⌝ }
+fn hash_numbers(m: usize, h: usize, s: &[usize]) -> usize
+    requires { ⌜ (m ≤ most-multiplier) × (h < 4294967296) ⌝ }
+    ensures { λ r. ⌜ (r ≡ hash-from m h (now (s .entry))) × (r < 4294967296) ⌝ }
 {
     let mut total = h;
     let mut i: usize = 0;
     while i < s.len() {
-        total = (total * 16777619 + s[i] % 256) % 4294967296;
+        total = stir(m, total, s[i] % 256);
         i += 1;
     }
     total
 }
 
 // The same with the text that the scan gives from s.
-fn hash_scan(start: Scan, h: usize, s: &[u8]) -> usize
-    requires { ⌜ Starts start × (h < 4294967296) ⌝ }
-    ensures { λ r. ⌜ (r ≡ hash-from h (undone start (now (s .entry)))) × (r < 4294967296) ⌝ }
+fn hash_scan(start: Scan, m: usize, h: usize, s: &[u8]) -> usize
+    requires { ⌜ Starts start × ((m ≤ most-multiplier) × (h < 4294967296)) ⌝ }
+    ensures { λ r. ⌜ (r ≡ hash-from m h (undone start (now (s .entry)))) × (r < 4294967296) ⌝ }
 {
+    if !escape::has_backslash(s) {
+        return hash_bytes(m, h, s);
+    }
     let mut scan = start;
     let mut total = h;
     let mut i: usize = 0;
@@ -127,26 +138,27 @@ fn hash_scan(start: Scan, h: usize, s: &[u8]) -> usize
         scan = scan.step(s[i]);
         let n = scan.n;
         let b = scan.bytes();
-        total = hash_numbers(total, &b[..n]);
+        total = hash_numbers(m, total, &b[..n]);
         i += 1;
     }
     total
 }
 
-fn hash_undone(h: usize, form: Form, back: &[u8]) -> usize
-    requires { ⌜ h < 4294967296 ⌝ }
-    ensures { λ r. ⌜ (r ≡ hash-from h (undo form (now (back .entry)))) × (r < 4294967296) ⌝ }
+fn hash_undone(m: usize, h: usize, form: Form, back: &[u8]) -> usize
+    requires { ⌜ (m ≤ most-multiplier) × (h < 4294967296) ⌝ }
+    ensures { λ r. ⌜ (r ≡ hash-from m h (undo form (now (back .entry)))) × (r < 4294967296) ⌝ }
 {
     match form {
-        Form::Plain => hash_bytes(h, back),
-        Form::Escaped => hash_scan(Scan::text(), h, back),
-        Form::Reserved => hash_scan(Scan::name(), h, back),
+        Form::Plain => hash_bytes(m, h, back),
+        Form::Escaped => hash_scan(Scan::text(), m, h, back),
+        Form::Reserved => hash_scan(Scan::name(), m, h, back),
     }
 }
 
-// A number below 2^32 that depends on the whole text alone.
-pub fn hash_joined(front: &[u8], form: Form, back: &[u8]) -> usize
-    ensures { λ r. ⌜ (r ≡ hash (joined (now (front .entry)) form (now (back .entry)))) × (r < 4294967296) ⌝ }
+// A number below 2^32 that depends on the multiplier and the whole text alone.
+pub fn hash_joined(m: usize, front: &[u8], form: Form, back: &[u8]) -> usize
+    requires { ⌜ m ≤ most-multiplier ⌝ }
+    ensures { λ r. ⌜ (r ≡ hash-from m 0 (joined (now (front .entry)) form (now (back .entry)))) × (r < 4294967296) ⌝ }
 {
-    hash_undone(hash_bytes(0, front), form, back)
+    hash_undone(m, hash_bytes(m, 0, front), form, back)
 }

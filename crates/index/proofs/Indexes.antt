@@ -6,18 +6,18 @@ use mathlib.Core.Option.{none, some}
 use Prim.Native.Nat.{ℕ, zero, suc, _+_, _-_, _*_, _/_, _%_, _<_, _≤_}
 use native.Mathlib.Nat.{mod-lt}
 use native.Mathlib.Omega.{arith}
-use lib.Dec.{T, ltb}
+use lib.Dec.{T, eqb, ltb}
 use borrow.Author.Tests.{ltb-true, ltb-false}
 use lib.ListN.{length, getD, take, drop, length-append, List·getD-append}
 use lib.Seq.{getD-append-seam, take-at, drop-at, length-take-le}
-use Rattle.text.specs.Text.{Text}
+use Rattle.text.specs.Text.{Text, cond}
+use Rattle.text.specs.Words.{four-at}
 use Rattle.text.proofs.Compare.{by, contrary}
 use Rattle.dataset.specs.Terms.{Blank, Term, iri, blank, literal, tagged}
-use Rattle.table.specs.Layout.{entry-at}
-use Rattle.table.specs.Tables.{same-term, number-from, number, or-zero, label-of, text-of, words-from, terms-words, store-bytes, store-size}
+use Rattle.table.specs.Layout.{entry-at, literal-kind}
+use Rattle.table.specs.Tables.{same-term, number-from, number, or-zero, label-of, text-of, tag-of, words-from, terms-words, store-bytes, store-size}
 use Rattle.table.proofs.Numbers.{same-term-eq}
-use Rattle.table.proofs.Finding.{number-step, number-start}
-use Rattle.form.specs.Hash.{hash}
+use Rattle.table.proofs.Finding.{number-step, number-start, number-more}
 use Rattle.form.proofs.Forms.{rest-all, given-back}
 use Rattle.clear.proofs.Zeros.{zeros, zero-at}
 use Rattle.terms.specs.declared.Counts.{Counts}
@@ -26,22 +26,24 @@ use Rattle.terms.specs.Keeps.{blank-count, findable, Typed, Keeps, Means, Added
 use Rattle.terms.specs.Code.{matches, first}
 use Rattle.terms.proofs.Kept.{bytes-room, readable, test-same, found-first}
 use Rattle.index.specs.Slots.{slot-at, put-slot}
-use Rattle.index.specs.Chains.{buckets, least, bucket-of, Chains, Indexed, Linked, Followed, Follows, Links}
+use Rattle.index.specs.Keys.{key-at, turn-at, type-in, type-of}
+use Rattle.index.specs.Tree.{Leads, buckets, least, bucket-in, turn-in, Trees, Indexed, Linked, Followed, Follows, Vacant, InSlots, Links}
 use Rattle.index.specs.Holds.{Holds, Searchable}
 use Rattle.index.proofs.Slots.{put-length, slot-same, slot-other}
-use Rattle.index.proofs.Chains.{same-chains, skipped, linked, least-left, least-low, least-high}
+use Rattle.index.proofs.Trees.{leads-turns, same-trees, skipped, grown, least-left, least-low, least-high}
 
 -- Where the first n terms are others, the search goes on behind them.
 skip : (t : Term) (ts : List Term) (n : ℕ) → n ≤ length ts → ((i : ℕ) → i < n → same-term t (getD ts i (iri [])) ≡ false) → number t ts ≡ number-from (suc n) t (drop n ts)
 skip t ts zero h f = number-start t ts
 skip t ts (suc n) h f = skip t ts n (omega arith) (λ i l. f i (omega arith)) ∙ (number-step t ts n (omega arith) ∙ rw (f n (omega arith)))
 
-means-text : (ts : List Term) (sort : Sort) (x g : Text) (t : Term) → Means ts sort x g t → text-of t ≡ x
-unfolding Means
-means-text ts sort x g (iri s) M = M .1 .0
-means-text ts sort x g (blank b) M = M .1 .0
-means-text ts sort x g (literal s d) M = M .1 .0
-means-text ts sort x g (tagged s d) M = M .1 .0
+-- What a search is for is what the term is known by.
+pub means-text : (ts : List Term) (sort : Sort) (x g : Text) (t : Term) → Means ts sort x g t → (text-of t ≡ x) × ((tag-of t ≡ g) × (type-in ts t ≡ type-of sort))
+unfolding Means type-of
+means-text ts sort x g (iri s) M = (M .1 .0, (sym (M .1 .1), rw (M .0)))
+means-text ts sort x g (blank b) M = (M .1 .0, (sym (M .1 .1), rw (M .0)))
+means-text ts sort x g (literal s d) M = (M .1 .0, (sym (M .1 .1 .0), rw (M .0) (M .1 .1 .1)))
+means-text ts sort x g (tagged s h) M = (M .1 .0, (M .1 .1, rw (M .0)))
 
 same-is : (t u : Term) → same-term t u ≡ true → t ≡ u
 same-is t u e = same-term-eq t u (subst T (sym e) tt)
@@ -54,8 +56,15 @@ module _ {ts : List Term} {terms : List ℕ} {store : Text} {c : Counts} (K : Ke
   passes : (i : ℕ) → i < c .terms → test i ≡ true → t ≡ getD ts i (iri [])
   passes i h e = same-is t (getD ts i (iri [])) (sym (test-same K sort x g t M f i h) ∙ e)
 
-  pub in-bucket : (m b : ℕ) → b ≡ hash x % m → (i : ℕ) → i < c .terms → test i ≡ true → bucket-of m (getD ts i (iri [])) ≡ b
-  in-bucket m b e i h p = ap (bucket-of m) (sym (passes i h p)) ∙ rw (f, means-text ts sort x g t M, e)
+  known : (text-of t ≡ x) × ((tag-of t ≡ g) × (type-in ts t ≡ type-of sort))
+  known = means-text ts sort x g t M
+
+  in-tree : (m : ℕ) (i : ℕ) → i < c .terms → test i ≡ true
+      → (bucket-in m ts (getD ts i (iri [])) ≡ key-at 0 x g (type-of sort) % m) × ((d : ℕ) → turn-in ts (getD ts i (iri [])) d ≡ turn-at x g (type-of sort) d)
+  in-tree m i h p = (
+    ap (bucket-in m ts) (sym (passes i h p)) ∙ rw (f, known .0, known .1 .0, known .1 .1),
+    λ d. ap (λ (u : Term). turn-in ts u d) (sym (passes i h p)) ∙ rw (known .0, known .1 .0, known .1 .1),
+  )
 
   pub found-number : (k : ℕ) → 0 < k → k ≤ c .terms → test (k - 1) ≡ true → k ≡ or-zero (number t ts)
   found-number k q h e =
@@ -70,21 +79,23 @@ module _ {ts : List Term} {terms : List ℕ} {store : Text} {c : Counts} (K : Ke
       ∙ (found-first K sort x g t M f n (c .terms - n) (omega arith)
       ∙ sym (ap or-zero (skip t ts n (omega (arith, K .count)) (λ i l. sym (test-same K sort x g t M f i (omega arith)) ∙ miss i l))))
 
-  -- What following the chain of its bucket says.
-  pub followed : (y : Text) (b k : ℕ) → Indexed ts y → b ≡ hash x % buckets y → Follows y b (least (c .terms) (buckets y)) test k → Followed test (least (c .terms) (buckets y)) k
+  -- What following the tree of its bucket says.
+  pub followed : (y : Text) (k : ℕ) → Indexed ts y → Follows y (key-at 0 x g (type-of sort) % buckets y) (turn-at x g (type-of sort)) (least (c .terms) (buckets y)) test k
+      → Followed test (least (c .terms) (buckets y)) k
   unfolding Indexed
-  followed y b k I e F =
-      F (λ i. bucket-of (buckets y) (getD ts i (iri []))) (rw (K .count) I) (λ i h p. in-bucket (buckets y) b e i (omega (arith, least-left (c .terms) (buckets y))) p)
+  followed y k I F =
+      F (λ i. bucket-in (buckets y) ts (getD ts i (iri []))) (λ i. turn-in ts (getD ts i (iri []))) (rw (K .count) I)
+      (λ i h p. in-tree (buckets y) i (omega (arith, least-left (c .terms) (buckets y))) p)
 
 -- ---- An index of terms
 
 pub indexed-linked : (ts : List Term) (x : Text) → Indexed ts x → Linked x (length ts)
 unfolding Indexed
-indexed-linked ts x I = record { heads = I .head-in; nexts = I .next-in }
+indexed-linked ts x I = record { within = I .within; deeper = I .deeper }
 
 -- An index of no terms is a slice of zeros.
 zero-slot : (n i : ℕ) → slot-at (zeros n) i ≡ 0
-unfolding slot-at
+unfolding slot-at four-at
 zero-slot n i = rw (zero-at n (4 * i), zero-at n (4 * i + 1), zero-at n (4 * i + 2), zero-at n (4 * i + 3))
 
 pub indexed-none : (n : ℕ) → Indexed [] (zeros n)
@@ -94,101 +105,100 @@ indexed-none n =
     let none : least 0 m ≡ 0 = least-low 0 m (omega arith) in
     rw none
     (record {
-      head-none = λ b h i a g e. omega arith;
-      head-in = λ b h. omega (arith, zero-slot n b);
-      head-of = λ b h q. absurd (omega (arith, zero-slot n b));
-      next-none = λ c h l i a g e. omega arith;
-      next-in = λ c h. omega (arith, zero-slot n (m + c));
-      next-of = λ c h l q. absurd (omega arith);
+      reached = λ i l h. absurd (omega arith);
+      within = λ s h. omega (arith, zero-slot n s);
+      deeper = λ c t l h q. absurd (omega (arith, zero-slot n (m + (2 * c + t))));
     })
 
 -- One term more.
-module _ (ts : List Term) (t : Term) (m : ℕ) where
+module _ (ts : List Term) (t : Term) (typed : (i : ℕ) → i < length ts → Typed ts (getD ts i (iri []))) (m : ℕ) where
   abbrev ts' : List Term
   ts' = ts ++ t ∷ []
 
   longer : length ts' ≡ length ts + 1
   longer = length-append ts (t ∷ [])
 
-  old-bucket : (i : ℕ) → i < length ts → bucket-of m (getD ts' i (iri [])) ≡ bucket-of m (getD ts i (iri []))
-  old-bucket i h = ap (bucket-of m) (List·getD-append ts (t ∷ []) (iri []) i h)
+  -- The datatype of a term keeps its number.
+  same-type : (u : Term) → Typed ts u → type-in ts' u ≡ type-in ts u
+  unfolding Typed
+  same-type (iri s) y = refl
+  same-type (blank b) y = refl
+  same-type (literal s d) (n, e) = ap or-zero (number-more (iri d) ts (t ∷ []) n e ∙ sym e)
+  same-type (tagged s g) y = refl
 
-  new-bucket : bucket-of m (getD ts' (length ts) (iri [])) ≡ bucket-of m t
-  new-bucket = ap (bucket-of m) (getD-append-seam ts t [] (iri []))
+  old-term : (i : ℕ) → i < length ts → getD ts' i (iri []) ≡ getD ts i (iri [])
+  old-term i h = List·getD-append ts (t ∷ []) (iri []) i h
+
+  old-bucket : (i : ℕ) → i < length ts → bucket-in m ts' (getD ts' i (iri [])) ≡ bucket-in m ts (getD ts i (iri []))
+  old-bucket i h = rw (old-term i h, same-type (getD ts i (iri [])) (typed i h))
+
+  old-turn : (i : ℕ) → i < length ts → (d : ℕ) → turn-in ts (getD ts i (iri [])) d ≡ turn-in ts' (getD ts' i (iri [])) d
+  old-turn i h d = sym (rw (old-term i h, same-type (getD ts i (iri [])) (typed i h)))
+
+  new-term : getD ts' (length ts) (iri []) ≡ t
+  new-term = getD-append-seam ts t [] (iri [])
+
+  abbrev buckets' : ℕ → ℕ
+  buckets' i = bucket-in m ts' (getD ts' i (iri []))
+
+  abbrev turns' : ℕ → ℕ → ℕ
+  turns' i = turn-in ts' (getD ts' i (iri []))
 
   -- The index had no room for it.
-  full : (x : Text) → m ≤ length ts → Chains m ts x → Chains m ts' x
+  full : (x : Text) → m ≤ length ts → Trees m ts x → Trees m ts' x
   full x h I =
       let before : least (length ts) m ≡ m = least-high (length ts) m h in
       let behind : least (length ts') m ≡ m = least-high (length ts') m (omega (arith, longer)) in
-      rw behind (same-chains (rw before at I) (omega arith) (λ i. bucket-of m (getD ts' i (iri []))) (λ i l. old-bucket i (omega arith)))
+      rw behind (same-trees (rw before at I) buckets' turns' (λ i l. old-bucket i (omega arith)) (λ i l. old-turn i (omega arith)))
 
   -- It has no bucket.
-  away : (x : Text) → length ts < m → findable t ≡ false → Chains m ts x → Chains m ts' x
+  away : (x : Text) → length ts < m → findable t ≡ false → Trees m ts x → Trees m ts' x
   away x h f I =
       let before : least (length ts) m ≡ length ts = least-low (length ts) m (omega arith) in
       let behind : least (length ts') m ≡ length ts + 1 = least-low (length ts') m (omega (arith, longer)) ∙ longer in
-      let none : bucket-of m t ≡ m = rw f in
-      rw behind (skipped (rw before at I) (omega arith) (λ i. bucket-of m (getD ts' i (iri []))) old-bucket (omega (arith, new-bucket, none)))
+      let none : buckets' (length ts) ≡ m = rw (new-term, f) in
+      rw behind (skipped (rw before at I) buckets' turns' old-bucket old-turn (omega (arith, none)))
 
-  -- It is put in front of its chain.
-  module _ (x : Text) (fits : 8 * m ≤ length x) (h : length ts < m) (small : length ts < 4294967295) (f : findable t ≡ true) (I : Chains m ts x) where
-    abbrev b : ℕ
-    b = hash (text-of t) % m
+  -- It is put into its slot.
+  module _ (x : Text) (h : length ts < m) (small : length ts < 4294967295) (f : findable t ≡ true) (y : Typed ts t) (I : Trees m ts x) (s : ℕ)
+      (fits : 4 * s + 4 ≤ length x) (empty : slot-at x s ≡ 0) (n : ℕ)
+      (way : Leads m (slot-at x) (turn-at (text-of t) (tag-of t) (type-in ts t)) n (key-at 0 (text-of t) (tag-of t) (type-in ts t) % m) 0 s) where
+    in-m : buckets' (length ts) < m
+    in-m = rw (new-term, f) (mod-lt (key-at 0 (text-of t) (tag-of t) (type-in ts' t)) (omega arith))
 
-    abbrev between : Text
-    between = put-slot x (m + length ts) (slot-at x b)
+    turn-small : (u : Text) (g : Text) (k d : ℕ) → turn-at u g k d < 2
+    unfolding turn-at
+    turn-small u g k d = by (ltb d 8) (λ e. rw e (mod-lt _ (omega arith))) (λ e. rw e (mod-lt _ (omega arith)))
 
-    abbrev x' : Text
-    x' = put-slot between b (length ts + 1)
-
-    in-m : b < m
-    in-m = mod-lt (hash (text-of t)) (omega arith)
-
-    before : least (length ts) m ≡ length ts
-    before = least-low (length ts) m (omega arith)
-
-    head-new : slot-at x' b ≡ length ts + 1
-    head-new = slot-same between b (length ts + 1) (omega (arith, in-m, put-length x (m + length ts) (slot-at x b))) (omega arith)
-
-    head-old : (d : ℕ) → d < m → (d ≡ b → ⊥) → slot-at x' d ≡ slot-at x d
-    head-old d l ne = slot-other between b (length ts + 1) d ne ∙ slot-other x (m + length ts) (slot-at x b) d (λ e. omega arith)
-
-    next-new : slot-at x' (m + length ts) ≡ slot-at x b
-    next-new =
-        slot-other between b (length ts + 1) (m + length ts) (λ e. omega (arith, in-m))
-        ∙ slot-same x (m + length ts) (slot-at x b) (omega arith) (omega (arith, I .head-in b in-m, before))
-
-    next-old : (c : ℕ) → c < m → (c ≡ length ts → ⊥) → slot-at x' (m + c) ≡ slot-at x (m + c)
-    next-old c l ne =
-        slot-other between b (length ts + 1) (m + c) (λ e. omega (arith, in-m))
-        ∙ slot-other x (m + length ts) (slot-at x b) (m + c) (λ e. ne (let q : c ≡ length ts = omega arith in q))
-
-    on-chain : Chains m ts' x'
-    on-chain =
+    in-tree' : Trees m ts' (put-slot x s (length ts + 1))
+    in-tree' =
+        let before : least (length ts) m ≡ length ts = least-low (length ts) m (omega arith) in
         let behind : least (length ts') m ≡ length ts + 1 = least-low (length ts') m (omega (arith, longer)) ∙ longer in
         rw behind
-        (linked (rw before at I) (omega arith) (λ i. bucket-of m (getD ts' i (iri []))) old-bucket h (slot-at x') (λ c. slot-at x' (m + c)) b in-m (new-bucket ∙ rw f) head-new head-old next-new next-old)
+        (grown (rw before at I) buckets' turns' old-bucket old-turn h (slot-at (put-slot x s (length ts + 1))) s empty (slot-same x s (length ts + 1) fits (omega arith))
+        (λ k ne. slot-other x s (length ts + 1) k ne) in-m (λ d. turn-small _ _ _ d) n
+        (leads-turns m (slot-at x) (turn-at (text-of t) (tag-of t) (type-in ts t)) (turns' (length ts)) (λ d. sym (rw (new-term, same-type t y))) n (buckets' (length ts)) 0 s
+        (rw (new-term, f, same-type t y) way)))
 
 -- A [ or a list cell leaves the index as it is.
-pub indexed-blank : (ts : List Term) (t : Term) (x : Text) → findable t ≡ false → Indexed ts x → Indexed (ts ++ t ∷ []) x
+pub indexed-blank : (ts : List Term) (t : Term) (x : Text) → ((i : ℕ) → i < length ts → Typed ts (getD ts i (iri []))) → findable t ≡ false → Indexed ts x → Indexed (ts ++ t ∷ []) x
 unfolding Indexed
-indexed-blank ts t x f I =
-    by (ltb (length ts) (buckets x)) (λ e. away ts t (buckets x) x (ltb-true (length ts) (buckets x) e) f I)
-    (λ e. full ts t (buckets x) x (ltb-false (length ts) (buckets x) e) I)
+indexed-blank ts t x y f I =
+    by (ltb (length ts) (buckets x)) (λ e. away ts t y (buckets x) x (ltb-true (length ts) (buckets x) e) f I)
+    (λ e. full ts t y (buckets x) x (ltb-false (length ts) (buckets x) e) I)
 
-pub links-full : (x : Text) (count h : ℕ) → buckets x ≤ count → Links x x count h
+pub links-full : (x : Text) (count s : ℕ) → buckets x ≤ count → Links x x count s
 unfolding Indexed
-links-full x count h l ts t I e f k = full ts t (buckets x) x (omega arith) I
+links-full x count s l ts t I y e z f v = full ts t y (buckets x) x (omega arith) I
 
-pub links-new : (x x' : Text) (count h : ℕ) → count < buckets x → count < 4294967295
-    → x' ≡ put-slot (put-slot x (buckets x + count) (slot-at x (h % buckets x))) (h % buckets x) (count + 1) → Links x x' count h
+pub links-new : (x x' : Text) (count s : ℕ) → count < buckets x → count < 4294967295 → InSlots x s → x' ≡ put-slot x s (count + 1) → Links x x' count s
 unfolding Indexed
-links-new x x' count h l small w ts t I e f k =
+links-new x x' count s l small inside w ts t I y e z f v =
     let m = buckets x in
-    let size : length x' ≡ length x = ap length w ∙ (put-length (put-slot x (m + count) (slot-at x (h % m))) (h % m) (count + 1) ∙ put-length x (m + count) (slot-at x (h % m))) in
-    let same : buckets x' ≡ m = ap (λ (n : ℕ). n / 8) size in
-    rw (same, w, k, ← e) (on-chain ts t m x (omega arith) (omega arith) (omega arith) f I)
+    let same : buckets x' ≡ m = ap (λ (n : ℕ). n / 12) (ap length w ∙ put-length x s (count + 1)) in
+    let (n, (way, empty)) = v (omega arith) in
+    let fits : s < 3 * m = inside (omega arith) in
+    rw (same, w, ← e) (in-tree' ts t y m x (omega arith) (omega arith) f z I s (omega arith) empty n way)
 
 -- ---- The whole memory
 
@@ -217,26 +227,28 @@ pub holds-blank : (ts : List Term) (b : Blank) (terms terms' : List ℕ) (store 
 unfolding Means Typed
 holds-blank ts b terms terms' store index c c' H A e f = record {
   keeps = A store (bytes-room (H .keeps)) .keeps ts (blank b) (H .keeps) (refl, (e, refl)) tt (λ g. contrary (sym g ∙ f));
-  indexed = indexed-blank ts (blank b) index f (H .indexed);
+  indexed = indexed-blank ts (blank b) index (H .keeps .typed) f (H .indexed);
 }
 
--- A term more that a token may name again: it was added, and put on its chain.
-pub holds-added : (ts : List Term) (t : Term) (terms terms' : List ℕ) (store store' index index' : Text) (c c' : Counts) (sort : Sort) (x g : Text) (key : ℕ) → Holds ts terms store index c
-    → Added terms terms' store store' c c' sort x g → Links index index' (c .terms) key → key ≡ hash x → Means ts sort x g t → Typed ts t → findable t ≡ true → number t ts ≡ none
+-- A term more that a token may name again: it was added, and put into its slot.
+pub holds-added : (ts : List Term) (t : Term) (terms terms' : List ℕ) (store store' index index' : Text) (c c' : Counts) (sort : Sort) (x g : Text) (s : ℕ) → Holds ts terms store index c
+    → Added terms terms' store store' c c' sort x g → Links index index' (c .terms) s → Vacant index x g (type-of sort) s → Means ts sort x g t → Typed ts t → findable t ≡ true → number t ts ≡ none
     → Holds (ts ++ t ∷ []) terms' store' index' c'
-holds-added ts t terms terms' store store' index index' c c' sort x g key H A L e M y f n = record {
-  keeps = A .keeps ts t (H .keeps) M y (λ _. n);
-  indexed = L ts t (H .indexed) (sym (H .keeps .count)) f (e ∙ ap hash (sym (means-text ts sort x g t M)));
-}
+holds-added ts t terms terms' store store' index index' c c' sort x g s H A L v M y f n =
+    let known = means-text ts sort x g t M in
+    record {
+      keeps = A .keeps ts t (H .keeps) M y (λ _. n);
+      indexed = L ts t (H .indexed) (H .keeps .typed) (sym (H .keeps .count)) y f (rw (known .0, known .1 .0, known .1 .1) v);
+    }
 
 -- ---- The index at the end of the work slice, from n on
 
 pub end-part : (n m : ℕ) (work : Text) → n ≡ m → take (length work - n) (drop n work) ≡ drop m work
 end-part n m work e = rest-all work n ∙ ap (λ (k : ℕ). drop k work) e
 
-pub entered : (n m : ℕ) (work w : Text) (count key : ℕ) → n ≡ m → m ≤ length work → Links (take (length work - n) (drop n work)) w count key
-    → (take m (take n work ++ (w ++ drop (length work - n) (drop n work))) ≡ take m work) × Links (drop m work) (drop m (take n work ++ (w ++ drop (length work - n) (drop n work)))) count key
-entered n m work w count key e h L =
+pub entered : (n m : ℕ) (work w : Text) (count s : ℕ) → n ≡ m → m ≤ length work → Links (take (length work - n) (drop n work)) w count s
+    → (take m (take n work ++ (w ++ drop (length work - n) (drop n work))) ≡ take m work) × Links (drop m work) (drop m (take n work ++ (w ++ drop (length work - n) (drop n work)))) count s
+entered n m work w count s e h L =
     let front : length (take n work) ≡ m = length-take-le n work (omega arith) ∙ e in
     let back : take n work ++ (w ++ drop (length work - n) (drop n work)) ≡ take n work ++ w = given-back work w n in (
       rw back (take-at (take n work) w m front ∙ ap (λ (k : ℕ). take k work) e),

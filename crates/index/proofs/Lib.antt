@@ -1,3 +1,3 @@
 pub mod Slots
-pub mod Chains
+pub mod Trees
 pub mod Indexes

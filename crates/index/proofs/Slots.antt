@@ -5,6 +5,7 @@ use native.Mathlib.Omega.{arith}
 use lib.ListN.{length, getD, set, length-set}
 use lib.Seq.{getD-set-same, getD-set-other}
 use Rattle.text.specs.Text.{Text}
+use Rattle.text.specs.Words.{four-at}
 use Rattle.index.specs.Slots.{slot-at, put-slot}
 
 pub put-length : (s : Text) (i v : ℕ) → length (put-slot s i v) ≡ length s
@@ -48,7 +49,7 @@ digits : (v a b c d : ℕ) → v < 4294967296 → a ≡ v % 256 → b ≡ v / 25
 digits v a b c d h p q r s = omega arith
 
 pub slot-same : (s : Text) (i v : ℕ) → 4 * i + 4 ≤ length s → v < 4294967296 → slot-at (put-slot s i v) i ≡ v
-unfolding slot-at put-slot
+unfolding slot-at four-at put-slot
 slot-same s i v h l =
     let a = v % 256 in
     let b = v / 256 % 256 in
@@ -57,7 +58,7 @@ slot-same s i v h l =
     digits v _ _ _ _ l (byte-0 s (4 * i) a b c d h) (byte-1 s (4 * i) a b c d h) (byte-2 s (4 * i) a b c d h) (byte-3 s (4 * i) a b c d h)
 
 pub slot-other : (s : Text) (i v j : ℕ) → (j ≡ i → ⊥) → slot-at (put-slot s i v) j ≡ slot-at s j
-unfolding slot-at put-slot
+unfolding slot-at four-at put-slot
 slot-other s i v j ne =
     let a = v % 256 in
     let b = v / 256 % 256 in

@@ -2,21 +2,18 @@
 use mathlib.Core.Path.{_≡_}
 use mathlib.Core.Bool.{true}
 use mathlib.Core.List.{List}
-use Prim.Native.Nat.{ℕ, _-_, _≤_}
-use lib.ListN.{length, take, drop}
+use Prim.Native.Nat.{ℕ, _≤_}
+use lib.ListN.{length}
 use Rattle.text.specs.Text.{Text}
 use Rattle.dataset.specs.Terms.{Term}
 use Rattle.limits.specs.Limits.{work-size}
 use Rattle.table.specs.Layout.{iri-kind}
 use Rattle.table.specs.Tables.{number, or-zero}
-use Rattle.form.specs.Form.{joined}
-use Rattle.form.specs.Hash.{hash}
-use Rattle.form.specs.declared.Form.{Form}
 use Rattle.terms.specs.Keeps.{findable, Keeps, Means}
 use Rattle.terms.specs.Code.{Readable}
 use Rattle.terms.specs.declared.Counts.{Counts}
 use Rattle.terms.specs.declared.Sort.{Sort}
-use Rattle.index.specs.Chains.{Indexed, Linked}
+use Rattle.index.specs.Tree.{Indexed, Linked}
 
 -- It holds the terms ts.
 pub record Holds (ts : List Term) (terms : List ℕ) (store index : Text) (c : Counts) : Type 0 where
@@ -35,9 +32,8 @@ Finds terms store index c sort x g r = (ts : List Term) (t : Term) → Holds ts 
 abbrev pub iri-sort : Sort
 iri-sort = record { kind = iri-kind; datatype = 0 }
 
--- A part of the work slice, before a back, makes a text with this hash.
-pub record Names (work : Text) (start end key : ℕ) (form : Form) (back : Text) : Type 0 where
+-- A part of a work slice that has its size.
+pub record PartOf (work : Text) (start end : ℕ) : Type 0 where
   pub size : work-size ≤ length work
   pub order : start ≤ end
   pub inside : end ≤ length work
-  pub hashed : key ≡ hash (joined (take (end - start) (drop start work)) form back)

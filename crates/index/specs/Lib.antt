@@ -1,3 +1,4 @@
 pub mod Slots
-pub mod Chains
+pub mod Keys
+pub mod Tree
 pub mod Holds

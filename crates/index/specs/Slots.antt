@@ -1,10 +1,11 @@
 -- Numbers of four bytes in a byte slice.
 use Prim.Native.Nat.{ℕ, _+_, _*_, _/_, _%_}
-use lib.ListN.{getD, set}
+use Rattle.text.specs.Words.{four-at}
+use lib.ListN.{set}
 use Rattle.text.specs.Text.{Text}
 
 unfoldable pub slot-at : Text → ℕ → ℕ
-slot-at s i = getD s (4 * i) 0 + 256 * getD s (4 * i + 1) 0 + 65536 * getD s (4 * i + 2) 0 + 16777216 * getD s (4 * i + 3) 0
+slot-at s i = four-at s (4 * i)
 
 unfoldable pub put-slot : Text → ℕ → ℕ → Text
 put-slot s i v =

@@ -1,26 +1,26 @@
-// An index of the terms in the part of the work slice that nothing else uses: chains by a hash of the text.
+// An index of the terms in the part of the work slice that nothing else uses: trees by hashes of what a term is known by.
 // Without it, and for terms that it has no room for, the search is linear; the answer is the same.
 ghost use mathlib.Core.Path.{_≡_};
-ghost use Prim.Native.Nat.{suc, _+_, _*_, _-_, _/_, _≤_, _<_};
+ghost use Prim.Native.Nat.{suc, _+_, _*_, _-_, _/_, _%_, _≤_, _<_};
 ghost use mathlib.Core.List.{[]};
 ghost use lib.ListN.{length, take, drop};
 ghost use Rattle.limits.specs.Limits.{work-size};
 ghost use Rattle.form.specs.Form.{joined};
-ghost use Rattle.form.specs.Hash.{hash};
 ghost use Rattle.table.specs.Layout.{entry-at};
 ghost use Rattle.terms.specs.Code.{matches, Readable};
 ghost use Rattle.index.specs.Slots.{slot-at, put-slot};
-ghost use Rattle.index.specs.Chains.{buckets, least, Linked, Follows, Links};
-ghost use Rattle.index.specs.Holds.{Searchable, iri-sort, Names, Finds};
+ghost use Rattle.index.specs.Keys.{key-at, turn-at, type-of};
+ghost use Rattle.index.specs.Tree.{buckets, least, Linked, Follows, Vacant, InSlots, Links};
+ghost use Rattle.index.specs.Holds.{Searchable, iri-sort, PartOf, Finds};
 use form::Form;
 use limits::Limits;
 use terms::Counts;
 use terms::Sort;
 
-fn wide(b: u8) -> usize
-    ensures { λ r. ⌜ (r ≡ b) × (r < 256) ⌝ }
-{
-    b as usize
+// What a search comes to: the number of the equal term, or 0, and then the slot where it would stand.
+pub struct Found {
+    pub number: usize,
+    pub slot: usize,
 }
 
 // The number in a slot.
@@ -28,8 +28,7 @@ fn slot(s: &[u8], i: usize) -> usize
     requires { ⌜ 4 * i + 4 ≤ length (now s) ⌝ }
     ensures { λ r. ⌜ r ≡ slot-at (now (s .entry)) i ⌝ }
 {
-    let at = 4 * i;
-    wide(s[at]) + 256 * wide(s[at + 1]) + 65536 * wide(s[at + 2]) + 16777216 * wide(s[at + 3])
+    text::four(s, 4 * i)
 }
 
 // Sets the number in a slot, as far as four bytes hold it.
@@ -53,10 +52,48 @@ fn smaller(a: usize, b: usize) -> usize
     b
 }
 
-// The number of the equal term on the chain of a bucket, or 0.
+// The number of a literal's datatype, 0 for any other term.
+fn type_number(sort: Sort) -> usize
+    ensures { λ r. ⌜ r ≡ type-of sort ⌝ }
+{
+    if sort.kind == 3 {
+        return sort.datatype;
+    }
+    0
+}
+
+// The hash of a level of the trees.
+fn key_at(level: usize, sort: Sort, front: &[u8], form: Form, back: &[u8], tag: &[u8]) -> usize
+    ensures { λ r. ⌜ (r ≡ key-at level (joined (now (front .entry)) form (now (back .entry))) (now (tag .entry)) (type-of sort)) × (r < 4294967296) ⌝ }
+{
+    let m = 16777619 + 2 * (level % 65536);
+    let text = form::hash_joined(m, front, form, back);
+    let whole = form::hash_bytes(m, text, tag);
+    form::stir(m, whole, type_number(sort) % 4294967296)
+}
+
+// Which way the search goes at a level. The key is the first level's hash.
+fn turn(
+    key: usize,
+    level: usize,
+    sort: Sort,
+    front: &[u8],
+    form: Form,
+    back: &[u8],
+    tag: &[u8],
+) -> usize
+    requires { ⌜ key ≡ key-at 0 (joined (now front) form (now back)) (now tag) (type-of sort) ⌝ }
+    ensures { λ r. ⌜ (r ≡ turn-at (joined (now (front .entry)) form (now (back .entry))) (now (tag .entry)) (type-of sort) level) × (r < 2) ⌝ }
+{
+    if level < 8 {
+        return key / (2 * level + 3) % 2;
+    }
+    key_at(level, sort, front, form, back, tag) % 2
+}
+
+// The equal term in the tree of its bucket.
 fn follow(
     index: &[u8],
-    bucket: usize,
     count: usize,
     terms: &[u32],
     store: &[u8],
@@ -65,26 +102,36 @@ fn follow(
     form: Form,
     back: &[u8],
     tag: &[u8],
-) -> usize
-    requires { ⌜ (Linked (now index) count × (bucket < buckets (now index))) × Readable (now terms) (now store) count ⌝ }
-    ensures { λ r. ⌜ Follows (now (index .entry)) bucket (least count (buckets (now (index .entry)))) (λ i. matches (now (store .entry)) (entry-at (now (terms .entry)) (suc i)) sort (joined (now (front .entry)) form (now (back .entry))) (now (tag .entry))) r ⌝ }
+) -> Found
+    requires { ⌜ (Linked (now index) count × (0 < buckets (now index))) × Readable (now terms) (now store) count ⌝ }
+    ensures { λ r. ⌜ Follows (now (index .entry)) (key-at 0 (joined (now (front .entry)) form (now (back .entry))) (now (tag .entry)) (type-of sort) % buckets (now (index .entry))) (turn-at (joined (now (front .entry)) form (now (back .entry))) (now (tag .entry)) (type-of sort)) (least count (buckets (now (index .entry)))) (λ i. matches (now (store .entry)) (entry-at (now (terms .entry)) (suc i)) sort (joined (now (front .entry)) form (now (back .entry))) (now (tag .entry))) (r .number) × ((r .number ≡ 0 → Vacant (now (index .entry)) (joined (now (front .entry)) form (now (back .entry))) (now (tag .entry)) (type-of sort) (r .slot)) × InSlots (now (index .entry)) (r .slot)) ⌝ }
 {
-    let m = index.len() / 8;
-    let mut k = slot(index, bucket);
+    let m = index.len() / 12;
+    let key = key_at(0, sort, front, form, back, tag);
+    let mut place = key % m;
+    let mut level: usize = 0;
+    let mut k = slot(index, place);
     while 0 < k {
         let i = k - 1;
         if terms::is_term(terms, store, i, sort, front, form, back, tag) {
-            return k;
+            return Found {
+                number: k,
+                slot: place,
+            };
         }
-        k = slot(index, m + i);
+        place = m + (2 * i + turn(key, level, sort, front, form, back, tag));
+        level += 1;
+        k = slot(index, place);
     }
-    0
+    Found {
+        number: 0,
+        slot: place,
+    }
 }
 
-// The number of the equal term, or 0. The key is the hash of its text.
+// The equal term.
 pub fn find(
     index: &[u8],
-    key: usize,
     terms: &[u32],
     store: &[u8],
     counts: Counts,
@@ -93,31 +140,22 @@ pub fn find(
     form: Form,
     back: &[u8],
     tag: &[u8],
-) -> usize
-    requires { ⌜ Searchable (now terms) (now store) (now index) counts × (key ≡ hash (joined (now front) form (now back))) ⌝ }
-    ensures { λ r. ⌜ Finds (now (terms .entry)) (now (store .entry)) (now (index .entry)) counts sort (joined (now (front .entry)) form (now (back .entry))) (now (tag .entry)) r ⌝ }
+) -> Found
+    requires { ⌜ Searchable (now terms) (now store) (now index) counts ⌝ }
+    ensures { λ r. ⌜ Finds (now (terms .entry)) (now (store .entry)) (now (index .entry)) counts sort (joined (now (front .entry)) form (now (back .entry))) (now (tag .entry)) (r .number) × ((r .number ≡ 0 → Vacant (now (index .entry)) (joined (now (front .entry)) form (now (back .entry))) (now (tag .entry)) (type-of sort) (r .slot)) × InSlots (now (index .entry)) (r .slot)) ⌝ }
 {
-    let m = index.len() / 8;
+    let m = index.len() / 12;
     let count = counts.terms;
     if m == 0 {
-        return terms::find_from(terms, store, 0, count, sort, front, form, back, tag);
+        let n = terms::find_from(terms, store, 0, count, sort, front, form, back, tag);
+        return Found { number: n, slot: 0 };
     }
-    let k = follow(
-        index,
-        key % m,
-        count,
-        terms,
-        store,
-        sort,
-        front,
-        form,
-        back,
-        tag,
-    );
-    if 0 < k {
-        return k;
+    let found = follow(index, count, terms, store, sort, front, form, back, tag);
+    if 0 < found.number {
+        return found;
     }
-    terms::find_from(
+    let place = found.slot;
+    let n = terms::find_from(
         terms,
         store,
         smaller(count, m),
@@ -127,37 +165,37 @@ pub fn find(
         form,
         back,
         tag,
-    )
+    );
+    Found {
+        number: n,
+        slot: place,
+    }
 }
 
-// Puts the term that was added behind `count` others on its chain. The key is the hash of its text.
-fn link(index: &mut [u8], count: usize, key: usize)
-    requires { ⌜ count < 4294967295 ⌝ }
-    ensures { λ _. ⌜ Links (now (index .entry)) (now (index .exit)) count key ⌝ }
+// Puts the term that was added behind `count` others into its slot.
+fn link(index: &mut [u8], count: usize, place: usize)
+    requires { ⌜ (count < 4294967295) × InSlots (now index) place ⌝ }
+    ensures { λ _. ⌜ Links (now (index .entry)) (now (index .exit)) count place ⌝ }
 {
-    let m = index.len() / 8;
+    let m = index.len() / 12;
     if m <= count {
         return;
     }
-    let bucket = key % m;
-    let newest = slot(index, bucket);
-    set_slot(index, m + count, newest);
-    set_slot(index, bucket, count + 1);
+    set_slot(index, place, count + 1);
 }
 
-// The number of the IRI that a prefixed name stands for, or 0: its namespace is a part of the work slice, whose end is the index.
+// The number of an IRI, or 0: its front is a part of the work slice, whose end is the index.
 pub fn find_name(
     work: &[u8],
     start: usize,
     end: usize,
-    key: usize,
     terms: &[u32],
     store: &[u8],
     counts: Counts,
     form: Form,
     back: &[u8],
 ) -> usize
-    requires { ⌜ Names (now work) start end key form (now back) × Searchable (now terms) (now store) (drop work-size (now work)) counts ⌝ }
+    requires { ⌜ PartOf (now work) start end × Searchable (now terms) (now store) (drop work-size (now work)) counts ⌝ }
     ensures { λ r. ⌜ Finds (now (terms .entry)) (now (store .entry)) (drop work-size (now (work .entry))) counts iri-sort (joined (take (end - start) (drop start (now (work .entry)))) form (now (back .entry))) [] r ⌝ }
 {
     let n = Limits::work_size();
@@ -165,9 +203,8 @@ pub fn find_name(
         kind: 1,
         datatype: 0,
     };
-    find(
+    let found = find(
         &work[n..],
-        key,
         terms,
         store,
         counts,
@@ -176,14 +213,15 @@ pub fn find_name(
         form,
         back,
         &back[..0],
-    )
+    );
+    found.number
 }
 
-// Puts the term that was added behind `count` others on its chain, in the index at the end of the work slice.
-pub fn enter(work: &mut [u8], count: usize, key: usize)
-    requires { ⌜ (work-size ≤ length (now work)) × (count < 4294967295) ⌝ }
-    ensures { λ _. ⌜ (take work-size (now (work .exit)) ≡ take work-size (now (work .entry))) × Links (drop work-size (now (work .entry))) (drop work-size (now (work .exit))) count key ⌝ }
+// Puts the term that was added behind `count` others into its slot of the index at the end of the work slice.
+pub fn enter(work: &mut [u8], count: usize, place: usize)
+    requires { ⌜ (work-size ≤ length (now work)) × ((count < 4294967295) × InSlots (drop work-size (now work)) place) ⌝ }
+    ensures { λ _. ⌜ (take work-size (now (work .exit)) ≡ take work-size (now (work .entry))) × Links (drop work-size (now (work .entry))) (drop work-size (now (work .exit))) count place ⌝ }
 {
     let n = Limits::work_size();
-    link(&mut work[n..], count, key);
+    link(&mut work[n..], count, place);
 }

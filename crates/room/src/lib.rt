@@ -59,8 +59,7 @@ fn find_iri(
     requires { ⌜ Held (now work) (now terms) (now store) counts × ((start ≤ end) × (end ≤ length (now work))) ⌝ }
     ensures { λ r. ⌜ Numbers (now (work .entry)) (now (terms .entry)) (now (store .entry)) counts (iri (joined (take (end - start) (drop start (now (work .entry)))) form (now (back .entry)))) r ⌝ }
 {
-    let key = form::hash_joined(&work[start..end], form, back);
-    index::find_name(work, start, end, key, terms, store, counts, form, back)
+    index::find_name(work, start, end, terms, store, counts, form, back)
 }
 
 fn find_first(work: &[u8], terms: &[u32], store: &[u8], counts: Counts) -> usize
@@ -197,10 +196,8 @@ fn find_text(
     ensures { λ r. ⌜ Finds (now (terms .entry)) (now (store .entry)) (drop work-size (now (work .entry))) counts sort (undo form (now (text .entry))) (now (tag .entry)) r ⌝ }
 {
     let n = Limits::work_size();
-    let key = form::hash_joined(&text[..0], form, text);
-    index::find(
+    let found = index::find(
         &work[n..],
-        key,
         terms,
         store,
         counts,
@@ -209,7 +206,8 @@ fn find_text(
         form,
         text,
         tag,
-    )
+    );
+    found.number
 }
 
 // ---- Counting what is new

@@ -3,3 +3,4 @@ pub mod Booleans
 pub mod Compare
 pub mod Over
 pub mod Table
+pub mod Words

@@ -7,10 +7,10 @@ use native.Mathlib.Omega.{arith}
 use lib.ListN.{length, getD, take, drop, set, length-set}
 use lib.Seq.{getD-set-same, getD-set-other}
 use Rattle.scope.specs.Code.{words-size}
-use Rattle.index.specs.Chains.{Links}
+use Rattle.index.specs.Keys.{type-of}
+use Rattle.index.specs.Tree.{Links, Vacant, InSlots}
 use Rattle.text.specs.Text.{Text}
 use Rattle.limits.specs.Limits.{work-size}
-use Rattle.form.specs.Hash.{hash}
 use Rattle.scope.proofs.Directives.{whole}
 use Rattle.dataset.specs.Terms.{Term, Blank, label, iri, blank, literal, tagged}
 use Rattle.table.specs.Tables.{number, or-zero}
@@ -97,9 +97,9 @@ added-lengths : (sort : Sort) (x g : Text) (terms terms' : List ℕ) (store stor
 added-lengths sort x g terms terms' store store' c c' A =
     (ap length (A .words) ∙ over-at-length (5 * c .terms) (entry-words (next-entry c sort (length x) (length g))) terms, ap length (A .bytes) ∙ over-at-length (c .used) (x ++ g) store)
 
-module _ (sort : Sort) (x g : Text) (key r n : ℕ) (work work' : Text) (rows terms terms' : List ℕ) (store store' : Text) (st st' : List ℕ) where
-  pub shares-added : Finds terms store (drop work-size work) (counts-of st) sort x g r → r ≡ 0 → key ≡ hash x → Room terms store (counts-of st) sort x g
-      → TermAdded sort x g key work work' terms terms' store store' st st' → n ≡ getD st terms-word 0 + 1
+module _ (sort : Sort) (x g : Text) (slot r n : ℕ) (work work' : Text) (rows terms terms' : List ℕ) (store store' : Text) (st st' : List ℕ) where
+  pub shares-added : Finds terms store (drop work-size work) (counts-of st) sort x g r → r ≡ 0 → Vacant (drop work-size work) x g (type-of sort) slot → Room terms store (counts-of st) sort x g
+      → TermAdded sort x g slot work work' terms terms' store store' st st' → n ≡ getD st terms-word 0 + 1
       → Shares sort x g n work work' (tables rows terms store) (tables rows terms' store') st st'
   shares-added F z e P A en =
       let t = tables rows terms store in
@@ -108,7 +108,7 @@ module _ (sort : Sort) (x g : Text) (key r n : ℕ) (work work' : Text) (rows te
         represents = λ old m u R a.
             rw (absent old m u R a)
             (held-term old m work work' rows terms terms' store store' st st' sort x g u R P (A .added)
-            (holds-added (m .terms) u terms terms' store store' (drop work-size work) (drop work-size work') (counts-of st) (counts-of st') sort x g key (R .terms-held) (A .added) (A .linked) e (a .means) (a .typed) (a .named) (absent old m u R a))
+            (holds-added (m .terms) u terms terms' store store' (drop work-size work) (drop work-size work') (counts-of st) (counts-of st') sort x g slot (R .terms-held) (A .added) (A .linked) e (a .means) (a .typed) (a .named) (absent old m u R a))
             (A .front) (A .long) (A .set));
         result = λ old m u R a. rw (absent old m u R a) (omega (arith, en, R .terms-held .keeps .count));
         kept = record {
@@ -237,10 +237,10 @@ fresh-writes r terms terms' st st' c d f ec A S er =
 
 -- ---- What the code of adding a term leaves
 
-pub term-added : (sort : Sort) (x g : Text) (key count : ℕ) (work work' : Text) (terms terms' : List ℕ) (store store' : Text) (st st' : List ℕ) (c d : Counts) → c ≡ counts-of st → count ≡ c .terms
-    → Added terms terms' store store' c d sort x g → (take work-size work' ≡ take work-size work) × Links (drop work-size work) (drop work-size work') count key → CountsSet st st' d
-    → length work' ≡ length work → TermAdded sort x g key work work' terms terms' store store' st st'
-term-added sort x g key count work work' terms terms' store store' st st' c d ec en A (front, L) S long = record {
+pub term-added : (sort : Sort) (x g : Text) (slot count : ℕ) (work work' : Text) (terms terms' : List ℕ) (store store' : Text) (st st' : List ℕ) (c d : Counts) → c ≡ counts-of st → count ≡ c .terms
+    → Added terms terms' store store' c d sort x g → (take work-size work' ≡ take work-size work) × Links (drop work-size work) (drop work-size work') count slot → CountsSet st st' d
+    → length work' ≡ length work → TermAdded sort x g slot work work' terms terms' store store' st st'
+term-added sort x g slot count work work' terms terms' store store' st st' c d ec en A (front, L) S long = record {
   added = rw (← ec, S .counts) A;
   linked = rw (en, ec) at L;
   front = front;

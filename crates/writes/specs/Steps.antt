@@ -13,7 +13,7 @@ use Rattle.table.specs.Tables.{label-of}
 use Rattle.terms.specs.declared.Counts.{Counts}
 use Rattle.terms.specs.declared.Sort.{Sort}
 use Rattle.terms.specs.Keeps.{findable, Typed, Means, Added}
-use Rattle.index.specs.Chains.{Links}
+use Rattle.index.specs.Tree.{Links}
 use Rattle.machine.specs.Memory.{Memory, Write, done, term, new-term, row}
 use Rattle.state.specs.Words.{rows-word, terms-word, node-word, counts-of}
 use Rattle.machine.specs.Rules.{hold}
@@ -59,10 +59,10 @@ pub record Shares (sort : Sort) (x g : Text) (r : ℕ) (work work' : Text) (t t'
   pub result : (old : Tables) (m : Memory) (u : Term) → Represents old m work t st → Asks sort x g m u → term u m .0 ≡ r
   pub kept : Kept work work' t t' st st'
 
--- A term was added and put on its chain.
-pub record TermAdded (sort : Sort) (x g : Text) (key : ℕ) (work work' : Text) (terms terms' : List ℕ) (store store' : Text) (st st' : List ℕ) : Type 0 where
+-- A term was added and put into its slot of the index.
+pub record TermAdded (sort : Sort) (x g : Text) (slot : ℕ) (work work' : Text) (terms terms' : List ℕ) (store store' : Text) (st st' : List ℕ) : Type 0 where
   pub added : Added terms terms' store store' (counts-of st) (counts-of st') sort x g
-  pub linked : Links (drop work-size work) (drop work-size work') (getD st terms-word 0) key
+  pub linked : Links (drop work-size work) (drop work-size work') (getD st terms-word 0) slot
   pub front : take work-size work' ≡ take work-size work
   pub long : length work' ≡ length work
   pub set : CountsSet st st' (counts-of st')

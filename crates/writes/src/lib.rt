@@ -7,9 +7,10 @@ ghost use Prim.Native.Nat.{ℕ, _+_, _-_, _<_};
 ghost use lib.ListN.{length, getD, take, drop};
 ghost use Rattle.scope.specs.Code.{words-size, Usable};
 ghost use Rattle.form.specs.Form.{undo, bad, joined};
-ghost use Rattle.form.specs.Hash.{hash};
 ghost use Rattle.dataset.specs.Terms.{iri, blank, label, tagged, rdf-first, rdf-rest, rdf-nil};
+ghost use Rattle.limits.specs.Limits.{work-size};
 ghost use Rattle.terms.specs.Keeps.{Room};
+ghost use Rattle.index.specs.Tree.{InSlots};
 ghost use Rattle.machine.specs.Memory.{done, term, typed};
 ghost use Rattle.machine.specs.Frame.{no-cell, cells};
 ghost use Rattle.machine.specs.Rules.{hold, new-cell, end-list};
@@ -47,13 +48,13 @@ fn set_counts(st: &mut [usize; Layout::WORDS], c: Counts)
     st[Words::BLANKS] = c.blanks;
 }
 
-// Adds a term and puts it on its chain; its number.
+// Adds a term and puts it into its slot of the index; its number.
 fn add(
     work: &mut [u8],
     terms: &mut [u32],
     store: &mut [u8],
     st: &mut [usize; Layout::WORDS],
-    key: usize,
+    slot: usize,
     sort: Sort,
     start: usize,
     end: usize,
@@ -61,13 +62,13 @@ fn add(
     back: &[u8],
     tag: &[u8],
 ) -> usize
-    requires { ⌜ Room (now terms) (now store) (counts-of (now st)) sort (joined (take (end - start) (drop start (now work))) form (now back)) (now tag) × (Part start end form (now back) × Usable (now work) (now st)) ⌝ }
-    ensures { λ r. ⌜ (r ≡ getD (now (st .entry)) terms-word 0 + 1) × TermAdded sort (joined (take (end - start) (drop start (now (work .entry)))) form (now (back .entry))) (now (tag .entry)) key (now (work .entry)) (now (work .exit)) (now (terms .entry)) (now (terms .exit)) (now (store .entry)) (now (store .exit)) (now (st .entry)) (now (st .exit)) ⌝ }
+    requires { ⌜ Room (now terms) (now store) (counts-of (now st)) sort (joined (take (end - start) (drop start (now work))) form (now back)) (now tag) × ((Part start end form (now back) × Usable (now work) (now st)) × InSlots (drop work-size (now work)) slot) ⌝ }
+    ensures { λ r. ⌜ (r ≡ getD (now (st .entry)) terms-word 0 + 1) × TermAdded sort (joined (take (end - start) (drop start (now (work .entry)))) form (now (back .entry))) (now (tag .entry)) slot (now (work .entry)) (now (work .exit)) (now (terms .entry)) (now (terms .exit)) (now (store .entry)) (now (store .exit)) (now (st .entry)) (now (st .exit)) ⌝ }
 {
     let c = counts(st);
     let count = c.terms;
     let d = terms::add(terms, store, c, sort, &work[start..end], form, back, tag);
-    index::enter(work, count, key);
+    index::enter(work, count, slot);
     set_counts(st, d);
     count + 1
 }
@@ -90,10 +91,8 @@ fn share(
 {
     let n = Limits::work_size();
     let c = counts(st);
-    let key = form::hash_joined(&work[start..end], form, back);
     let found = index::find(
         &work[n..],
-        key,
         &terms[0..],
         &store[0..],
         c,
@@ -103,15 +102,16 @@ fn share(
         back,
         tag,
     );
-    if 0 < found {
-        return found;
+    if 0 < found.number {
+        return found.number;
     }
+    let slot = found.slot;
     add(
         work,
         terms,
         store,
         st,
-        key,
+        slot,
         sort,
         start,
         end,

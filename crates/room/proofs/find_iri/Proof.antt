@@ -9,32 +9,16 @@ use borrow.Author.Needs.{needs}
 use Rattle.room.proofs.find_iri.Statement.{statement}
 use Rattle.room.proofs.find_iri.Tie as tie
 
-sub-hash-joined : tie.Need-sub-hash-joined
-sub-hash-joined c = search needs
-
-part-hash-joined-start : tie.Need-part-hash-joined-start
-part-hash-joined-start c = search needs
-
-part-hash-joined-end : tie.Need-part-hash-joined-end
-part-hash-joined-end c = search needs
-
-hash-joined-requires : tie.Need-hash-joined-requires
-hash-joined-requires c κs = search needs
-
 find-name-requires : tie.Need-find-name-requires
-find-name-requires c κs = (record { size = c .before .before .before .before .before .before .pre .0 .0; order = c .before .before .before .before .before .before .pre .1 .0; inside = c .before .before .before .before .before .before .pre .1 .1; hashed = c .hash-joined .ensures .0 }, searchable (c .before .before .before .before .before .before .pre .0 .1 .0) _ _ _ _ (c .before .before .before .before .before .before .pre .0 .1 .1))
+find-name-requires c κs = (record { size = c .before .before .before .before .pre .0 .0; order = c .before .before .before .before .pre .1 .0; inside = c .before .before .before .before .pre .1 .1 }, searchable (c .before .before .before .before .pre .0 .1 .0) _ _ _ _ (c .before .before .before .before .pre .0 .1 .1))
 
 returns : tie.Need-returns
 unfolding Means
-returns c = λ ts H. c .find-name .ensures ts (iri (joined (take (c .before .before .before .before .before .before .before .args .end - c .before .before .before .before .before .before .before .args .start) (drop (c .before .before .before .before .before .before .before .args .start) (c .before .before .before .before .before .before .before .args .work .now))) (c .before .before .before .before .before .before .before .args .form) (c .before .before .before .before .before .before .before .args .back .now))) H (refl, (refl, refl)) refl
+returns c = λ ts H. c .find-name .ensures ts (iri (joined (take (c .before .before .before .before .before .args .end - c .before .before .before .before .before .args .start) (drop (c .before .before .before .before .before .args .start) (c .before .before .before .before .before .args .work .now))) (c .before .before .before .before .before .args .form) (c .before .before .before .before .before .args .back .now))) H (refl, (refl, refl)) refl
 
 pub find-iri-spec : {M : Type 1} → statement M
 find-iri-spec =
     tie.close
     (tie.spec
-    sub-hash-joined
-    part-hash-joined-start
-    part-hash-joined-end
-    hash-joined-requires
     find-name-requires
     returns)

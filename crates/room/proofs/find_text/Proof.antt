@@ -8,12 +8,6 @@ use Rattle.room.proofs.find_text.Tie as tie
 work-size-requires : tie.Need-work-size-requires
 work-size-requires c κs = search needs
 
-slice-aggregate-hash-joined : tie.Need-slice-aggregate-hash-joined
-slice-aggregate-hash-joined c = search needs
-
-hash-joined-requires : tie.Need-hash-joined-requires
-hash-joined-requires c κs = search needs
-
 sub-find : tie.Need-sub-find
 sub-find c = search needs
 
@@ -27,19 +21,17 @@ slice-aggregate-find : tie.Need-slice-aggregate-find
 slice-aggregate-find c = search needs
 
 find-requires : tie.Need-find-requires
-find-requires c κs = (rw (end-part (c .before .before .before .before .work-size .result) work-size (c .before .before .before .before .before .before .before .before .before .before .args .work .now) (c .before .before .before .before .work-size .ensures)) (searchable (c .before .before .before .before .before .before .before .before .before .before .pre .1 .0) _ _ _ _ (c .before .before .before .before .before .before .before .before .before .before .pre .1 .1)), c .before .before .hash-joined .ensures .0)
+find-requires c κs = rw (end-part (c .before .before .work-size .result) work-size (c .before .before .before .before .before .before .before .before .args .work .now) (c .before .before .work-size .ensures)) (searchable (c .before .before .before .before .before .before .before .before .pre .1 .0) _ _ _ _ (c .before .before .before .before .before .before .before .before .pre .1 .1))
 
 returns : tie.Need-returns
 unfolding joined
-returns c = λ ts t H M f. c .find .ensures ts t (rw (end-part (c .before .before .before .before .before .work-size .result) work-size (c .before .before .before .before .before .before .before .before .before .before .before .args .work .now) (c .before .before .before .before .before .work-size .ensures)) H) M f
+returns c = λ ts t H M f. c .find .ensures .0 ts t (rw (end-part (c .before .before .before .work-size .result) work-size (c .before .before .before .before .before .before .before .before .before .args .work .now) (c .before .before .before .work-size .ensures)) H) M f
 
 pub find-text-spec : {M : Type 1} → statement M
 find-text-spec =
     tie.close
     (tie.spec
     work-size-requires
-    slice-aggregate-hash-joined
-    hash-joined-requires
     sub-find
     part-find-start
     part-find-end

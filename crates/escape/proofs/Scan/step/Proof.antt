@@ -1,47 +1,40 @@
 use borrow.Author.Tests.{eq-eqb, ne-eqb}
-use mathlib.Core.Path.{sym}
-use Rattle.escape.specs.Code.{step, step-outside, step-behind, step-name, step-digit}
-use Rattle.escape.specs.Escape.{hex-value}
+use Rattle.escape.specs.Code.{step}
 use borrow.Author.Needs.{needs}
 use Rattle.escape.proofs.Scan.step.Statement.{statement}
 use Rattle.escape.proofs.Scan.step.Tie as tie
+use Rattle.escape.proofs.Scan.step.Reads as reads
+use Rattle.escape.proofs.Scan.step.Lts as lts
+use Rattle.escape.proofs.step_escape.Reads as step-escape-reads
+use Rattle.escape.proofs.step_name.Reads as step-name-reads
+use Rattle.escape.proofs.step_outside.Reads as step-outside-reads
 
+-- src/lib.rt:204:13
 step-outside-requires : tie.Need-step-outside-requires
 step-outside-requires c κs = search needs
 
+-- src/lib.rt:204:13
 returns : tie.Need-returns
 unfolding step
 returns c = simp (eq-eqb _ _ (c .before .if1 .taken)) (c .step-outside .ensures)
 
-step-behind-requires : tie.Need-step-behind-requires
-step-behind-requires c κs = search needs
-
-returns-2 : tie.Need-returns-2
-unfolding step
-returns-2 c = simp (eq-eqb _ _ (c .before .if2 .taken), ne-eqb _ _ (c .before .before .if1 .left)) (c .step-behind .ensures)
-
+-- src/lib.rt:207:13
 step-name-requires : tie.Need-step-name-requires
 step-name-requires c κs = search needs
 
+-- src/lib.rt:207:13
+returns-2 : tie.Need-returns-2
+unfolding step
+returns-2 c = simp (ne-eqb _ _ (c .before .before .if1 .left), eq-eqb _ _ (c .before .if2 .taken)) (c .step-name .ensures)
+
+-- src/lib.rt:209:9
+step-escape-requires : tie.Need-step-escape-requires
+step-escape-requires c κs = search needs
+
+-- src/lib.rt:199:5
 returns-3 : tie.Need-returns-3
 unfolding step
-returns-3 c = simp (eq-eqb _ _ (c .before .if3 .taken), ne-eqb _ _ (c .before .before .if2 .left), ne-eqb _ _ (c .before .before .before .if1 .left)) (c .step-name .ensures)
-
-mul-step-digit : tie.Need-mul-step-digit
-mul-step-digit c = search needs
-
-hex-value-requires : tie.Need-hex-value-requires
-hex-value-requires c κs = search needs
-
-add-step-digit : tie.Need-add-step-digit
-add-step-digit c = search needs
-
-step-digit-requires : tie.Need-step-digit-requires
-step-digit-requires c κs = search needs
-
-returns-4 : tie.Need-returns-4
-unfolding step
-returns-4 c = simp (ne-eqb _ _ (c .before .before .if3 .left), ne-eqb _ _ (c .before .before .before .if2 .left), ne-eqb _ _ (c .before .before .before .before .if1 .left), sym (c .before .hex-value .ensures .0)) (c .step-digit .ensures)
+returns-3 c = simp (ne-eqb _ _ (c .before .before .if1 .left), ne-eqb _ _ (c .before .if2 .left)) (c .step-escape .ensures)
 
 pub step-spec : {M : Type 1} → statement M
 step-spec =
@@ -49,12 +42,7 @@ step-spec =
     (tie.spec
     step-outside-requires
     returns
-    step-behind-requires
-    returns-2
     step-name-requires
-    returns-3
-    mul-step-digit
-    hex-value-requires
-    add-step-digit
-    step-digit-requires
-    returns-4)
+    returns-2
+    step-escape-requires
+    returns-3)

@@ -1,0 +1,62 @@
+-- Comparing eight bytes at once.
+use mathlib.Core.Path.{_≡_, refl, sym, ap, _∙_}
+use mathlib.Core.Bool.{true, false}
+use Prim.Native.Nat.{ℕ, _+_, _*_, _<_, _≤_}
+use native.Mathlib.Omega.{arith}
+use lib.ListN.{length, getD, drop}
+use lib.Seq.{getD-drop}
+use Rattle.text.specs.Text.{Text, same-text}
+use Rattle.text.specs.Words.{four-at, eight-at}
+use Rattle.text.proofs.Compare.{by, same-eq, same-more}
+
+abbrev pub Bytes : Text → Type 0
+Bytes s = (i : ℕ) → getD s i 0 < 256
+
+pub four-small : (s : Text) (i : ℕ) → Bytes s → four-at s i < 4294967296
+unfolding four-at
+four-small s i b = omega (arith, b i, b (i + 1), b (i + 2), b (i + 3))
+
+-- A number says its low byte and the rest.
+low : (a b x y : ℕ) → a < 256 → b < 256 → a + 256 * x ≡ b + 256 * y → (b ≡ a) × (x ≡ y)
+low a b x y h g e = (omega arith, omega arith)
+
+module _ (s t : Text) (bs : Bytes s) (bt : Bytes t) where
+  -- The same four bytes, from i on.
+  four-more : (i : ℕ) → i + 4 ≤ length s → i + 4 ≤ length t → four-at s i ≡ four-at t i → same-text (drop i s) (drop i t) ≡ same-text (drop (i + 4) s) (drop (i + 4) t)
+  unfolding four-at
+  four-more i h g e =
+      let (p, r) = low (getD s i 0) (getD t i 0) (getD s (i + 1) 0 + 256 * (getD s (i + 2) 0 + 256 * getD s (i + 3) 0)) (getD t (i + 1) 0 + 256 * (getD t (i + 2) 0 + 256 * getD t (i + 3) 0)) (bs i) (bt i) (omega (arith, e)) in
+      let (q, u) = low (getD s (i + 1) 0) (getD t (i + 1) 0) (getD s (i + 2) 0 + 256 * getD s (i + 3) 0) (getD t (i + 2) 0 + 256 * getD t (i + 3) 0) (bs (i + 1)) (bt (i + 1)) r in
+      let (v, w) = low (getD s (i + 2) 0) (getD t (i + 2) 0) (getD s (i + 3) 0) (getD t (i + 3) 0) (bs (i + 2)) (bt (i + 2)) u in
+      same-more s t i i (omega arith) (omega arith) p
+      ∙ (same-more s t (i + 1) (i + 1) (omega arith) (omega arith) q
+      ∙ (next (i + 1) (i + 2) (omega arith)
+      ∙ (same-more s t (i + 2) (i + 2) (omega arith) (omega arith) v
+      ∙ (next (i + 2) (i + 3) (omega arith)
+      ∙ (same-more s t (i + 3) (i + 3) (omega arith) (omega arith) (sym w) ∙ next (i + 3) (i + 4) (omega arith))))))
+    where
+      next : (j k : ℕ) → j + 1 ≡ k → same-text (drop (j + 1) s) (drop (j + 1) t) ≡ same-text (drop k s) (drop k t)
+      next j k e = ap (λ (n : ℕ). same-text (drop n s) (drop n t)) e
+
+  pub eight-more : (i : ℕ) → i + 8 ≤ length s → i + 8 ≤ length t → eight-at s i ≡ eight-at t i → same-text (drop i s) (drop i t) ≡ same-text (drop (i + 8) s) (drop (i + 8) t)
+  eight-more i h g e =
+      let a = four-small s i bs in
+      let b = four-small t i bt in
+      four-more i (omega arith) (omega arith) (omega (arith, e, a, b))
+      ∙ (four-more (i + 4) (omega arith) (omega arith) (omega (arith, e, a, b))
+      ∙ ap (λ (n : ℕ). same-text (drop n s) (drop n t)) (let z : i + 4 + 4 ≡ i + 8 = omega arith in z))
+
+pub four-drop : (s : Text) (i j : ℕ) → four-at (drop i s) j ≡ four-at s (i + j)
+unfolding four-at
+four-drop s i j =
+    let at : (k : ℕ) → getD (drop i s) (j + k) 0 ≡ getD s (i + j + k) 0 = λ k. getD-drop i s (j + k) 0 ∙ ap (λ (n : ℕ). getD s n 0) (let z : i + (j + k) ≡ i + j + k = omega arith in z) in
+    rw (getD-drop i s j 0, at 1, at 2, at 3)
+
+-- Texts that are the same from i on have the same bytes there.
+pub eight-not : (s t : Text) (i : ℕ) → (eight-at s i ≡ eight-at t i → ⊥) → same-text (drop i s) (drop i t) ≡ false
+eight-not s t i ne =
+    by (same-text (drop i s) (drop i t))
+    (λ e. let same = same-eq (drop i s) (drop i t) e in
+    let at : (j : ℕ) → four-at s (i + j) ≡ four-at t (i + j) = λ j. sym (four-drop s i j) ∙ (ap (λ (x : Text). four-at x j) same ∙ four-drop t i j) in
+    absurd (ne (let low-four : four-at s i ≡ four-at t i = ap (four-at s) (omega arith) ∙ (at 0 ∙ ap (four-at t) (omega arith)) in omega (arith, low-four, at 4))))
+    (λ e. e)
