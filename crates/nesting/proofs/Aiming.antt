@@ -60,16 +60,16 @@ place-small doc a r = omega (arith, r .cursor .inside, r .cursor .size)
 
 -- ---- What routines ask for
 
-pub ready-words : (doc : Text) (a : Held) → Ready doc a → length (a .st) ≡ 90
+pub ready-words : (doc : Text) (a : Held) → Ready doc a → length (a .st) ≡ 212
 ready-words doc a r = let (old, (m, h)) = r .holds in h .usable .words
 
-pub unexpected-call : (doc : Text) (a : Held) → Ready doc a → Cursor doc (a .st) × (length (a .st) ≡ 90)
+pub unexpected-call : (doc : Text) (a : Held) → Ready doc a → Cursor doc (a .st) × (length (a .st) ≡ 212)
 unexpected-call doc a r = (r .cursor, ready-words doc a r)
 
-pub pass-call : (doc : Text) (a : Held) (k : ℕ) → Ready doc a → getD (a .st) kind-word 0 ≡ k → (k ≡ 0 → ⊥) → (k ≡ 31 → ⊥) → (Cursor doc (a .st) × TokenHere doc (a .st)) × (length (a .st) ≡ 90)
+pub pass-call : (doc : Text) (a : Held) (k : ℕ) → Ready doc a → getD (a .st) kind-word 0 ≡ k → (k ≡ 0 → ⊥) → (k ≡ 31 → ⊥) → (Cursor doc (a .st) × TokenHere doc (a .st)) × (length (a .st) ≡ 212)
 pass-call doc a k r e z y = ((r .cursor, r .cursor .token (λ h. z (sym e ∙ h)) (λ h. y (sym e ∙ h))), ready-words doc a r)
 
-pub leave-call : (doc : Text) (a : Held) (k : ℕ) → Ready doc a → getD (a .st) kind-word 0 ≡ k → (k ≡ 0 → ⊥) → (k ≡ 31 → ⊥) → 0 < getD (a .st) depth-word 0 → (Cursor doc (a .st) × TokenHere doc (a .st)) × ((length (a .st) ≡ 90) × (0 < getD (a .st) depth-word 0))
+pub leave-call : (doc : Text) (a : Held) (k : ℕ) → Ready doc a → getD (a .st) kind-word 0 ≡ k → (k ≡ 0 → ⊥) → (k ≡ 31 → ⊥) → 0 < getD (a .st) depth-word 0 → (Cursor doc (a .st) × TokenHere doc (a .st)) × ((length (a .st) ≡ 212) × (0 < getD (a .st) depth-word 0))
 leave-call doc a k r e z y d = let w = pass-call doc a k r e z y in (w .0, (w .1, d))
 
 -- A test that was turned round.

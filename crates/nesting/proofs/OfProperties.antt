@@ -153,7 +153,7 @@ module _ (doc : Text) (a₀ : Held) (work rows terms store : RefT (List ℕ)) (s
             steady = steady-objects;
           })
 
-      pub skips-call : q ≡ 0 → getD (d .st) kind-word 0 ≡ 21 → (Cursor doc (d .st) × (length (d .st) ≡ 90)) × (getD (d .st) kind-word 0 ≡ 21)
+      pub skips-call : q ≡ 0 → getD (d .st) kind-word 0 ≡ 21 → (Cursor doc (d .st) × (length (d .st) ≡ 212)) × (getD (d .st) kind-word 0 ≡ 21)
       skips-call y k =
           let R = to-objects (after-semicolon s full-stop) full-stop [] (verbs-semicolon s full-stop) .ready y in
           let (old, (m, h)) = R .holds in

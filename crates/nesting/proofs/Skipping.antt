@@ -93,5 +93,5 @@ module _ (doc : Text) (st₀ st st' : List ℕ) (I : SkipInv doc st₀ st) (p : 
   pub skip-less : length doc - getD st' at-word 0 < length doc - getD st at-word 0
   skip-less = omega (arith, p .later, p .cursor .inside)
 
-pub skip-ready : (doc : Text) (st₀ st : List ℕ) → SkipInv doc st₀ st → length st₀ ≡ 90 → (Cursor doc st × TokenHere doc st) × (length st ≡ 90)
+pub skip-ready : (doc : Text) (st₀ st : List ℕ) → SkipInv doc st₀ st → length st₀ ≡ 212 → (Cursor doc st × TokenHere doc st) × (length st ≡ 212)
 skip-ready doc st₀ st I n = ((I .cursor, token-there doc st 21 (I .cursor) (I .kind) (λ h. omega arith) (λ h. omega arith)), I .words ∙ n)
