@@ -14,7 +14,7 @@ use Rattle.machine.specs.Rules.{find-rule}
 use Rattle.state.specs.Words.{kind-word}
 use Rattle.reading.specs.Reading.{code-among, Held, here, Ready}
 use Rattle.reading.proofs.Tests.{kinds-of, among-any, no-rule, among-code}
-use Rattle.nodes.specs.Nodes.{term-rules, Fills, Steady, PutsTerm}
+use Rattle.nodes.specs.Nodes.{term-rules, Fills, Settled, PutsTerm}
 use Rattle.nesting.specs.Nesting.{Leaf}
 
 -- No term is a string by itself.
@@ -29,7 +29,7 @@ string-token : (k : ℕ) → code-among strings k ≡ true → (k ≡ 0 → ⊥)
 string-token k v = ((λ e. contrary (sym (rw e at v))), (λ e. contrary (sym (rw e at v))))
 
 module _ (doc : Text) (a : Held) (ready : Ready doc a) where
-  pub leaf-string : (b : Held) (r : ℕ) → code-among strings (getD (a .st) kind-word 0) ≡ true → Fills doc a b r × Steady a b r → Leaf doc a b r
+  pub leaf-string : (b : Held) (r : ℕ) → code-among strings (getD (a .st) kind-word 0) ≡ true → Fills doc a b r × Settled a b r → Leaf doc a b r
   leaf-string b r v f =
       let (z, y) = string-token (getD (a .st) kind-word 0) v in
       let t = ready .cursor .token z y in

@@ -49,7 +49,7 @@ properties-start doc a s r v =
     }
 
 -- A predicate's kind is a token's.
-verb-token : (k : ℕ) → code-among verb-kinds k ≡ true → (k ≡ 0 → ⊥) × (k ≡ 31 → ⊥)
+pub verb-token : (k : ℕ) → code-among verb-kinds k ≡ true → (k ≡ 0 → ⊥) × (k ≡ 31 → ⊥)
 verb-token k v = ((λ e. contrary (sym (rw e at v))), (λ e. contrary (sym (rw e at v))))
 
 module _ (doc : Text) (a₀ : Held) (work rows terms store : RefT (List ℕ)) (st st' : List ℕ) (s : ℕ) (I : PropertiesInv doc a₀ (held work rows terms store st) s) (aim : Aimed st st' 0 0 0 0 0) where
