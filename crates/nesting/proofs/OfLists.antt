@@ -96,9 +96,9 @@ module _ (doc : Text) (work rows terms store : RefT (List ℕ)) (st st' : List �
   in-list-there place opened (cells head c) (l, h) = (same 81 (omega arith) ∙ l, h)
 
   pub element-value : (d : Held) (q : ℕ) → Values doc a1 d q → Elements doc a d q
-  element-value d q V place e opened cs w fs l =
+  element-value d q W place e opened cs w fs l =
       let slot = element-slot doc a1 place opened cs (λ x. omega (arith, same 77 (omega arith))) (in-list-there place opened cs w) (λ x. k (sym (same 71 (omega arith)) ∙ x)) in
-      let v = V .goes-on (list place opened cs) (list place opened (extended cs (suc (getD st' terms-word 0)))) slot fs (subst (λ (n : ℕ). Levels st' (getD st' depth-word 0) (list place opened (extended cs n) ∷ fs)) cell-there (levels-there place e opened cs fs l)) in
+      let v = W .goes-on (list place opened cs) (list place opened (extended cs (suc (getD st' terms-word 0)))) slot fs (subst (λ (n : ℕ). Levels st' (getD st' depth-word 0) (list place opened (extended cs n) ∷ fs)) cell-there (levels-there place e opened cs fs l)) in
       record {
         reads = comes-then doc (on-top (list place opened cs ∷ fs)) (on-top (list place opened cs ∷ fs)) (on-top []) a a1 d 0 q (comes-aimed doc work rows terms store st st' (mark-before st st' 0 cell M) (M .words) (on-top (list place opened cs ∷ fs)) ready) refl (v .reads);
         depth = λ y. v .depth y ∙ mark-depth st st' 0 cell M;

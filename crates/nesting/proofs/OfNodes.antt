@@ -12,10 +12,11 @@ use denote.Ref.{RefT}
 use Rattle.text.specs.Text.{Text, cond}
 use Rattle.text.proofs.Compare.{by, contrary}
 use Rattle.token.specs.Kind.{Kind, kind-of-code, among, strings, kw-a, open-bracket, open-paren}
+use Rattle.token.specs.Tokens.{Token}
 use Rattle.dataset.specs.Terms.{blank, bracket as bracket-node}
 use Rattle.machine.specs.Memory.{Memory, new-term}
 use Rattle.machine.specs.Frame.{Place, top, object-of, element-of, no-cell, Frame, bracket, list}
-use Rattle.machine.specs.Rules.{find-rule, frame-rules, after-node}
+use Rattle.machine.specs.Rules.{find-rule, object-rules, frame-rules, after-node}
 use Rattle.machine.specs.Refusals.{new-depth}
 use Rattle.state.specs.Words.{terms-word, node-word, kind-word, at-word, depth-word, list-word, x-word, y-word, opened-word, last-word}
 use Rattle.state.specs.Cursor.{Cursor, TokenHere}
@@ -103,7 +104,7 @@ module _ (doc : Text) (a : Held) (ready : Ready doc a) where
     where
       first : (x y : Bool) → (x || y) ≡ true → y ≡ false → x ≡ true
       first true y e f = refl
-      first false y e f = contrary (sym f ∙ e)
+      first false y e f = contrary (sym e ∙ f)
 
   -- Nothing that may stand there.
   pub value-none : (r : ℕ) (c : Bool) → c ≡ (code-among term-kinds (getD (a .st) kind-word 0) || code-among strings (getD (a .st) kind-word 0)) → c ≡ false → (getD (a .st) kind-word 0 ≡ 22 → ⊥) → (getD (a .st) kind-word 0 ≡ 24 → ⊥) → r ≡ refusal-here doc (a .st)
@@ -346,11 +347,14 @@ module _ (doc : Text) (work rows terms store : RefT (List ℕ)) (st st' : List �
 
   -- What awaits a node does so still.
   slot-marked : (f g : Frame) → Slot doc a₀ f g → Slot doc a₁ f g
+  unfolding slot-place
   slot-marked f g s =
       record {
         opening = s .opening;
-        rules = λ k tied h. rw here-same (s .rules k tied h);
-        others = λ z t tied h. rw here-same (s .others (λ e. z (same 71 (omega arith) ∙ e)) (token-words doc st' st (λ k x y. sym (same k (omega arith))) t) tied (rw (← here-same) h));
+        rules = λ k tied h. subst (λ (t : Token). find-rule k (frame-rules t tied f) ≡ find-rule k (object-rules t tied (s .opening))) (sym here-same) (s .rules k tied h);
+        others = λ z y tied h.
+            subst (λ (t : Token). among object-kinds (t .kind) ≡ false → find-rule (t .kind) (frame-rules t tied f) ≡ none) (sym here-same)
+            (s .others (λ e. z (same 71 (omega arith) ∙ e)) (token-words doc st' st (λ k x w. sym (same k (omega arith))) y) tied) h;
         opens = λ old m h. rw (place-same, spot-same) (s .opens old m (holding old m h));
         begins = λ old m h. rw (place-same, spot-same) (s .begins old m (holding old m h));
         no-node = λ n. rw place-same (s .no-node n);
@@ -364,7 +368,6 @@ module _ (doc : Text) (work rows terms store : RefT (List ℕ)) (st st' : List �
       here-same = rw (same 71 (omega arith), same 72 (omega arith), same 73 (omega arith))
 
       place-same : slot-place a₁ ≡ slot-place a₀
-      unfolding slot-place
       place-same = rw (same 67 (omega arith), same 77 (omega arith), same 78 (omega arith), same 79 (omega arith))
 
       spot-same : spot-of a₁ ≡ spot-of a₀
@@ -374,8 +377,8 @@ module _ (doc : Text) (work rows terms store : RefT (List ℕ)) (st st' : List �
       holding old m h = represents-words old m (work .now) (tables-of a₁) st' st (λ k x. sym (same k (omega arith))) (sym (same 76 (omega arith))) (sym (M .words)) h
 
   pub node-alone : Awaited doc a₀ → (d : Held) (q : ℕ) → Values doc a₁ d q → Fills doc a₀ d q × Steady a₀ d q
-  node-alone (f₀, (g₀, s₀)) d q V =
+  node-alone (f₀, (g₀, s₀)) d q W =
       let l = mark-none st st' 0 0 M refl refl in (
-        (λ f g s. comes-then doc (on-top (f ∷ [])) (on-top (f ∷ [])) (on-top (g ∷ [])) a₀ a₁ d 0 q (comes-aimed doc work rows terms store st st' (mark-before st st' 0 0 M) (M .words) (on-top (f ∷ [])) ready) refl (V .alone l f g (slot-marked f g s) .0)),
-        (let w = V .alone l f₀ g₀ (slot-marked f₀ g₀ s₀) .1 in record { depth = λ e. w .depth e ∙ mark-depth st st' 0 0 M; later = λ e. omega (arith, w .later e, M .below 72 (omega arith)) }),
+        (λ f g s. comes-then doc (on-top (f ∷ [])) (on-top (f ∷ [])) (on-top (g ∷ [])) a₀ a₁ d 0 q (comes-aimed doc work rows terms store st st' (mark-before st st' 0 0 M) (M .words) (on-top (f ∷ [])) ready) refl (W .alone l f g (slot-marked f g s) .0)),
+        (let w = W .alone l f₀ g₀ (slot-marked f₀ g₀ s₀) .1 in record { depth = λ e. w .depth e ∙ mark-depth st st' 0 0 M; later = λ e. omega (arith, w .later e, M .below 72 (omega arith)) }),
       )

@@ -134,8 +134,8 @@ module _ (doc : Text) (work rows terms store : RefT (List ℕ)) (st st' : List �
       )
 
       pub predicate-value : (d : Held) (q : ℕ) → Values doc b2 d q → Predicates doc (held work rows terms store st) d q
-      predicate-value d q V f verbs fs l =
-          let w = V .goes-on (object s p bracket-end) (after-object s p bracket-end) (object-slot doc b2 s p bracket-end (aim' .list-is) (aim' .x-is) (aim' .y-is) (rw es zs) some-p) fs (levels-u2 fs l) in
+      predicate-value d q W f verbs fs l =
+          let w = W .goes-on (object s p bracket-end) (after-object s p bracket-end) (object-slot doc b2 s p bracket-end (aim' .list-is) (aim' .x-is) (aim' .y-is) (rw es zs) some-p) fs (levels-u2 fs l) in
           let R : Reads doc (f ∷ fs) (object s p bracket-end ∷ fs) (held work rows terms store st) b r =
           subst (λ (n : ℕ). Reads doc (f ∷ fs) (object s n bracket-end ∷ fs) (held work rows terms store st) b r) (sym ep) (to-verb doc work rows terms store st st' ready verb aim b r P f s (rw es verbs) fs) in
           record {
@@ -204,9 +204,9 @@ module _ (doc : Text) (work rows terms store : RefT (List ℕ)) (st : List ℕ) 
     )
 
     pub comma-value : (d : Held) (q : ℕ) → Values doc u'-held d q → Follows doc o d q
-    comma-value d q V fs l =
+    comma-value d q W fs l =
         let (gs, (e, (h, (w, (y, l′))))) = level-object st (getD st depth-word 0) z (lv .0) (lv .1) in
-        let R = V .goes-on (object s p bracket-end) (after-object s p bracket-end) (object-slot doc u'-held s p bracket-end (aim .list-is) (aim .x-is ∙ s-same) (aim .y-is ∙ p-same) z (known .1)) fs
+        let R = W .goes-on (object s p bracket-end) (after-object s p bracket-end) (object-slot doc u'-held s p bracket-end (aim .list-is) (aim .x-is ∙ s-same) (aim .y-is ∙ p-same) z (known .1)) fs
         (moved (after-object s p bracket-end ∷ fs) (h, (saves-object s p (known .0 .0) (known .0 .1) z (known .1), l))) in
         record {
           reads = comes-then doc (on-top (after-object s p bracket-end ∷ fs)) (on-top (object s p bracket-end ∷ fs)) (on-top []) o u-held d 0 q (comes-within doc (λ x. fs ++ x) (on-top (after-object s p bracket-end ∷ [])) (on-top (object s p bracket-end ∷ [])) o u-held 0 (comma bracket-end)) refl
