@@ -101,3 +101,7 @@ level-none st d e (f ∷ fs) (h, (s, l)) = absurd (omega (arith, s .some-y))
 -- What reading and writing levels asks for.
 pub mark-call : (doc : Text) (a : Held) → Ready doc a → (length (a .st) ≡ 212) × (getD (a .st) depth-word 0 ≤ 64)
 mark-call doc a r = (ready-words doc a r, r .depth)
+
+pub some-level : (r x : ℕ) → r ≡ x → (r ≡ 0 → ⊥) → 0 < x
+some-level r zero e z = absurd (z e)
+some-level r (suc x) e z = omega arith

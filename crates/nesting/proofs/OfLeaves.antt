@@ -1,6 +1,6 @@
 -- A node of its own tokens alone: a term, or a string.
 use mathlib.Core.Path.{_≡_, refl, sym, _∙_}
-use mathlib.Core.Bool.{Bool, true, false, _&&_}
+use mathlib.Core.Bool.{Bool, true, false, _&&_, _||_}
 use mathlib.Core.Option.{none, some}
 use Prim.Native.Nat.{ℕ}
 use native.Mathlib.Omega.{arith}
@@ -38,3 +38,12 @@ module _ (doc : Text) (a : Held) (ready : Ready doc a) where
 
 pub leaf-term : (doc : Text) (a b : Held) (r : ℕ) → code-among strings (getD (a .st) kind-word 0) ≡ false → PutsTerm doc a b r → Leaf doc a b r
 leaf-term doc a b r v p = record { puts = p; fills = λ e. contrary (sym e ∙ v) }
+
+-- Whether a kind is a term's, or else a string's.
+pub either-first : (b x y : Bool) → b ≡ x → b ≡ true → true ≡ (x || y)
+either-first b true y e f = refl
+either-first b false y e f = contrary (sym f ∙ e)
+
+pub either-second : (b c x y : Bool) → b ≡ x → b ≡ false → c ≡ y → c ≡ (x || y)
+either-second b c true y e f g = contrary (sym e ∙ f)
+either-second b c false y e f g = g

@@ -15,12 +15,13 @@ use Rattle.reading.proofs.Compose.{comes-here, comes-then, comes-stop, comes-wi
 use Rattle.reading.proofs.Frames.{ready-does}
 use Rattle.reading.proofs.Numbers.{next-small}
 use Rattle.state.specs.Writes.{closed}
-use Rattle.nodes.specs.Nodes.{Aimed, Spotted, InList, Closes, spot-of}
+use Rattle.nodes.specs.Nodes.{Aimed, Spotted, Slot, InList, Closes, spot-of}
 use Rattle.nodes.proofs.Passing.{depth-closing}
 use Rattle.nodes.proofs.Slots.{element-slot, list-closes, cell-or-nil}
-use Rattle.nesting.specs.Nesting.{level-x, level-y, Marked, ListOf, Saves, Levels, SomeLevels, Deep, Resumes, Values, Follows, Elements}
+use Rattle.nesting.specs.Nesting.{Awaited, level-x, level-y, Marked, ListOf, Saves, Levels, SomeLevels, Deep, Resumes, Values, Follows, Elements}
 use Rattle.nesting.proofs.Skipping.{token-there}
 use Rattle.nesting.proofs.Aiming.{comes-aimed, ready-aimed, spotted}
+use Rattle.nesting.proofs.OfElements.{some-place}
 use Rattle.nesting.proofs.Levels.{levels-at, mark-depth, mark-before, mark-spot, mark-levels, saves-list, level-object, level-list, level-none}
 
 -- ---- The end of a list
@@ -82,13 +83,24 @@ module _ (doc : Text) (work rows terms store : RefT (List ℕ)) (st st' : List �
   levels-there : (place : Place) → ((n : ℕ) → after-node place n ≡ []) → (opened : ℕ) (cs : Cells) → (fs : List Frame) → Levels st (getD st depth-word 0 - 1) fs → Levels st' (getD st' depth-word 0) (list place opened (extended cs cell) ∷ fs)
   levels-there place e opened cs fs l = mark-levels st st' 0 cell M (list place opened (extended cs cell)) (saves-element place e opened cs) (deep .0) fs l
 
-  pub element-call : Spotted a → (Ready doc a1 × Spotted a1) × SomeLevels st' (getD st' depth-word 0)
+  -- Some list is read there.
+  some-list : (last : ℕ) → getD st' last-word 0 ≡ last → (place : Place) × ((opened : ℕ) × ((cs : Cells) × InList a1 place opened cs))
+  some-list zero e = let (place, b) = some-place (getD st' x-word 0) (getD st' y-word 0) in (place, (getD st' opened-word 0, (no-cell, (b, (refl, e)))))
+  some-list (suc last) e = (object-of 1 1, (0, (cells 1 (suc last), (e, omega arith))))
+
+  awaits : (place : Place) (opened : ℕ) (cs : Cells) → InList a1 place opened cs → Slot doc a1 (list place opened cs) (list place opened (extended cs (suc (getD st' terms-word 0))))
+  awaits place opened cs w = element-slot doc a1 place opened cs (λ x. omega (arith, same 77 (omega arith))) w (λ x. k (sym (same 71 (omega arith)) ∙ x))
+
+  pub element-call : Spotted a → (Ready doc a1 × Spotted a1) × (Awaited doc a1 × SomeLevels st' (getD st' depth-word 0))
   element-call s = (
     (
       ready-aimed doc work rows terms store st st' (mark-before st st' 0 cell M) (M .words) ready,
       record { x = rw (same 78 (omega arith)) (s .x); y = rw (same 79 (omega arith)) (s .y); opened = rw (same 80 (omega arith)) (s .opened); last = rw (same 81 (omega arith)) (s .last) },
     ),
-    (let (h, (fs, l)) = deep in (list (object-of 1 1) 0 (extended no-cell cell) ∷ fs, levels-there (object-of 1 1) (λ n. refl) 0 no-cell fs l)),
+    (
+      (let (place, (opened, (cs, w))) = some-list (getD st' last-word 0) refl in (list place opened cs, (list place opened (extended cs (suc (getD st' terms-word 0))), awaits place opened cs w))),
+      (let (h, (fs, l)) = deep in (list (object-of 1 1) 0 (extended no-cell cell) ∷ fs, levels-there (object-of 1 1) (λ n. refl) 0 no-cell fs l)),
+    ),
   )
 
   in-list-there : (place : Place) (opened : ℕ) (cs : Cells) → InList a place opened cs → InList a1 place opened cs
@@ -97,7 +109,7 @@ module _ (doc : Text) (work rows terms store : RefT (List ℕ)) (st st' : List �
 
   pub element-value : (d : Held) (q : ℕ) → Values doc a1 d q → Elements doc a d q
   element-value d q W place e opened cs w fs l =
-      let slot = element-slot doc a1 place opened cs (λ x. omega (arith, same 77 (omega arith))) (in-list-there place opened cs w) (λ x. k (sym (same 71 (omega arith)) ∙ x)) in
+      let slot = awaits place opened cs (in-list-there place opened cs w) in
       let v = W .goes-on (list place opened cs) (list place opened (extended cs (suc (getD st' terms-word 0)))) slot fs (subst (λ (n : ℕ). Levels st' (getD st' depth-word 0) (list place opened (extended cs n) ∷ fs)) cell-there (levels-there place e opened cs fs l)) in
       record {
         reads = comes-then doc (on-top (list place opened cs ∷ fs)) (on-top (list place opened cs ∷ fs)) (on-top []) a a1 d 0 q (comes-aimed doc work rows terms store st st' (mark-before st st' 0 cell M) (M .words) (on-top (list place opened cs ∷ fs)) ready) refl (v .reads);

@@ -42,12 +42,20 @@ use Rattle.nesting.proofs.Aiming.{comes-aimed, ready-aimed, place-small
 term-token : (k : ℕ) → code-among term-kinds k ≡ true → (k ≡ 0 → ⊥) × (k ≡ 31 → ⊥)
 term-token k v = ((λ e. contrary (sym (rw e at v))), (λ e. contrary (sym (rw e at v))))
 
-pub term-call : (k : ℕ) → code-among term-kinds k ≡ true → code-among (kw-a ∷ term-kinds) k ≡ true
+term-call : (k : ℕ) → code-among term-kinds k ≡ true → code-among (kw-a ∷ term-kinds) k ≡ true
 term-call k v = rw v (or-true (eqb k 13))
   where
     or-true : (b : Bool) → (b || true) ≡ true
     or-true true = refl
     or-true false = refl
+
+-- A term or a string, where it is no string.
+first-true : (x y : Bool) → (x || y) ≡ true → y ≡ false → x ≡ true
+first-true true y e f = refl
+first-true false y e f = contrary (sym e ∙ f)
+
+pub leaf-call : (k : ℕ) (c : Bool) → c ≡ (code-among term-kinds k || code-among strings k) → c ≡ true → code-among strings k ≡ false → code-among (kw-a ∷ term-kinds) k ≡ true
+leaf-call k c e t f = term-call k (first-true (code-among term-kinds k) (code-among strings k) (sym e ∙ t) f)
 
 -- What the levels save is read behind a node of its own tokens alone.
 module _ (doc : Text) (a b : Held) (r : ℕ) (N : Fills doc a b r × Settled a b r) where
@@ -66,8 +74,8 @@ module _ (doc : Text) (a b : Held) (r : ℕ) (N : Fills doc a b r × Settled a b
     settled : (fs : List Frame) → Levels (a .st) (getD (a .st) depth-word 0) fs → Levels (b .st) (getD (b .st) depth-word 0) fs
     settled fs l = levels-at (a .st) (b .st) (getD (a .st) depth-word 0) (getD (b .st) depth-word 0) (N .1 .steady .depth z) (λ k h. N .1 .spot z k (omega arith)) fs l
 
-    pub leaf-levels : SomeLevels (a .st) (getD (a .st) depth-word 0) → SomeLevels (b .st) (getD (b .st) depth-word 0)
-    leaf-levels (fs, l) = (fs, settled fs l)
+    pub leaf-done : Awaited doc a → SomeLevels (a .st) (getD (a .st) depth-word 0) → Ready doc b × SomeLevels (b .st) (getD (b .st) depth-word 0)
+    leaf-done (f, (g, s)) (fs, l) = (N .0 f g s .ready z, (fs, settled fs l))
 
     pub leaf-resumes : (d : Held) (q : ℕ) → Resumes doc b d q → Values doc a d q
     leaf-resumes d q R =
@@ -100,11 +108,7 @@ module _ (doc : Text) (a : Held) (ready : Ready doc a) where
 
   pub leaf-settled : (b : Held) (r : ℕ) (c : Bool) → c ≡ (code-among term-kinds (getD (a .st) kind-word 0) || code-among strings (getD (a .st) kind-word 0)) → c ≡ true → Leaf doc a b r → Fills doc a b r × Settled a b r
   leaf-settled b r c e t L =
-      by (code-among strings (getD (a .st) kind-word 0)) (λ p. L .fills p) (λ p. term-settled b r (first (code-among term-kinds (getD (a .st) kind-word 0)) (code-among strings (getD (a .st) kind-word 0)) (sym e ∙ t) p) (L .puts))
-    where
-      first : (x y : Bool) → (x || y) ≡ true → y ≡ false → x ≡ true
-      first true y e f = refl
-      first false y e f = contrary (sym e ∙ f)
+      by (code-among strings (getD (a .st) kind-word 0)) (λ p. L .fills p) (λ p. term-settled b r (first-true (code-among term-kinds (getD (a .st) kind-word 0)) (code-among strings (getD (a .st) kind-word 0)) (sym e ∙ t) p) (L .puts))
 
   -- Nothing that may stand there.
   pub value-none : (r : ℕ) (c : Bool) → c ≡ (code-among term-kinds (getD (a .st) kind-word 0) || code-among strings (getD (a .st) kind-word 0)) → c ≡ false → (getD (a .st) kind-word 0 ≡ 22 → ⊥) → (getD (a .st) kind-word 0 ≡ 24 → ⊥) → r ≡ refusal-here doc (a .st)
@@ -336,15 +340,6 @@ module _ (doc : Text) (work rows terms store : RefT (List ℕ)) (st st' : List �
   abbrev a₁ : Held
   a₁ = held work rows terms store st'
 
-  pub node-call : Spotted a₀ → (Ready doc a₁ × Spotted a₁) × SomeLevels st' (getD st' depth-word 0)
-  node-call s = (
-    (
-      ready-aimed doc work rows terms store st st' (mark-before st st' 0 0 M) (M .words) ready,
-      record { x = rw (mark-spot st st' 0 0 M 78 (omega arith)) (s .x); y = rw (mark-spot st st' 0 0 M 79 (omega arith)) (s .y); opened = rw (mark-spot st st' 0 0 M 80 (omega arith)) (s .opened); last = rw (mark-spot st st' 0 0 M 81 (omega arith)) (s .last) },
-    ),
-    ([], mark-none st st' 0 0 M refl refl),
-  )
-
   -- What awaits a node does so still.
   slot-marked : (f g : Frame) → Slot doc a₀ f g → Slot doc a₁ f g
   unfolding slot-place
@@ -375,6 +370,15 @@ module _ (doc : Text) (work rows terms store : RefT (List ℕ)) (st st' : List �
 
       holding : (old : Tables) (m : Memory) → Holding old m a₁ → Holding old m a₀
       holding old m h = represents-words old m (work .now) (tables-of a₁) st' st (λ k x. sym (same k (omega arith))) (sym (same 76 (omega arith))) (sym (M .words)) h
+
+  pub node-call : Spotted a₀ → Awaited doc a₀ → (Ready doc a₁ × Spotted a₁) × (Awaited doc a₁ × SomeLevels st' (getD st' depth-word 0))
+  node-call s (f, (g, o)) = (
+    (
+      ready-aimed doc work rows terms store st st' (mark-before st st' 0 0 M) (M .words) ready,
+      record { x = rw (mark-spot st st' 0 0 M 78 (omega arith)) (s .x); y = rw (mark-spot st st' 0 0 M 79 (omega arith)) (s .y); opened = rw (mark-spot st st' 0 0 M 80 (omega arith)) (s .opened); last = rw (mark-spot st st' 0 0 M 81 (omega arith)) (s .last) },
+    ),
+    ((f, (g, slot-marked f g o)), ([], mark-none st st' 0 0 M refl refl)),
+  )
 
   pub node-alone : Awaited doc a₀ → (d : Held) (q : ℕ) → Values doc a₁ d q → Fills doc a₀ d q × Steady a₀ d q
   node-alone (f₀, (g₀, s₀)) d q W =

@@ -21,7 +21,7 @@ use Rattle.nodes.specs.Nodes.{Aimed, Passed, Spotted, PutsTerm, Slot, Verbs, En
 use Rattle.nodes.proofs.Passing.{Quiet, passed-same}
 use Rattle.nodes.proofs.Predicates.{verb-reads, verb-is-term, term-depth, verbs-semicolon, ends-object, ends-semicolon}
 use Rattle.nodes.proofs.Slots.{term-rule, object-slot}
-use Rattle.nesting.specs.Nesting.{Skips, level-x, level-y, Marked, Levels, SomeLevels, Deep, Values, Predicates, Follows, Closing}
+use Rattle.nesting.specs.Nesting.{Awaited, Skips, level-x, level-y, Marked, Levels, SomeLevels, Deep, Values, Predicates, Follows, Closing}
 use Rattle.nesting.proofs.Skipping.{token-there}
 use Rattle.nesting.proofs.Aiming.{comes-aimed, ready-aimed, spotted}
 use Rattle.nesting.proofs.Levels.{levels-same, levels-at, mark-depth, mark-before, mark-levels, saves-object, level-object}
@@ -124,18 +124,21 @@ module _ (doc : Text) (work rows terms store : RefT (List ℕ)) (st st' : List �
           levels-at u1 u2 (getD u1 depth-word 0) (getD u2 depth-word 0) (aim' .before 75 (omega arith)) (λ k h. aim' .behind k (omega arith)) (after-object s p bracket-end ∷ fs)
           (mark-levels u u1 s p M (after-object s p bracket-end) (saves-object s p (rw es hs) p-small (rw es zs) some-p) (omega (arith, depth-u)) fs (levels-at st u (getD st depth-word 0 - 1) (getD u depth-word 0 - 1) (ap (λ (d : ℕ). d - 1) depth-u) spot-u fs l))
 
-      pub predicate-value-call : SomeLevels st (getD st depth-word 0 - 1) → (Ready doc b2 × Spotted b2) × SomeLevels u2 (getD u2 depth-word 0)
+      slot : Slot doc b2 (object s p bracket-end) (after-object s p bracket-end)
+      slot = object-slot doc b2 s p bracket-end (aim' .list-is) (aim' .x-is) (aim' .y-is) (rw es zs) some-p
+
+      pub predicate-value-call : SomeLevels st (getD st depth-word 0 - 1) → (Ready doc b2 × Spotted b2) × (Awaited doc b2 × SomeLevels u2 (getD u2 depth-word 0))
       predicate-value-call (fs, l) = (
         (
           ready-aimed doc work₁ rows₁ terms₁ store₁ u u2 same-before (aim' .words ∙ M .words) predicate-ready,
           spotted work₁ rows₁ terms₁ store₁ u1 u2 0 s p 0 0 aim' (rw es hs) p-small (omega arith) (omega arith),
         ),
-        (after-object s p bracket-end ∷ fs, levels-u2 fs l),
+        ((object s p bracket-end, (after-object s p bracket-end, slot)), (after-object s p bracket-end ∷ fs, levels-u2 fs l)),
       )
 
       pub predicate-value : (d : Held) (q : ℕ) → Values doc b2 d q → Predicates doc (held work rows terms store st) d q
       predicate-value d q W f verbs fs l =
-          let w = W .goes-on (object s p bracket-end) (after-object s p bracket-end) (object-slot doc b2 s p bracket-end (aim' .list-is) (aim' .x-is) (aim' .y-is) (rw es zs) some-p) fs (levels-u2 fs l) in
+          let w = W .goes-on (object s p bracket-end) (after-object s p bracket-end) slot fs (levels-u2 fs l) in
           let R : Reads doc (f ∷ fs) (object s p bracket-end ∷ fs) (held work rows terms store st) b r =
           subst (λ (n : ℕ). Reads doc (f ∷ fs) (object s n bracket-end ∷ fs) (held work rows terms store st) b r) (sym ep) (to-verb doc work rows terms store st st' ready verb aim b r P f s (rw es verbs) fs) in
           record {
@@ -194,19 +197,22 @@ module _ (doc : Text) (work rows terms store : RefT (List ℕ)) (st : List ℕ) 
     moved : (fs : List Frame) → Levels st (getD st depth-word 0) fs → Levels u' (getD u' depth-word 0) fs
     moved fs l = levels-at st u' (getD st depth-word 0) (getD u' depth-word 0) depth-same (λ i h. aim .behind i (omega arith) ∙ P .spot i (omega arith)) fs l
 
-    pub comma-call : (Ready doc u'-held × Spotted u'-held) × SomeLevels u' (getD u' depth-word 0)
+    object-there : Slot doc u'-held (object s p bracket-end) (after-object s p bracket-end)
+    object-there = object-slot doc u'-held s p bracket-end (aim .list-is) (aim .x-is ∙ s-same) (aim .y-is ∙ p-same) z (known .1)
+
+    pub comma-call : (Ready doc u'-held × Spotted u'-held) × (Awaited doc u'-held × SomeLevels u' (getD u' depth-word 0))
     comma-call = (
       (
         ready-aimed doc work rows terms store u u' (aim .before) (aim .words) (comma bracket-end .ready refl),
         spotted work rows terms store u u' 0 s' p' 0 0 aim (rw s-same (known .0 .0)) (rw p-same (known .0 .1)) (omega arith) (omega arith),
       ),
-      (let (fs, l) = lv in (fs, moved fs l)),
+      ((object s p bracket-end, (after-object s p bracket-end, object-there)), (let (fs, l) = lv in (fs, moved fs l))),
     )
 
     pub comma-value : (d : Held) (q : ℕ) → Values doc u'-held d q → Follows doc o d q
     comma-value d q W fs l =
         let (gs, (e, (h, (w, (y, l′))))) = level-object st (getD st depth-word 0) z (lv .0) (lv .1) in
-        let R = W .goes-on (object s p bracket-end) (after-object s p bracket-end) (object-slot doc u'-held s p bracket-end (aim .list-is) (aim .x-is ∙ s-same) (aim .y-is ∙ p-same) z (known .1)) fs
+        let R = W .goes-on (object s p bracket-end) (after-object s p bracket-end) object-there fs
         (moved (after-object s p bracket-end ∷ fs) (h, (saves-object s p (known .0 .0) (known .0 .1) z (known .1), l))) in
         record {
           reads = comes-then doc (on-top (after-object s p bracket-end ∷ fs)) (on-top (object s p bracket-end ∷ fs)) (on-top []) o u-held d 0 q (comes-within doc (λ x. fs ++ x) (on-top (after-object s p bracket-end ∷ [])) (on-top (object s p bracket-end ∷ [])) o u-held 0 (comma bracket-end)) refl
