@@ -51,6 +51,113 @@ pub fn leaf(
     leaves::put_term(doc, work, rows, terms, store, st)
 }
 
+// A node where one is awaited: what is read in its brackets ends with a level of zeros.
+fn node(
+    doc: &&[u8],
+    work: &mut &mut [u8],
+    rows: &mut &mut [u32],
+    terms: &mut &mut [u32],
+    store: &mut &mut [u8],
+    st: &mut [usize; Layout::WORDS],
+) -> u8
+    requires { ⌜ (Ready (now (now doc)) (held (now work) (now rows) (now terms) (now store) (now st)) × Spotted (held (now work) (now rows) (now terms) (now store) (now st))) × Awaited (now (now doc)) (held (now work) (now rows) (now terms) (now store) (now st)) ⌝ }
+    ensures { λ r. ⌜ Fills (now (now (doc .entry))) (held (now (work .entry)) (now (rows .entry)) (now (terms .entry)) (now (store .entry)) (now (st .entry))) (held (now (work .exit)) (now (rows .exit)) (now (terms .exit)) (now (store .exit)) (now (st .exit))) r × Steady (held (now (work .entry)) (now (rows .entry)) (now (terms .entry)) (now (store .entry)) (now (st .entry))) (held (now (work .exit)) (now (rows .exit)) (now (terms .exit)) (now (store .exit)) (now (st .exit))) r ⌝ }
+{
+    mark(st, 0, 0);
+    value(doc, work, rows, terms, store, st)
+}
+
+// Predicates of s and their objects, from a predicate on to what cannot go on with them.
+pub fn properties(
+    doc: &&[u8],
+    work: &mut &mut [u8],
+    rows: &mut &mut [u32],
+    terms: &mut &mut [u32],
+    store: &mut &mut [u8],
+    st: &mut [usize; Layout::WORDS],
+    s: usize,
+) -> u8
+    requires { ⌜ (Ready (now (now doc)) (held (now work) (now rows) (now terms) (now store) (now st)) × (s < 4294967296)) × ((0 < s) × (code-among verb-kinds (getD (now st) kind-word 0) ≡ true)) ⌝ }
+    ensures { λ r. ⌜ Properties (now (now (doc .entry))) (held (now (work .entry)) (now (rows .entry)) (now (terms .entry)) (now (store .entry)) (now (st .entry))) (held (now (work .exit)) (now (rows .exit)) (now (terms .exit)) (now (store .exit)) (now (st .exit))) s r ⌝ }
+{
+    loop {
+        nodes::aim(st, 0, 0, 0, 0, 0);
+        let c = leaf(doc, work, rows, terms, store, st);
+        if c != 0 {
+            return c;
+        }
+        let p = st[Words::NODE];
+        let d = objects(doc, work, rows, terms, store, st, s, p);
+        if d != 0 {
+            return d;
+        }
+        if st[Words::KIND] != 21 {
+            return 0;
+        }
+        skip_semicolons(doc, st);
+        if !nodes::is_verb(st[Words::KIND]) {
+            return 0;
+        }
+    }
+}
+
+// The objects of s and p.
+fn objects(
+    doc: &&[u8],
+    work: &mut &mut [u8],
+    rows: &mut &mut [u32],
+    terms: &mut &mut [u32],
+    store: &mut &mut [u8],
+    st: &mut [usize; Layout::WORDS],
+    s: usize,
+    p: usize,
+) -> u8
+    requires { ⌜ (Ready (now (now doc)) (held (now work) (now rows) (now terms) (now store) (now st)) × ((s < 4294967296) × (p < 4294967296))) × ((0 < s) × (0 < p)) ⌝ }
+    ensures { λ r. ⌜ Objects (now (now (doc .entry))) (held (now (work .entry)) (now (rows .entry)) (now (terms .entry)) (now (store .entry)) (now (st .entry))) (held (now (work .exit)) (now (rows .exit)) (now (terms .exit)) (now (store .exit)) (now (st .exit))) s p r ⌝ }
+{
+    loop {
+        nodes::aim(st, 0, s, p, 0, 0);
+        let c = node(doc, work, rows, terms, store, st);
+        if c != 0 {
+            return c;
+        }
+        if st[Words::KIND] != 20 {
+            return 0;
+        }
+        nodes::pass(doc, st);
+    }
+}
+
+// The elements of a list, behind its bracket, and its end.
+pub fn elements(
+    doc: &&[u8],
+    work: &mut &mut [u8],
+    rows: &mut &mut [u32],
+    terms: &mut &mut [u32],
+    store: &mut &mut [u8],
+    st: &mut [usize; Layout::WORDS],
+) -> u8
+    requires { ⌜ (Ready (now (now doc)) (held (now work) (now rows) (now terms) (now store) (now st)) × Spotted (held (now work) (now rows) (now terms) (now store) (now st))) × (0 < getD (now st) depth-word 0) ⌝ }
+    ensures { λ r. ⌜ Lists (now (now (doc .entry))) (held (now (work .entry)) (now (rows .entry)) (now (terms .entry)) (now (store .entry)) (now (st .entry))) (held (now (work .exit)) (now (rows .exit)) (now (terms .exit)) (now (store .exit)) (now (st .exit))) r ⌝ }
+{
+    let x = st[Words::X];
+    let y = st[Words::Y];
+    let opened = st[Words::OPENED];
+    let mut last: usize = 0;
+    loop {
+        nodes::aim(st, 1, x, y, opened, last);
+        if st[Words::KIND] == 25 {
+            return leaves::close_list(doc, work, rows, terms, store, st);
+        }
+        let cell = st[Words::TERMS] + 1;
+        let c = node(doc, work, rows, terms, store, st);
+        if c != 0 {
+            return c;
+        }
+        last = cell;
+    }
+}
+
 // Puts what is to be resumed at this depth: behind an object of the subject x and the predicate y; in a list, x being 0,
 // behind the cell y; with zeros, the caller goes on.
 fn mark(st: &mut [usize; Layout::WORDS], x: usize, y: usize)

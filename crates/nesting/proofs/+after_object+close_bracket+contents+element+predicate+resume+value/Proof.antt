@@ -505,7 +505,7 @@ after-object-close-bracket-requires-2 : (t : ℕ) → after-object-lts.Need-clos
   predicate-below t,
   predicate.Post,
 ) (after-object-at t) after-object.Post
-after-object-close-bracket-requires-2 t c κs = let l = (semicolon-ready _ _ _ _ _ _ (c .before .before .before .before .before .before .before .before .before .before .before .before .before .before .pre .1 .0) _ (c .before .before .before .before .before .before .before .before .skip-semicolons .ensures), semicolon-deep _ _ _ _ _ _ (c .before .before .before .before .before .before .before .before .before .before .before .before .before .before .pre .1 .0) _ (c .before .before .before .before .before .before .before .before .skip-semicolons .ensures) (follows-deep _ _ _ _ _ _ (c .before .before .before .before .before .before .before .before .before .before .before .before .before .before .pre .1 .0) (c .before .before .before .before .before .before .before .before .before .before .before .before .before .before .pre .1 .1 .0) (c .before .before .before .before .before .before .before .before .before .before .before .before .before .before .pre .1 .1 .1))) in (omega (arith, c .before .before .before .before .before .before .before .before .skip-semicolons .ensures .later, l .0 .cursor .inside, c .before .before .before .before .before .before .before .before .before .before .before .before .before .before .pre .0), l)
+after-object-close-bracket-requires-2 t c κs = (omega (arith, c .before .before .before .before .before .before .before .before .skip-semicolons .ensures .later, semicolon-ready _ _ _ _ _ _ (c .before .before .before .before .before .before .before .before .before .before .before .before .before .before .pre .1 .0) _ (c .before .before .before .before .before .before .before .before .skip-semicolons .ensures) .cursor .inside, c .before .before .before .before .before .before .before .before .before .before .before .before .before .before .pre .0), (semicolon-ready _ _ _ _ _ _ (c .before .before .before .before .before .before .before .before .before .before .before .before .before .before .pre .1 .0) _ (c .before .before .before .before .before .before .before .before .skip-semicolons .ensures), semicolon-deep _ _ _ _ _ _ (c .before .before .before .before .before .before .before .before .before .before .before .before .before .before .pre .1 .0) _ (c .before .before .before .before .before .before .before .before .skip-semicolons .ensures) (follows-deep _ _ _ _ _ _ (c .before .before .before .before .before .before .before .before .before .before .before .before .before .before .pre .1 .0) (c .before .before .before .before .before .before .before .before .before .before .before .before .before .before .pre .1 .1 .0) (c .before .before .before .before .before .before .before .before .before .before .before .before .before .before .pre .1 .1 .1))))
 
 -- src/lib.rt:344:1
 after-object-returns-4 : (t : ℕ) → after-object-lts.Need-returns-4 (
@@ -1152,7 +1152,7 @@ value-leaf-requires : (t : ℕ) → value-lts.Need-leaf-requires (
   unexpected-reads.Asked,
   unexpected-reads.Learnt,
 ) (value-at t) value.Post
-value-leaf-requires t c κs = (c .before .before .before .before .before .before .before .before .pre .1 .0, leaf-call _ _ (c .before .before .before .before .before .before .is-leaf .ensures) (c .before .before .before .before .before .if1 .taken))
+value-leaf-requires t c κs = (c .before .before .before .before .before .before .before .before .pre .1 .0, leaf-call (getD (c .before .before .before .before .before .before .before .before .args .st .now) 71 0) _ (c .before .before .before .before .before .before .is-leaf .ensures) (c .before .before .before .before .before .if1 .taken))
 
 -- src/lib.rt:233:13
 value-returns : (t : ℕ) → value-lts.Need-returns (
