@@ -114,8 +114,7 @@ module _ (doc : Text) (a : Held) (ready : Ready doc a) where
   pub value-none : (r : ℕ) (c : Bool) → c ≡ (code-among term-kinds (getD (a .st) kind-word 0) || code-among strings (getD (a .st) kind-word 0)) → c ≡ false → (getD (a .st) kind-word 0 ≡ 22 → ⊥) → (getD (a .st) kind-word 0 ≡ 24 → ⊥) → r ≡ refusal-here doc (a .st)
       → Values doc a a r
   value-none r c ec f x y e =
-      leaf-stop doc a a r
-      (
+      leaf-stop doc a a r (
         (λ f g s. reads-none doc f [] (g ∷ []) a r ready (λ z h tied. s .others z h tied (no-object z h)) e),
         record { steady = record { depth = λ z. refl; later = λ z. absurd (here-some doc (a .st) (sym e ∙ z)) }; spot = λ z k h. refl },
       )

@@ -115,9 +115,6 @@ module _ (doc : Text) (a₀ : Held) (work rows terms store : RefT (List ℕ)) (s
           steady = record { depth = λ y. absurd (z y); later = λ y. absurd (z y) };
         }
 
-    pub depth-objects : r ≡ 0 → getD (b .st) depth-word 0 ≡ getD (a₀ .st) depth-word 0
-    depth-objects z = depth-verb z
-
     -- What its objects may be called with.
     pub objects-call : r ≡ 0 → (s < 4294967296) → 0 < s → (p : ℕ) → p ≡ getD (b .st) node-word 0 → (Ready doc b × ((s < 4294967296) × (p < 4294967296))) × ((0 < s) × (0 < p))
     objects-call z hs h0 p ep =
