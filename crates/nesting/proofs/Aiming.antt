@@ -1,21 +1,20 @@
 -- Saying where the next node belongs changes nothing for the machine.
-use mathlib.Core.Path.{_≡_, refl, sym, ap, _∙_, subst}
-use mathlib.Core.Logic.{inl, inr}
-use mathlib.Core.List.{List, [], _∷_}
+use mathlib.Core.Path.{_≡_, refl, sym, _∙_}
+use mathlib.Core.List.{List}
 use mathlib.Core.Bool.{Bool, true, false, not}
-use Prim.Native.Nat.{ℕ, suc, _+_, _-_, _/_, _≤_, _<_}
+use Prim.Native.Nat.{ℕ, _-_, _<_}
 use native.Mathlib.Omega.{arith}
 use lib.ListN.{length, getD}
 use denote.Ref.{RefT}
-use Rattle.text.specs.Text.{Text, cond}
+use Rattle.text.specs.Text.{Text}
 use Rattle.text.proofs.Compare.{contrary}
 use Rattle.machine.specs.Frame.{Open}
 use Rattle.machine.specs.Memory.{Memory}
 use Rattle.grammar.specs.Productions.{Mode}
-use Rattle.state.specs.Words.{terms-word, kind-word, at-word, depth-word}
-use Rattle.state.specs.Cursor.{Cursor, TokenHere, left}
-use Rattle.state.specs.Represents.{Tables, room-in, Represents}
-use Rattle.reading.specs.Reading.{Held, held, tables-of, Holding, goes, Ready, Same, Comes}
+use Rattle.state.specs.Words.{kind-word, at-word, depth-word}
+use Rattle.state.specs.Cursor.{Cursor, TokenHere}
+use Rattle.state.specs.Represents.{Tables}
+use Rattle.reading.specs.Reading.{Held, held, tables-of, Holding, goes, Ready, Comes}
 use Rattle.nodes.specs.Nodes.{Aimed, Spotted}
 use Rattle.nodes.proofs.Moving.{cursor-words, left-words}
 use Rattle.nodes.proofs.Passing.{represents-words}

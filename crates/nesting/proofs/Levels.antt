@@ -1,18 +1,17 @@
 -- The levels: what leaves them alone, and what is put on top of them.
 use mathlib.Core.Path.{_≡_, refl, sym, ap, _∙_, subst}
-use mathlib.Core.Logic.{_⊎_, inl, inr, ⊎-elim}
+use mathlib.Core.Logic.{inl, inr, ⊎-elim}
 use mathlib.Core.List.{List, [], _∷_}
 use Prim.Native.Nat.{ℕ, zero, suc, _+_, _*_, _-_, _≤_, _<_}
 use native.Mathlib.Omega.{arith}
 use lib.ListN.{length, getD, set, length-set}
 use lib.Seq.{getD-set-same, getD-set-other}
-use denote.Ref.{RefT}
 use Rattle.text.specs.Text.{Text}
-use Rattle.machine.specs.Frame.{Ending, bracket-end, Place, object-of, Cells, cells, Frame, list, after-object}
+use Rattle.machine.specs.Frame.{bracket-end, Place, cells, Frame, list, after-object}
 use Rattle.machine.specs.Rules.{after-node}
 use Rattle.state.specs.Words.{depth-word, list-word}
-use Rattle.reading.specs.Reading.{Held, held, Ready}
-use Rattle.nesting.specs.Nesting.{level-x, level-y, Marked, ListOf, Saves, Levels, SomeLevels, Deep}
+use Rattle.reading.specs.Reading.{Held, Ready}
+use Rattle.nesting.specs.Nesting.{level-x, level-y, Marked, ListOf, Saves, Levels, Deep}
 use Rattle.nesting.proofs.Aiming.{ready-words}
 
 -- Levels depend on their own words.
@@ -32,9 +31,6 @@ levels-same st st' d same (f ∷ fs) (h, (s, l)) = (
 -- The same at a depth that is reached otherwise.
 pub levels-at : (st st' : List ℕ) (d d' : ℕ) → d' ≡ d → ((k : ℕ) → 82 ≤ k → getD st' k 0 ≡ getD st k 0) → (fs : List Frame) → Levels st d fs → Levels st' d' fs
 levels-at st st' d d' e same fs l = subst (λ (i : ℕ). Levels st' i fs) (sym e) (levels-same st st' d (λ k a b. same k a) fs l)
-
-pub some-at : (st st' : List ℕ) (d d' : ℕ) → d' ≡ d → ((k : ℕ) → 82 ≤ k → getD st' k 0 ≡ getD st k 0) → SomeLevels st d → SomeLevels st' d'
-some-at st st' d d' e same (fs, l) = (fs, levels-at st st' d d' e same fs l)
 
 -- ---- A level is put
 

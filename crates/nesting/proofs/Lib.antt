@@ -3,6 +3,7 @@ pub mod Entering
 pub mod Aiming
 pub mod Levels
 pub mod OfObjects
+pub mod OfVerbs
 pub mod OfProperties
 pub mod OfBrackets
 pub mod OfElements

@@ -2,24 +2,23 @@
 use mathlib.Core.Path.{_≡_, refl, sym, ap, _∙_, subst}
 use mathlib.Core.List.{List, [], _∷_, _++_}
 use mathlib.Core.Bool.{Bool, true, false}
-use mathlib.Core.Option.{Option, none, some}
-use Prim.Native.Nat.{ℕ, suc, _+_, _-_, _≤_, _<_}
+use mathlib.Core.Option.{Option, some}
+use Prim.Native.Nat.{ℕ, _-_, _<_}
 use native.Mathlib.Omega.{arith}
 use borrow.Author.Tests.{ne-eqb}
-use lib.ListN.{length, getD}
+use lib.ListN.{getD}
 use denote.Ref.{RefT}
 use Rattle.text.specs.Text.{Text, cond}
 use Rattle.token.specs.Kind.{Kind, kind-of-code, among, close-bracket}
 use Rattle.token.specs.Tokens.{Token}
 use Rattle.machine.specs.Memory.{Write, return}
-use Rattle.machine.specs.Frame.{Ending, bracket-end, Place, object-of, Frame, bracket, object}
-use Rattle.machine.specs.Rules.{find-rule, verb-rules, frame-rules, end-rules, after-node, after-properties}
+use Rattle.machine.specs.Frame.{bracket-end, object-of, Frame, bracket, object}
+use Rattle.machine.specs.Rules.{find-rule, frame-rules, after-properties}
 use Rattle.machine.specs.Refusals.{new-depth}
-use Rattle.state.specs.Words.{node-word, kind-word, at-word, depth-word, graph-word}
-use Rattle.state.specs.Cursor.{Cursor, TokenHere}
+use Rattle.state.specs.Words.{node-word, kind-word, depth-word, graph-word}
 use Rattle.reading.specs.Reading.{code-among, Held, held, here, Ready, Reads, on-top, refusal-here}
 use Rattle.reading.proofs.Compose.{comes-then, comes-within}
-use Rattle.reading.proofs.Tests.{among-code, no-rule}
+use Rattle.reading.proofs.Tests.{among-code}
 use Rattle.reading.proofs.Frames.{reads-does, reads-none}
 use Rattle.reading.proofs.Steps.{here-some}
 use Rattle.nodes.specs.Nodes.{Passed, Verbs, Ends, verb-kinds}

@@ -1,18 +1,16 @@
 -- The elements of a list, and its end.
-use mathlib.Core.Path.{_≡_, refl, sym, ap, _∙_, subst}
-use mathlib.Core.List.{List, [], _∷_, _++_}
-use mathlib.Core.Bool.{Bool, true, false}
+use mathlib.Core.Path.{_≡_, refl, sym, _∙_, subst}
+use mathlib.Core.List.{List, [], _∷_}
 use Prim.Native.Nat.{ℕ, zero, suc, _+_, _-_, _≤_, _<_}
 use native.Mathlib.Omega.{arith}
-use borrow.Author.Tests.{eq-eqb, ne-eqb}
+use borrow.Author.Tests.{ne-eqb}
 use lib.ListN.{length, getD}
 use denote.Ref.{RefT}
-use Rattle.text.specs.Text.{Text, cond}
-use Rattle.machine.specs.Frame.{Ending, full-stop, Place, subject-before, object-of, element-of, Cells, no-cell, cells, Frame, list}
+use Rattle.text.specs.Text.{Text}
+use Rattle.machine.specs.Frame.{full-stop, Place, subject-before, object-of, element-of, Cells, no-cell, cells, list}
 use Rattle.machine.specs.Rules.{extended, after-node}
-use Rattle.state.specs.Words.{terms-word, node-word, kind-word, at-word, depth-word, x-word, y-word, opened-word, last-word}
-use Rattle.state.specs.Cursor.{Cursor, TokenHere}
-use Rattle.reading.specs.Reading.{Held, held, here, Ready, Reads, on-top}
+use Rattle.state.specs.Words.{terms-word, node-word, kind-word, at-word, depth-word, x-word, y-word, opened-word}
+use Rattle.reading.specs.Reading.{Held, held, Ready, Reads, on-top}
 use Rattle.reading.proofs.Compose.{comes-here, comes-then, comes-stop}
 use Rattle.nodes.specs.Nodes.{Aimed, Fills, Steady, Spotted, Belongs, LastCell, InList, Closes}
 use Rattle.nodes.proofs.Passing.{depth-closing}

@@ -1,16 +1,15 @@
 -- A list in brackets: its next element or its end; and what is resumed behind a node.
 use mathlib.Core.Path.{_≡_, refl, sym, ap, _∙_, subst}
 use mathlib.Core.List.{List, [], _∷_, _++_}
-use mathlib.Core.Bool.{Bool, true, false}
-use Prim.Native.Nat.{ℕ, zero, suc, _+_, _*_, _-_, _≤_, _<_}
+use Prim.Native.Nat.{ℕ, zero, suc, _+_, _-_, _<_}
 use native.Mathlib.Omega.{arith}
-use lib.ListN.{length, getD}
+use lib.ListN.{getD}
 use denote.Ref.{RefT}
 use Rattle.text.specs.Text.{Text}
-use Rattle.machine.specs.Frame.{bracket-end, Place, object-of, element-of, Cells, no-cell, cells, Frame, list, after-object}
+use Rattle.machine.specs.Frame.{Place, object-of, Cells, no-cell, cells, Frame, list}
 use Rattle.machine.specs.Rules.{extended, after-node}
 use Rattle.state.specs.Words.{terms-word, node-word, kind-word, at-word, depth-word, list-word, x-word, y-word, opened-word, last-word}
-use Rattle.reading.specs.Reading.{Held, held, here, Ready, Reads, on-top}
+use Rattle.reading.specs.Reading.{Held, held, Ready, Reads, on-top}
 use Rattle.reading.proofs.Compose.{comes-here, comes-then, comes-stop, comes-within}
 use Rattle.reading.proofs.Frames.{ready-does}
 use Rattle.reading.proofs.Numbers.{next-small}
@@ -18,7 +17,7 @@ use Rattle.state.specs.Writes.{closed}
 use Rattle.nodes.specs.Nodes.{Aimed, Spotted, Slot, InList, Closes, spot-of}
 use Rattle.nodes.proofs.Passing.{depth-closing}
 use Rattle.nodes.proofs.Slots.{element-slot, list-closes, cell-or-nil}
-use Rattle.nesting.specs.Nesting.{Awaited, level-x, level-y, Marked, ListOf, Saves, Levels, SomeLevels, Deep, Resumes, Values, Follows, Elements}
+use Rattle.nesting.specs.Nesting.{Awaited, level-x, level-y, Marked, Saves, Levels, SomeLevels, Deep, Resumes, Values, Follows, Elements}
 use Rattle.nesting.proofs.Skipping.{token-there}
 use Rattle.nesting.proofs.Aiming.{comes-aimed, ready-aimed, spotted}
 use Rattle.nesting.proofs.OfElements.{some-place}

@@ -5,21 +5,21 @@ use mathlib.Core.Bool.{Bool, true, false, _||_}
 use mathlib.Core.Option.{none}
 use Prim.Native.Nat.{ℕ, zero, suc, _+_, _-_, _≤_, _<_}
 use native.Mathlib.Omega.{arith}
-use borrow.Author.Tests.{eq-eqb, ne-eqb, eqb-true, eqb-false}
+use borrow.Author.Tests.{ne-eqb, eqb-true, eqb-false}
 use lib.Dec.{eqb}
 use lib.ListN.{length, getD}
 use denote.Ref.{RefT}
 use Rattle.text.specs.Text.{Text, cond}
 use Rattle.text.proofs.Compare.{by, contrary}
-use Rattle.token.specs.Kind.{Kind, kind-of-code, among, strings, kw-a, open-bracket, open-paren}
+use Rattle.token.specs.Kind.{kind-of-code, among, strings, kw-a, open-bracket, open-paren}
 use Rattle.token.specs.Tokens.{Token}
 use Rattle.dataset.specs.Terms.{blank, bracket as bracket-node}
 use Rattle.machine.specs.Memory.{Memory, new-term}
-use Rattle.machine.specs.Frame.{Place, top, object-of, element-of, no-cell, Frame, bracket, list}
+use Rattle.machine.specs.Frame.{Place, no-cell, Frame, bracket, list}
 use Rattle.machine.specs.Rules.{find-rule, object-rules, frame-rules, after-node}
 use Rattle.machine.specs.Refusals.{new-depth}
-use Rattle.state.specs.Words.{terms-word, node-word, kind-word, at-word, depth-word, list-word, x-word, y-word, opened-word, last-word}
-use Rattle.state.specs.Cursor.{Cursor, TokenHere}
+use Rattle.state.specs.Words.{terms-word, node-word, kind-word, at-word, depth-word, list-word, x-word, y-word}
+use Rattle.state.specs.Cursor.{TokenHere}
 use Rattle.state.specs.Represents.{Tables}
 use Rattle.state.specs.Writes.{place-of, placed, opened-at}
 use Rattle.reading.specs.Reading.{code-among, Held, held, tables-of, here, Holding, Ready, Reads, on-top, Does, refusal-here}

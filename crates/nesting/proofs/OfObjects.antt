@@ -1,7 +1,7 @@
 -- The objects of a subject and a predicate.
-use mathlib.Core.Path.{_≡_, refl, sym, ap, _∙_, subst}
+use mathlib.Core.Path.{_≡_, refl, _∙_, subst}
 use mathlib.Core.List.{List, [], _∷_}
-use Prim.Native.Nat.{ℕ, suc, _+_, _-_, _≤_, _<_}
+use Prim.Native.Nat.{ℕ, _-_, _≤_, _<_}
 use native.Mathlib.Omega.{arith}
 use lib.ListN.{length, getD}
 use denote.Ref.{RefT}
@@ -10,9 +10,8 @@ use Rattle.machine.specs.Memory.{return}
 use Rattle.machine.specs.Frame.{Ending, full-stop, object, after-object}
 use Rattle.machine.specs.Refusals.{new-depth}
 use Rattle.state.specs.Words.{kind-word, at-word, depth-word, graph-word}
-use Rattle.state.specs.Cursor.{Cursor, TokenHere}
 use Rattle.reading.specs.Reading.{Held, held, here, Ready, Reads, on-top}
-use Rattle.reading.proofs.Compose.{comes-here, comes-then, comes-stop}
+use Rattle.reading.proofs.Compose.{comes-here, comes-then}
 use Rattle.reading.proofs.Frames.{reads-does}
 use Rattle.nodes.specs.Nodes.{Aimed, Passed, Fills, Steady, Spotted}
 use Rattle.nodes.proofs.Passing.{Quiet, passed-same}

@@ -1,128 +1,71 @@
 -- In a bracket: a predicate with its first object, and what follows an object.
 use mathlib.Core.Path.{_≡_, refl, sym, ap, _∙_, subst}
 use mathlib.Core.List.{List, [], _∷_, _++_}
-use mathlib.Core.Bool.{Bool, true, false}
-use Prim.Native.Nat.{ℕ, _+_, _*_, _-_, _≤_, _<_}
+use mathlib.Core.Bool.{true, false}
+use Prim.Native.Nat.{ℕ, _+_, _*_, _-_, _<_}
 use native.Mathlib.Omega.{arith}
-use lib.ListN.{length, getD}
+use lib.ListN.{getD}
 use denote.Ref.{RefT}
 use Rattle.text.specs.Text.{Text}
-use Rattle.token.specs.Kind.{among, strings, kw-a}
-use Rattle.machine.specs.Memory.{return}
 use Rattle.machine.specs.Frame.{Ending, bracket-end, Frame, object, after-object, after-semicolon}
-use Rattle.machine.specs.Refusals.{new-depth}
 use Rattle.state.specs.Words.{node-word, kind-word, at-word, depth-word, graph-word, list-word}
-use Rattle.state.specs.Cursor.{Cursor, TokenHere}
-use Rattle.reading.specs.Reading.{code-among, Held, held, here, Ready, Reads, on-top}
+use Rattle.reading.specs.Reading.{code-among, Held, held, Ready, Reads, on-top}
 use Rattle.reading.proofs.Compose.{comes-then, comes-stop, comes-within}
-use Rattle.reading.proofs.Tests.{among-code}
-use Rattle.reading.proofs.Frames.{reads-does}
-use Rattle.nodes.specs.Nodes.{Aimed, Passed, Spotted, PutsTerm, Slot, Verbs, Ends, verb-kinds, term-kinds}
-use Rattle.nodes.proofs.Passing.{Quiet, passed-same}
-use Rattle.nodes.proofs.Predicates.{verb-reads, verb-is-term, term-depth, verbs-semicolon, ends-object, ends-semicolon}
-use Rattle.nodes.proofs.Slots.{term-rule, object-slot}
+use Rattle.nodes.specs.Nodes.{Aimed, Passed, Spotted, PutsTerm, Slot, Verbs, verb-kinds}
+use Rattle.nodes.proofs.Predicates.{verbs-semicolon, ends-object, ends-semicolon}
+use Rattle.nodes.proofs.Slots.{object-slot}
 use Rattle.nesting.specs.Nesting.{Awaited, Skips, level-x, level-y, Marked, Levels, SomeLevels, Deep, Values, Predicates, Follows, Closing}
-use Rattle.nesting.proofs.Skipping.{token-there}
 use Rattle.nesting.proofs.Aiming.{comes-aimed, ready-aimed, spotted}
-use Rattle.nesting.proofs.Levels.{levels-same, levels-at, mark-depth, mark-before, mark-levels, saves-object, level-object}
-use Rattle.nesting.proofs.OfProperties.{verb-token}
+use Rattle.nesting.proofs.Levels.{levels-at, mark-before, mark-levels, saves-object, level-object}
+use Rattle.nesting.proofs.OfVerbs.{VerbDone, verb-comes, verb-done}
 use Rattle.nesting.proofs.OfObjects.{comma-reads}
 
 -- ---- A predicate
 
-module _ (doc : Text) (work rows terms store : RefT (List ℕ)) (st st' : List ℕ) (ready : Ready doc (held work rows terms store st)) (verb : code-among verb-kinds (getD st kind-word 0) ≡ true) (aim : Aimed st st' 0 0 0 0 0) where
+module _ (doc : Text) (work rows terms store : RefT (List ℕ)) (st st' : List ℕ) (ready : Ready doc (held work rows terms store st)) (verb : code-among verb-kinds (getD st kind-word 0) ≡ true) (aim : Aimed st st' 0 0 0 0 0) (b : Held) (r : ℕ) (P : PutsTerm doc (held work rows terms store st') b r) where
   abbrev a : Held
   a = held work rows terms store st
 
-  abbrev a1 : Held
-  a1 = held work rows terms store st'
+  to-verb : (f : Frame) (s : ℕ) → Verbs f s bracket-end [] → (fs : List Frame) → Reads doc (f ∷ fs) (object s (getD (b .st) node-word 0) bracket-end ∷ fs) a b r
+  to-verb f s verbs fs = comes-within doc (λ k. fs ++ k) (on-top (f ∷ [])) (on-top (object s (getD (b .st) node-word 0) bracket-end ∷ [])) a b r (verb-comes doc work rows terms store st st' ready verb aim b r P f s bracket-end [] verbs)
 
-  same-kind : getD st' kind-word 0 ≡ getD st kind-word 0
-  same-kind = aim .before 71 (omega arith)
+  pub predicate-stop : (r ≡ 0 → ⊥) → Predicates doc a b r
+  predicate-stop z f verbs fs l =
+      record {
+        reads = comes-stop doc (on-top (f ∷ fs)) (on-top (object (level-x st (getD st depth-word 0)) (getD (b .st) node-word 0) bracket-end ∷ fs)) (on-top []) a b r (to-verb f (level-x st (getD st depth-word 0)) verbs fs) z;
+        depth = λ y. absurd (z y);
+      }
 
-  ready-1 : Ready doc a1
-  ready-1 = ready-aimed doc work rows terms store st st' (aim .before) (aim .words) ready
-
-  some-kind : getD st' kind-word 0 ≡ 0 → ⊥
-  some-kind h = verb-token (getD st kind-word 0) verb .0 (sym same-kind ∙ h)
-
-  token-1 : TokenHere doc st'
-  token-1 = ready-1 .cursor .token some-kind (λ h. verb-token (getD st kind-word 0) verb .1 (sym same-kind ∙ h))
-
-  verb-1 : among verb-kinds (here doc a1 .kind) ≡ true
-  verb-1 = among-code verb-kinds (getD st' kind-word 0) some-kind (token-1 .known) ∙ rw same-kind verb
-
-  pub predicate-call : (Ready doc a1 × Spotted a1) × (code-among strings (getD st' kind-word 0) ≡ false → code-among (kw-a ∷ term-kinds) (getD st' kind-word 0) ≡ true)
-  predicate-call = (
-    (ready-1, spotted work rows terms store st st' 0 0 0 0 0 aim (omega arith) (omega arith) (omega arith) (omega arith)),
-    λ _. sym (among-code (kw-a ∷ term-kinds) (getD st' kind-word 0) some-kind (token-1 .known)) ∙ verb-is-term (here doc a1 .kind) verb-1,
-  )
-
-  module _ (b : Held) (r : ℕ) (P : PutsTerm doc a1 b r) where
-    to-verb : (f : Frame) (s : ℕ) → Verbs f s bracket-end [] → (fs : List Frame) → Reads doc (f ∷ fs) (object s (getD (b .st) node-word 0) bracket-end ∷ fs) a b r
-    to-verb f s verbs fs =
-        comes-then doc (on-top (f ∷ fs)) (on-top (f ∷ fs)) (on-top (object s (getD (b .st) node-word 0) bracket-end ∷ fs)) a a1 b 0 r (comes-aimed doc work rows terms store st st' (aim .before) (aim .words) (on-top (f ∷ fs)) ready) refl
-        (comes-within doc (λ k. fs ++ k) (on-top (f ∷ [])) (on-top (object s (getD (b .st) node-word 0) bracket-end ∷ [])) a1 b r (verb-reads doc a1 b r ready-1 token-1 some-kind (aim .list-is) (aim .x-is) P verb-1 f s bracket-end [] verbs))
-
-    pub predicate-stop : (r ≡ 0 → ⊥) → Predicates doc a b r
-    predicate-stop z f verbs fs l =
-        record {
-          reads = comes-stop doc (on-top (f ∷ fs)) (on-top (object (level-x st (getD st depth-word 0)) (getD (b .st) node-word 0) bracket-end ∷ fs)) (on-top []) a b r (to-verb f (level-x st (getD st depth-word 0)) verbs fs) z;
-          depth = λ y. absurd (z y);
-        }
-
--- Its node is known, its level put, and its object awaited.
+-- Its level is put, and its object awaited.
 module _ (doc : Text) (work rows terms store : RefT (List ℕ)) (st st' : List ℕ) (ready : Ready doc (held work rows terms store st)) (verb : code-among verb-kinds (getD st kind-word 0) ≡ true) (aim : Aimed st st' 0 0 0 0 0)
     (work₁ rows₁ terms₁ store₁ : RefT (List ℕ)) (u : List ℕ) (r : ℕ) (P : PutsTerm doc (held work rows terms store st') (held work₁ rows₁ terms₁ store₁ u) r) (z : r ≡ 0) where
   abbrev b : Held
   b = held work₁ rows₁ terms₁ store₁ u
 
-  verb-there : Reads doc (after-semicolon 1 bracket-end ∷ []) (object 1 (getD u node-word 0) bracket-end ∷ []) (held work rows terms store st) b r
-  verb-there = to-verb doc work rows terms store st st' ready verb aim b r P (after-semicolon 1 bracket-end) 1 (verbs-semicolon 1 bracket-end) []
-
-  pub predicate-ready : Ready doc b
-  predicate-ready = verb-there .ready z
+  done : VerbDone doc st b
+  done = verb-done doc work rows terms store st st' ready verb aim b r P z
 
   module _ (s p : ℕ) (es : s ≡ level-x st (getD st depth-word 0)) (ep : p ≡ getD u node-word 0) (u1 u2 : List ℕ) (M : Marked u u1 s p) (aim' : Aimed u1 u2 0 s p 0 0) where
     abbrev b2 : Held
     b2 = held work₁ rows₁ terms₁ store₁ u2
 
-    term-known : among (kw-a ∷ term-kinds) (here doc (held work rows terms store st') .kind) ≡ true
-    term-known = verb-is-term (here doc (held work rows terms store st') .kind) (verb-1 doc work rows terms store st st' ready verb aim)
-
     same-before : (k : ℕ) → k < list-word → getD u2 k 0 ≡ getD u k 0
     same-before k h = aim' .before k h ∙ mark-before u u1 s p M k h
 
-    depth-u : getD u depth-word 0 ≡ getD st depth-word 0
-    depth-u =
-        let (v, q) = term-rule (here doc (held work rows terms store st')) (here doc (held work rows terms store st') .kind) term-known in
-        P v q .gives .does .done z .depth ∙ (term-depth (here doc (held work rows terms store st')) (getD st' depth-word 0) term-known ∙ aim .before 75 (omega arith))
-
-    spot-u : (k : ℕ) → 82 ≤ k → getD u k 0 ≡ getD st k 0
-    spot-u k h =
-        let (v, q) = term-rule (here doc (held work rows terms store st')) (here doc (held work rows terms store st') .kind) term-known in
-        P v q .gives .does .done z .spot k (omega arith) ∙ aim .behind k (omega arith)
-
     pub predicate-later : getD st at-word 0 < getD u2 at-word 0
-    predicate-later =
-        let (v, q) = term-rule (here doc (held work rows terms store st')) (here doc (held work rows terms store st') .kind) term-known in
-        omega (arith, P v q .gives .does .done z .later, aim .before 72 (omega arith), same-before 72 (omega arith))
+    predicate-later = omega (arith, done .later, same-before 72 (omega arith))
 
     p-small : p < 4294967296
-    p-small =
-        let (v, q) = term-rule (here doc (held work rows terms store st')) (here doc (held work rows terms store st') .kind) term-known in
-        rw ep (P v q .gives .small z)
+    p-small = rw ep (done .small)
 
     some-p : 0 < p
-    some-p =
-        let (v, q) = term-rule (here doc (held work rows terms store st')) (here doc (held work rows terms store st') .kind) term-known in
-        rw ep (P v q .positive z)
+    some-p = rw ep (done .some-node)
 
     module _ (hs : level-x st (getD st depth-word 0) < 4294967296) (zs : 0 < level-x st (getD st depth-word 0)) (deep : 0 < getD st depth-word 0) where
       levels-u2 : (fs : List Frame) → Levels st (getD st depth-word 0 - 1) fs → Levels u2 (getD u2 depth-word 0) (after-object s p bracket-end ∷ fs)
       levels-u2 fs l =
           levels-at u1 u2 (getD u1 depth-word 0) (getD u2 depth-word 0) (aim' .before 75 (omega arith)) (λ k h. aim' .behind k (omega arith)) (after-object s p bracket-end ∷ fs)
-          (mark-levels u u1 s p M (after-object s p bracket-end) (saves-object s p (rw es hs) p-small (rw es zs) some-p) (omega (arith, depth-u)) fs (levels-at st u (getD st depth-word 0 - 1) (getD u depth-word 0 - 1) (ap (λ (d : ℕ). d - 1) depth-u) spot-u fs l))
+          (mark-levels u u1 s p M (after-object s p bracket-end) (saves-object s p (rw es hs) p-small (rw es zs) some-p) (omega (arith, done .depth)) fs (levels-at st u (getD st depth-word 0 - 1) (getD u depth-word 0 - 1) (ap (λ (d : ℕ). d - 1) (done .depth)) (done .spot) fs l))
 
       slot : Slot doc b2 (object s p bracket-end) (after-object s p bracket-end)
       slot = object-slot doc b2 s p bracket-end (aim' .list-is) (aim' .x-is) (aim' .y-is) (rw es zs) some-p
@@ -130,7 +73,7 @@ module _ (doc : Text) (work rows terms store : RefT (List ℕ)) (st st' : List �
       pub predicate-value-call : SomeLevels st (getD st depth-word 0 - 1) → (Ready doc b2 × Spotted b2) × (Awaited doc b2 × SomeLevels u2 (getD u2 depth-word 0))
       predicate-value-call (fs, l) = (
         (
-          ready-aimed doc work₁ rows₁ terms₁ store₁ u u2 same-before (aim' .words ∙ M .words) predicate-ready,
+          ready-aimed doc work₁ rows₁ terms₁ store₁ u u2 same-before (aim' .words ∙ M .words) (done .ready),
           spotted work₁ rows₁ terms₁ store₁ u1 u2 0 s p 0 0 aim' (rw es hs) p-small (omega arith) (omega arith),
         ),
         ((object s p bracket-end, (after-object s p bracket-end, slot)), (after-object s p bracket-end ∷ fs, levels-u2 fs l)),
@@ -143,8 +86,8 @@ module _ (doc : Text) (work rows terms store : RefT (List ℕ)) (st st' : List �
           subst (λ (n : ℕ). Reads doc (f ∷ fs) (object s n bracket-end ∷ fs) (held work rows terms store st) b r) (sym ep) (to-verb doc work rows terms store st st' ready verb aim b r P f s (rw es verbs) fs) in
           record {
             reads = comes-then doc (on-top (f ∷ fs)) (on-top (object s p bracket-end ∷ fs)) (on-top []) (held work rows terms store st) b d r q R z
-                (comes-then doc (on-top (object s p bracket-end ∷ fs)) (on-top (object s p bracket-end ∷ fs)) (on-top []) b b2 d 0 q (comes-aimed doc work₁ rows₁ terms₁ store₁ u u2 same-before (aim' .words ∙ M .words) (on-top (object s p bracket-end ∷ fs)) predicate-ready) refl (w .reads));
-            depth = λ y. w .depth y ∙ (same-before 75 (omega arith) ∙ depth-u);
+                (comes-then doc (on-top (object s p bracket-end ∷ fs)) (on-top (object s p bracket-end ∷ fs)) (on-top []) b b2 d 0 q (comes-aimed doc work₁ rows₁ terms₁ store₁ u u2 same-before (aim' .words ∙ M .words) (on-top (object s p bracket-end ∷ fs)) (done .ready)) refl (w .reads));
+            depth = λ y. w .depth y ∙ (same-before 75 (omega arith) ∙ done .depth);
           }
 
 -- ---- Behind an object

@@ -1,18 +1,18 @@
 -- Semicolons.
-use mathlib.Core.Path.{_≡_, refl, sym, ap, _∙_, subst}
+use mathlib.Core.Path.{_≡_, refl, sym, _∙_, subst}
 use mathlib.Core.Logic.{_⊎_, inl, inr, ⊎-elim}
-use mathlib.Core.List.{List, [], _∷_, _++_}
-use Prim.Native.Nat.{ℕ, _+_, _-_, _≤_, _<_}
+use mathlib.Core.List.{List, [], _∷_}
+use Prim.Native.Nat.{ℕ, _-_, _≤_, _<_}
 use native.Mathlib.Omega.{arith}
 use lib.ListN.{length, getD}
 use denote.Ref.{RefT}
 use Rattle.text.specs.Text.{Text}
 use Rattle.machine.specs.Memory.{return}
-use Rattle.machine.specs.Frame.{Ending, Frame, after-object, after-semicolon}
+use Rattle.machine.specs.Frame.{Ending, after-object, after-semicolon}
 use Rattle.machine.specs.Refusals.{new-depth}
 use Rattle.state.specs.Words.{kind-word, at-word, depth-word, graph-word, list-word}
 use Rattle.state.specs.Cursor.{Cursor, TokenHere}
-use Rattle.reading.specs.Reading.{Held, held, here, Ready, Reads, on-top}
+use Rattle.reading.specs.Reading.{held, here, Ready, Reads, on-top}
 use Rattle.reading.proofs.Compose.{comes-then}
 use Rattle.reading.proofs.Frames.{reads-does}
 use Rattle.nodes.specs.Nodes.{Passed}

@@ -7,7 +7,8 @@ use Rattle.nesting.proofs.Aiming.{ready-words, unexpected-call, pass-ca
 use Rattle.nesting.proofs.Levels.{mark-call, mark-before, some-level}
 use Rattle.nesting.proofs.OfBrackets.{closing-none, left-call, closing-resumes, contents-end, contents-call, contents-predicate}
 use Rattle.nesting.proofs.OfObjects.{comma-reads}
-use Rattle.nesting.proofs.OfPredicates.{predicate-call, predicate-stop, predicate-ready, predicate-later, predicate-value-call, predicate-value, follows-deep, follows-close, comma-later, comma-call, comma-value, semicolon-ready, semicolon-deep, semicolon-predicate-call, semicolon-predicate, semicolon-close}
+use Rattle.nesting.proofs.OfPredicates.{predicate-stop, predicate-later, predicate-value-call, predicate-value, follows-deep, follows-close, comma-later, comma-call, comma-value, semicolon-ready, semicolon-deep, semicolon-predicate-call, semicolon-predicate, semicolon-close}
+use Rattle.nesting.proofs.OfVerbs.{verb-call, verb-done}
 use Rattle.nesting.proofs.OfLists.{element-stop, closed-later, closed-call, element-resumes, element-call, element-value, resumes-object, resumes-none, resumes-call, resumes-list}
 use Rattle.nesting.proofs.OfNodes.{leaf-call, leaf-stop, leaf-settled, leaf-done, leaf-resumes, value-none, bracket-stop, bracket-later, bracket-call, bracket-contents, list-stop, list-open, list-later, list-call, list-elements}
 use Prim.Native.Nat.{_*_, _+_, _-_}
@@ -873,7 +874,7 @@ predicate-leaf-requires : (t : ℕ) → predicate-lts.Need-leaf-requires (
   value-below t,
   value.Post,
 ) (predicate-at t) predicate.Post
-predicate-leaf-requires t c κs = predicate-call _ _ _ _ _ _ _ (c .before .before .before .before .before .before .before .before .before .pre .1 .0 .0) (c .before .before .before .before .before .before .before .before .before .pre .1 .1 .0 .1) (c .before .before .before .before .before .aim .ensures)
+predicate-leaf-requires t c κs = verb-call _ _ _ _ _ _ _ (c .before .before .before .before .before .before .before .before .before .pre .1 .0 .0) (c .before .before .before .before .before .before .before .before .before .pre .1 .1 .0 .1) (c .before .before .before .before .before .aim .ensures)
 
 -- src/lib.rt:335:9
 predicate-returns : (t : ℕ) → predicate-lts.Need-returns (
@@ -918,7 +919,7 @@ predicate-mark-requires : (t : ℕ) → predicate-lts.Need-mark-requires (
   value-below t,
   value.Post,
 ) (predicate-at t) predicate.Post
-predicate-mark-requires t c κs = mark-call _ _ (predicate-ready _ _ _ _ _ _ _ (c .before .before .before .before .before .before .before .before .before .before .before .before .before .pre .1 .0 .0) (c .before .before .before .before .before .before .before .before .before .before .before .before .before .pre .1 .1 .0 .1) (c .before .before .before .before .before .before .before .before .before .aim .ensures) _ _ _ _ _ _ (c .before .before .before .leaf .ensures .puts) (c .before .before .if1 .left))
+predicate-mark-requires t c κs = mark-call _ _ (verb-done _ _ _ _ _ _ _ (c .before .before .before .before .before .before .before .before .before .before .before .before .before .pre .1 .0 .0) (c .before .before .before .before .before .before .before .before .before .before .before .before .before .pre .1 .1 .0 .1) (c .before .before .before .before .before .before .before .before .before .aim .ensures) _ _ (c .before .before .before .leaf .ensures .puts) (c .before .before .if1 .left) .ready)
 
 -- src/lib.rt:339:5
 predicate-aim-requires-2 : (t : ℕ) → predicate-lts.Need-aim-requires-2 (
@@ -933,7 +934,7 @@ predicate-aim-requires-2 : (t : ℕ) → predicate-lts.Need-aim-requires-2 (
   value-below t,
   value.Post,
 ) (predicate-at t) predicate.Post
-predicate-aim-requires-2 t c κs = c .before .mark .ensures .words ∙ ready-words _ _ (predicate-ready _ _ _ _ _ _ _ (c .before .before .before .before .before .before .before .before .before .before .before .before .before .before .before .pre .1 .0 .0) (c .before .before .before .before .before .before .before .before .before .before .before .before .before .before .before .pre .1 .1 .0 .1) (c .before .before .before .before .before .before .before .before .before .before .before .aim .ensures) _ _ _ _ _ _ (c .before .before .before .before .before .leaf .ensures .puts) (c .before .before .before .before .if1 .left))
+predicate-aim-requires-2 t c κs = c .before .mark .ensures .words ∙ ready-words _ _ (verb-done _ _ _ _ _ _ _ (c .before .before .before .before .before .before .before .before .before .before .before .before .before .before .before .pre .1 .0 .0) (c .before .before .before .before .before .before .before .before .before .before .before .before .before .before .before .pre .1 .1 .0 .1) (c .before .before .before .before .before .before .before .before .before .before .before .aim .ensures) _ _ (c .before .before .before .before .before .leaf .ensures .puts) (c .before .before .before .before .if1 .left) .ready)
 
 -- src/lib.rt:340:5
 predicate-value-requires : (t : ℕ) → predicate-lts.Need-value-requires (

@@ -3,7 +3,8 @@ use Prim.Native.Nat.{_-_}
 use borrow.Author.Needs.{needs}
 use lib.ListN.{length, getD}
 use Rattle.reading.specs.Reading.{held}
-use Rattle.nesting.proofs.OfProperties.{PropertiesInv, properties-start, properties-ready, properties-stop, objects-call, properties-stop-2, properties-end, skips-call, properties-end-2, properties-again, properties-less}
+use Rattle.nesting.proofs.OfProperties.{PropertiesInv, properties-start, properties-stop, objects-call, properties-stop-2, properties-end, skips-call, properties-end-2, properties-again, properties-less}
+use Rattle.nesting.proofs.OfVerbs.{verb-call}
 use Rattle.nesting.proofs.Aiming.{ready-words, negated, affirmed}
 use Rattle.nesting.proofs.properties.Statement.{statement}
 use Rattle.nesting.proofs.properties.Tie as tie
@@ -28,7 +29,7 @@ aim-requires : tie.Need-aim-requires Inv-loop μ-loop
 aim-requires c κs = ready-words _ (held (c .before .loop .work) (c .before .loop .rows) (c .before .loop .terms) (c .before .loop .store) (c .before .loop .st)) (c .before .loop .inv .ready)
 
 leaf-requires : tie.Need-leaf-requires Inv-loop μ-loop
-leaf-requires c κs = let h = properties-ready _ _ _ _ _ _ _ _ _ (c .before .before .before .before .before .before .before .loop .inv) (c .before .before .before .before .before .aim .ensures) in (h .0, λ _. h .1)
+leaf-requires c κs = verb-call _ _ _ _ _ _ _ (c .before .before .before .before .before .before .before .loop .inv .ready) (c .before .before .before .before .before .before .before .loop .inv .verb) (c .before .before .before .before .before .aim .ensures)
 
 returns : tie.Need-returns Inv-loop μ-loop
 returns c = search properties-stop
