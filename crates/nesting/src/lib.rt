@@ -51,7 +51,7 @@ pub fn leaf(
     leaves::put_term(doc, work, rows, terms, store, st)
 }
 
-// A node where one is awaited: what is read in its brackets ends with a level of zeros.
+// A node where one is awaited. The level of zeros ends what is read in its brackets.
 fn node(
     doc: &&[u8],
     work: &mut &mut [u8],
@@ -158,8 +158,8 @@ pub fn elements(
     }
 }
 
-// Puts what is to be resumed at this depth: behind an object of the subject x and the predicate y; in a list, x being 0,
-// behind the cell y; with zeros, the caller goes on.
+// Puts into the level of this depth what is resumed once a node is complete here: behind an object of the subject x and the
+// predicate y; in a list, x being 0, behind the cell y; with zeros the caller goes on.
 fn mark(st: &mut [usize; Layout::WORDS], x: usize, y: usize)
     requires { ⌜ (length (now st) ≡ words-size) × (getD (now st) depth-word 0 ≤ depth-limit) ⌝ }
     ensures { λ _. ⌜ Marked (now (st .entry)) (now (st .exit)) x y ⌝ }
@@ -169,6 +169,7 @@ fn mark(st: &mut [usize; Layout::WORDS], x: usize, y: usize)
     st[i + 1] = y;
 }
 
+// The two words of the level of this depth.
 fn level_x(st: &[usize; Layout::WORDS]) -> usize
     requires { ⌜ (length (now st) ≡ words-size) × (getD (now st) depth-word 0 ≤ depth-limit) ⌝ }
     ensures { λ r. ⌜ r ≡ level-x (now (st .entry)) (getD (now (st .entry)) depth-word 0) ⌝ }
@@ -211,8 +212,9 @@ fn enter_list(st: &mut [usize; Layout::WORDS], at: usize, cell: usize)
 
 // ---- The readers that call each other
 
-// What stands in brackets is read by calls in tail position alone, which take no stack: what is resumed behind a closing
-// bracket stands in the levels. With every token the remaining document gets shorter.
+// Every call among them is in tail position, so that the compiler can make it a jump and a bracket costs no stack: what is
+// resumed behind it stands in the levels. The measure is the remaining document; where no token is passed, the order is
+// resume, then after_object, contents and element, then the others.
 
 // A node where one is awaited; then what is resumed behind it.
 fn value(
