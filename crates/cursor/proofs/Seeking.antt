@@ -32,7 +32,7 @@ pub record Put (st st' : List ℕ) (kind at len clear : ℕ) : Type 0 where
   pub beside : StaysBeside st st'
   pub words : length st' ≡ length st
 
-module _ (st : List ℕ) (kind at len clear : ℕ) (n : length st ≡ 90) where
+module _ (st : List ℕ) (kind at len clear : ℕ) (n : length st ≡ 212) where
   abbrev s1 : List ℕ
   s1 = set st 71 kind
 
@@ -45,13 +45,13 @@ module _ (st : List ℕ) (kind at len clear : ℕ) (n : length st ≡ 90) where
   abbrev s4 : List ℕ
   s4 = set s3 74 clear
 
-  l1 : length s1 ≡ 90
+  l1 : length s1 ≡ 212
   l1 = length-set st 71 kind ∙ n
 
-  l2 : length s2 ≡ 90
+  l2 : length s2 ≡ 212
   l2 = length-set s1 72 at ∙ l1
 
-  l3 : length s3 ≡ 90
+  l3 : length s3 ≡ 212
   l3 = length-set s2 73 len ∙ l2
 
   other : (k : ℕ) → (k ≡ 71 → ⊥) → (k ≡ 72 → ⊥) → (k ≡ 73 → ⊥) → (k ≡ 74 → ⊥) → getD s4 k 0 ≡ getD st k 0
@@ -163,7 +163,7 @@ module _ (doc : Text) (at b clear : ℕ) (r : Next) (size : length doc ≤ 10485
 -- The same of the parts that the code lends on.
 pub seek-law : (doc : Text) (at b clear mc : ℕ) (r : Next) (k : ℕ) (st st' : List ℕ) → length doc ≤ 1048576 → at ≤ length doc → first-bad (drop at doc) ≡ none → Clear (drop at doc) clear
     → BlanksAt (take (length doc - at) (drop at doc)) b → mc ≡ clear - b → NextAt (take (length doc - (at + b)) (drop (at + b) doc)) mc r
-    → k ≡ kind-there (r .kind) (at + b) (length doc) → st' ≡ put-token st k (at + b) (r .len) (r .clear) → length st ≡ 90 → Sought doc at st st'
+    → k ≡ kind-there (r .kind) (at + b) (length doc) → st' ≡ put-token st k (at + b) (r .len) (r .clear) → length st ≡ 212 → Sought doc at st st'
 seek-law doc at b clear mc r k st st' size within v c g em m ek es n =
     let g' : BlanksAt (drop at doc) b = subst (λ (x : Text). BlanksAt x b) (rest-of doc at) g in
     let m' : NextAt (drop (at + b) doc) (clear - b) r = subst (λ (x : ℕ). NextAt (drop (at + b) doc) x r) em (subst (λ (x : Text). NextAt x mc r) (rest-of doc (at + b)) m) in

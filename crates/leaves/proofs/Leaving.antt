@@ -75,7 +75,7 @@ module _ (doc : Text) (a : Held) (ready : Ready doc a) where
     fits = record { x = s .x; y = s .y; opened = s .opened; last = s .last; at = let i = ready .cursor .inside in let n = ready .cursor .size in omega (arith, i, n) };
   }
 
-  pub words-there : length (a .st) ≡ 90
+  pub words-there : length (a .st) ≡ 212
   words-there = let (old, (m, h)) = ready .holds in h .usable .words
 
   pub token-there : (k : ℕ) → getD (a .st) kind-word 0 ≡ k → 0 < k → k < 31 → TokenHere doc (a .st)
@@ -153,7 +153,7 @@ module _ (doc : Text) (a : Held) (k : ℕ) (e : getD (a .st) kind-word 0 ≡ k) 
   closing-depth o c st' same = rw (same 75 (omega arith), e, o, c)
 
 -- The depth is put before the cursor goes on.
-module _ (doc : Text) (st : List ℕ) (v : ℕ) (n : length st ≡ 90) where
+module _ (doc : Text) (st : List ℕ) (v : ℕ) (n : length st ≡ 212) where
   abbrev deeper : List ℕ
   deeper = set st 75 v
 

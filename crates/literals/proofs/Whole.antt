@@ -27,7 +27,7 @@ use Rattle.reading.proofs.Compose.{same-all, comes-then, comes-stop, comes-with
 use Rattle.reading.proofs.Numbers.{next-held}
 use Rattle.reading.proofs.Steps.{tied-here, here-some}
 use Rattle.reading.proofs.Frames.{ready-does}
-use Rattle.nodes.specs.Nodes.{Slot, slot-place, spot-of, Spotted, Fills, Steady, Passed}
+use Rattle.nodes.specs.Nodes.{Slot, slot-place, spot-of, Spotted, Fills, Settled, Passed}
 use Rattle.nodes.proofs.Moving.{cursor-words, token-words}
 use Rattle.nodes.proofs.Passing.{represents-words, Quiet, passed-same}
 use Rattle.literals.specs.Literals.{ties, quotes-of, text-of, Quoted, spot-at, own-x, own-y, own-spot, Adds, Obeys}
@@ -58,7 +58,7 @@ string-token k e = each-string SomeToken ((λ x. omega arith), (λ x. omega arit
 token-at-cursor : (doc : Text) (st : List ℕ) → Cursor doc st → SomeToken (getD st kind-word 0) → TokenHere doc st
 token-at-cursor doc st c (z, y) = c .token z y
 
-ready-words : (doc : Text) (a : Held) → Ready doc a → length (a .st) ≡ 90
+ready-words : (doc : Text) (a : Held) → Ready doc a → length (a .st) ≡ 212
 ready-words doc a r = let (old, (m, h)) = r .holds in h .usable .words
 
 tag-depth : (at d : ℕ) (s : Text) (k : ℕ) → k ≡ 7 → new-depth d (record { kind = kind-of-code k; start = at; text = s }) ≡ d
@@ -87,13 +87,13 @@ module _ (doc : Text) (a : Held) where
 
   -- The cursor may go on once w is done.
   obeys-pass : (w : Write ℕ) (work' : Text) (t' : Tables) (st' : List ℕ) (r : ℕ) → Ready doc a → TokenHere doc (a .st) → Obeys doc w (a .work .now) work' (tables-of a) t' (a .st) st' r
-      → (Cursor doc st' × TokenHere doc st') × (length st' ≡ 90)
+      → (Cursor doc st' × TokenHere doc st') × (length st' ≡ 212)
   obeys-pass w work' t' st' r ready h o = ((cursor-words doc (a .st) st' (λ k x y. o .stays k x) (ready .cursor), token-words doc (a .st) st' (λ k x y. o .stays k x) h), o .words ∙ ready-words doc a ready)
 
-  pub tag-pass : (w : Write ℕ) (work' : Text) (t' : Tables) (st' : List ℕ) (r : ℕ) → Ready doc a → getD (a .st) kind-word 0 ≡ 7 → Obeys doc w (a .work .now) work' (tables-of a) t' (a .st) st' r → (Cursor doc st' × TokenHere doc st') × (length st' ≡ 90)
+  pub tag-pass : (w : Write ℕ) (work' : Text) (t' : Tables) (st' : List ℕ) (r : ℕ) → Ready doc a → getD (a .st) kind-word 0 ≡ 7 → Obeys doc w (a .work .now) work' (tables-of a) t' (a .st) st' r → (Cursor doc st' × TokenHere doc st') × (length st' ≡ 212)
   tag-pass w work' t' st' r ready k o = obeys-pass w work' t' st' r ready (ready .cursor .token (λ e. omega arith) (λ e. omega arith)) o
 
-  pub typed-pass : (w : Write ℕ) (work' : Text) (t' : Tables) (st' : List ℕ) (r : ℕ) → Ready doc a → code-among iris (getD (a .st) kind-word 0) ≡ true → Obeys doc w (a .work .now) work' (tables-of a) t' (a .st) st' r → (Cursor doc st' × TokenHere doc st') × (length st' ≡ 90)
+  pub typed-pass : (w : Write ℕ) (work' : Text) (t' : Tables) (st' : List ℕ) (r : ℕ) → Ready doc a → code-among iris (getD (a .st) kind-word 0) ≡ true → Obeys doc w (a .work .now) work' (tables-of a) t' (a .st) st' r → (Cursor doc st' × TokenHere doc st') × (length st' ≡ 212)
   typed-pass w work' t' st' r ready k o = obeys-pass w work' t' st' r ready (token-at-cursor doc (a .st) (ready .cursor) (iri-token (getD (a .st) kind-word 0) k)) o
 
   pub tag-deep : getD (a .st) kind-word 0 ≡ 7 → new-depth (getD (a .st) depth-word 0) (here doc a) ≡ getD (a .st) depth-word 0
@@ -102,31 +102,31 @@ module _ (doc : Text) (a : Held) where
   pub typed-deep : code-among iris (getD (a .st) kind-word 0) ≡ true → new-depth (getD (a .st) depth-word 0) (here doc a) ≡ getD (a .st) depth-word 0
   typed-deep k = iri-depth (getD (a .st) at-word 0) (getD (a .st) depth-word 0) (here doc a .text) (getD (a .st) kind-word 0) k
 
-  steady-does : (w : Write ℕ) (b : Held) (r : ℕ) → Does doc w a b r → new-depth (getD (a .st) depth-word 0) (here doc a) ≡ getD (a .st) depth-word 0 → Steady a b r
-  steady-does w b r D e = record { depth = λ z. D .done z .depth ∙ e; later = λ z. D .done z .later }
+  settled-does : (w : Write ℕ) (b : Held) (r : ℕ) → Does doc w a b r → new-depth (getD (a .st) depth-word 0) (here doc a) ≡ getD (a .st) depth-word 0 → Settled a b r
+  settled-does w b r D e = record { steady = record { depth = λ z. D .done z .depth ∙ e; later = λ z. D .done z .later }; spot = λ z. D .done z .spot }
 
   module _ (ready : Ready doc a) (x y at len n : ℕ) where
     pub datatype-found : (b : Held) (r : ℕ) → code-among iris (getD (a .st) kind-word 0) ≡ true → Does doc (placed (own-spot x y at) (typed-by (text-of doc at len n) (here doc a))) a b r
-        → Reads doc (datatype (place-of x y) at (text-of doc at len n) ∷ []) [] a b r × Steady a b r
+        → Reads doc (datatype (place-of x y) at (text-of doc at len n) ∷ []) [] a b r × Settled a b r
     datatype-found b r k D = (
       datatype-reads doc a b r ready x y at (text-of doc at len n) k (iri-token (getD (a .st) kind-word 0) k .0) (token-at-cursor doc (a .st) (ready .cursor) (iri-token (getD (a .st) kind-word 0) k)) D,
-      steady-does (placed (own-spot x y at) (typed-by (text-of doc at len n) (here doc a))) b r D (typed-deep k),
+      settled-does (placed (own-spot x y at) (typed-by (text-of doc at len n) (here doc a))) b r D (typed-deep k),
     )
 
-    pub datatype-missing : (r : ℕ) → code-among iris (getD (a .st) kind-word 0) ≡ false → r ≡ refusal-here doc (a .st) → Reads doc (datatype (place-of x y) at (text-of doc at len n) ∷ []) [] a a r × Steady a a r
+    pub datatype-missing : (r : ℕ) → code-among iris (getD (a .st) kind-word 0) ≡ false → r ≡ refusal-here doc (a .st) → Reads doc (datatype (place-of x y) at (text-of doc at len n) ∷ []) [] a a r × Settled a a r
     datatype-missing r k e = (
       datatype-none doc a r ready (place-of x y) at (text-of doc at len n) k e,
-      record { depth = λ z. refl; later = λ z. absurd (here-some doc (a .st) (sym e ∙ z)) },
+      record { steady = record { depth = λ z. refl; later = λ z. absurd (here-some doc (a .st) (sym e ∙ z)) }; spot = λ z k h. refl },
     )
 
     pub suffix-tag : (b : Held) (r : ℕ) → getD (a .st) kind-word 0 ≡ 7 → Does doc (placed (own-spot x y at) (term (tagged (text-of doc at len n) (tag (here doc a))))) a b r
-        → Reads doc (suffix (place-of x y) at (text-of doc at len n) ∷ []) [] a b r × Steady a b r
+        → Reads doc (suffix (place-of x y) at (text-of doc at len n) ∷ []) [] a b r × Settled a b r
     suffix-tag b r k D = (
       tag-reads doc a b r ready x y at (text-of doc at len n) k (ready .cursor .token (λ e. omega arith) (λ e. omega arith)) D,
-      steady-does (placed (own-spot x y at) (term (tagged (text-of doc at len n) (tag (here doc a))))) b r D (tag-deep k),
+      settled-does (placed (own-spot x y at) (term (tagged (text-of doc at len n) (tag (here doc a))))) b r D (tag-deep k),
     )
 
-  pub carets-call : Ready doc a → code-among ties (getD (a .st) kind-word 0) ≡ true → (Cursor doc (a .st) × TokenHere doc (a .st)) × (length (a .st) ≡ 90)
+  pub carets-call : Ready doc a → code-among ties (getD (a .st) kind-word 0) ≡ true → (Cursor doc (a .st) × TokenHere doc (a .st)) × (length (a .st) ≡ 212)
   carets-call ready k = ((ready .cursor, token-at-cursor doc (a .st) (ready .cursor) (tie-token (getD (a .st) kind-word 0) k)), ready-words doc a ready)
 
 -- ^^ is behind.
@@ -150,12 +150,12 @@ module _ (doc : Text) (work rows terms store : RefT (List ℕ)) (st st1 : List �
   pub datatype-call : (x y at len n : ℕ) → SpotFits (own-spot x y at) × Quoted doc at len n → Ready doc a1 × (SpotFits (own-spot x y at) × Quoted doc at len n)
   datatype-call x y at len n s = (ready-does doc (λ m. (0, m)) a a1 0 ready carets-token (tie-token (getD st kind-word 0) k .0) carets-does refl, s)
 
-  pub suffix-datatype : (x y at len n : ℕ) (b : Held) (r : ℕ) → Reads doc (datatype (place-of x y) at (text-of doc at len n) ∷ []) [] a1 b r × Steady a1 b r
-      → Reads doc (suffix (place-of x y) at (text-of doc at len n) ∷ []) [] a b r × Steady a b r
+  pub suffix-datatype : (x y at len n : ℕ) (b : Held) (r : ℕ) → Reads doc (datatype (place-of x y) at (text-of doc at len n) ∷ []) [] a1 b r × Settled a1 b r
+      → Reads doc (suffix (place-of x y) at (text-of doc at len n) ∷ []) [] a b r × Settled a b r
   suffix-datatype x y at len n b r (R, s) = (
     comes-then doc (on-top (suffix (place-of x y) at (text-of doc at len n) ∷ [])) (on-top (datatype (place-of x y) at (text-of doc at len n) ∷ [])) (on-top []) a a1 b 0 r
         (carets-reads doc a a1 0 ready x y at (text-of doc at len n) is-carets carets-token carets-does) refl R,
-    record { depth = λ e. s .depth e ∙ p .depth-is; later = λ e. omega (arith, s .later e, p .later) },
+    record { steady = record { depth = λ e. s .steady .depth e ∙ p .depth-is; later = λ e. omega (arith, s .steady .later e, p .later) }; spot = λ e k h. s .spot e k h ∙ p .spot k h },
   )
 
 -- ---- At the string
@@ -172,10 +172,10 @@ module _ (doc : Text) (a : Held) (ready : Ready doc a) (k : code-among strings (
   string-here : TokenHere doc (a .st)
   string-here = token-at-cursor doc (a .st) (ready .cursor) (string-token (getD (a .st) kind-word 0) k)
 
-  pub string-pass : (Cursor doc (a .st) × TokenHere doc (a .st)) × (length (a .st) ≡ 90)
+  pub string-pass : (Cursor doc (a .st) × TokenHere doc (a .st)) × (length (a .st) ≡ 212)
   string-pass = ((ready .cursor, string-here), ready-words doc a ready)
 
-  pub string-bad : bad-escape (take (getD (a .st) len-word 0) (drop (getD (a .st) at-word 0) doc)) ≡ true → Fills doc a a 7 × Steady a a 7
+  pub string-bad : bad-escape (take (getD (a .st) len-word 0) (drop (getD (a .st) at-word 0) doc)) ≡ true → Fills doc a a 7 × Settled a a 7
   string-bad e = (
     seven-reads doc a a 7 ready string-here (string-token (getD (a .st) kind-word 0) k .0) k
         (λ w. record {
@@ -184,7 +184,7 @@ module _ (doc : Text) (a : Held) (ready : Ready doc a) (k : code-among strings (
           place = λ z. refl;
           done = λ z. absurd (omega arith);
         }),
-    record { depth = λ z. refl; later = λ z. absurd (omega arith) },
+    record { steady = record { depth = λ z. refl; later = λ z. absurd (omega arith) }; spot = λ z k h. refl },
   )
 
 module _ (doc : Text) (work rows terms store : RefT (List ℕ)) (st st1 : List ℕ) (ready : Ready doc (held work rows terms store st)) (k : code-among strings (getD st kind-word 0) ≡ true)
@@ -228,23 +228,23 @@ module _ (doc : Text) (work rows terms store : RefT (List ℕ)) (st st1 : List �
       (λ m. string-refusal (room-in (tables-of s)) (getD st depth-word 0) (m .environment) at (take len (drop at doc)) (w m .1) (getD st kind-word 0) k good)
       (string-depth at (getD st depth-word 0) (take len (drop at doc)) (getD st kind-word 0) k)
 
-  steady-there : (w : Write ℕ) (b : Held) (r : ℕ) → Adds w s1 b at r → Steady s b r
-  steady-there w b r A = steady-does doc s w b r (done-there w b r A) (string-depth at (getD st depth-word 0) (take len (drop at doc)) (getD st kind-word 0) k)
+  settled-there : (w : Write ℕ) (b : Held) (r : ℕ) → Adds w s1 b at r → Settled s b r
+  settled-there w b r A = settled-does doc s w b r (done-there w b r A) (string-depth at (getD st depth-word 0) (take len (drop at doc)) (getD st kind-word 0) k)
 
   pub plain-call : (q : ℕ) → q ≡ n → Spotted s → Represented (work .now) (tables-of s) st1 × (SpotFits (spot-at st1 at) × Quoted doc at len q)
   plain-call q e f = (held-on, (spot-fits f, rw e kept))
 
-  plain-fills : (b : Held) (r : ℕ) → code-among ties (getD st1 kind-word 0) ≡ false → Adds (placed (spot-at st1 at) (typed (text-of doc at len n) xsd-string)) s1 b at r → Fills doc s b r × Steady s b r
+  plain-fills : (b : Held) (r : ℕ) → code-among ties (getD st1 kind-word 0) ≡ false → Adds (placed (spot-at st1 at) (typed (text-of doc at len n) xsd-string)) s1 b at r → Fills doc s b r × Settled s b r
   plain-fills b r t A = (
     plain-reads doc s b r ready (string-here doc s ready k) (string-token (getD st kind-word 0) k .0) k (tied-now ∙ t)
         (done-there (placed (spot-of s) (typed (text-of doc at len n) xsd-string)) b r (subst (λ (o : Spot). Adds (placed o (typed (text-of doc at len n) xsd-string)) s1 b at r) spot-same A)),
-    steady-there (placed (spot-at st1 at) (typed (text-of doc at len n) xsd-string)) b r A,
+    settled-there (placed (spot-at st1 at) (typed (text-of doc at len n) xsd-string)) b r A,
   )
 
-  pub string-plain : (q : ℕ) → q ≡ n → (b : Held) (r : ℕ) → code-among ties (getD st1 kind-word 0) ≡ false → Adds (placed (spot-at st1 at) (typed (text-of doc at len q) xsd-string)) s1 b at r → Fills doc s b r × Steady s b r
+  pub string-plain : (q : ℕ) → q ≡ n → (b : Held) (r : ℕ) → code-among ties (getD st1 kind-word 0) ≡ false → Adds (placed (spot-at st1 at) (typed (text-of doc at len q) xsd-string)) s1 b at r → Fills doc s b r × Settled s b r
   string-plain q e b r t A = plain-fills b r t (subst (λ (j : ℕ). Adds (placed (spot-at st1 at) (typed (text-of doc at len j) xsd-string)) s1 b at r) e A)
 
-  pub own-call : (length st1 ≡ 90) × (getD st1 terms-word 0 + 1 < 4294967296)
+  pub own-call : (length st1 ≡ 212) × (getD st1 terms-word 0 + 1 < 4294967296)
   own-call = let (old, (m, h)) = ready .holds in (p .words ∙ ready-words doc s ready, next-held old m s1 (moved old m h))
 
   pub place-call : Spotted s → Represented (work .now) (tables-of s) st1 × SpotFits (spot-at st1 at)
@@ -257,10 +257,10 @@ module _ (doc : Text) (work rows terms store : RefT (List ℕ)) (st st1 : List �
     to-suffix : (f g : Frame) → Slot doc s f g → Reads doc (f ∷ []) (suffix (slot-place s) at (text-of doc at len n) ∷ g ∷ []) s b r
     to-suffix f g o = tied-reads doc s b r ready (string-here doc s ready k) (string-token (getD st kind-word 0) k .0) k (tied-now ∙ t) opened-does f g o
 
-    pub string-stop : (r ≡ 0 → ⊥) → Fills doc s b r × Steady s b r
+    pub string-stop : (r ≡ 0 → ⊥) → Fills doc s b r × Settled s b r
     string-stop z = (
       (λ f g o. comes-stop doc (on-top (f ∷ [])) (on-top (suffix (slot-place s) at (text-of doc at len n) ∷ g ∷ [])) (on-top (g ∷ [])) s b r (to-suffix f g o) z),
-      record { depth = λ y. absurd (z y); later = λ y. absurd (z y) },
+      record { steady = record { depth = λ y. absurd (z y); later = λ y. absurd (z y) }; spot = λ y. absurd (z y) },
     )
 
     module _ (z : r ≡ 0) (x y : ℕ) (ex : x ≡ own-x st1) (ey : y ≡ own-y st1) where
@@ -282,14 +282,14 @@ module _ (doc : Text) (work rows terms store : RefT (List ℕ)) (st st1 : List �
       same-place : slot-place s ≡ place-of x y
       same-place = own-place s ∙ rw (ex, ey, p .spot 77 (omega arith), p .spot 78 (omega arith), p .spot 79 (omega arith), p .before 67 (omega arith))
 
-      suffix-fills : (d : Held) (q : ℕ) → Reads doc (suffix (place-of x y) at (text-of doc at len n) ∷ []) [] b d q × Steady b d q → Fills doc s d q × Steady s d q
+      suffix-fills : (d : Held) (q : ℕ) → Reads doc (suffix (place-of x y) at (text-of doc at len n) ∷ []) [] b d q × Settled b d q → Fills doc s d q × Settled s d q
       suffix-fills d q (R, y′) = (
         (λ f g o.
             comes-then doc (on-top (f ∷ [])) (on-top (suffix (slot-place s) at (text-of doc at len n) ∷ g ∷ [])) (on-top (g ∷ [])) s b d r q (to-suffix f g o) z
             (comes-within doc (λ u. g ∷ u) (on-top (suffix (slot-place s) at (text-of doc at len n) ∷ [])) (on-top []) b d q
             (subst (λ (v : Place). Reads doc (suffix v at (text-of doc at len n) ∷ []) [] b d q) (sym same-place) R))),
-        record { depth = λ e. y′ .depth e ∙ steady-there (opened-at (spot-at st1 at)) b r A .depth z; later = λ e. omega (arith, y′ .later e, steady-there (opened-at (spot-at st1 at)) b r A .later z) },
+        (let o = settled-there (opened-at (spot-at st1 at)) b r A in record { steady = record { depth = λ e. y′ .steady .depth e ∙ o .steady .depth z; later = λ e. omega (arith, y′ .steady .later e, o .steady .later z) }; spot = λ e k h. y′ .spot e k h ∙ o .spot z k h }),
       )
 
-      pub string-suffix : (i : ℕ) → i ≡ n → (d : Held) (q : ℕ) → Reads doc (suffix (place-of x y) at (text-of doc at len i) ∷ []) [] b d q × Steady b d q → Fills doc s d q × Steady s d q
+      pub string-suffix : (i : ℕ) → i ≡ n → (d : Held) (q : ℕ) → Reads doc (suffix (place-of x y) at (text-of doc at len i) ∷ []) [] b d q × Settled b d q → Fills doc s d q × Settled s d q
       string-suffix i e d q (R, y′) = suffix-fills d q (subst (λ (j : ℕ). Reads doc (suffix (place-of x y) at (text-of doc at len j) ∷ []) [] b d q) e R, y′)

@@ -20,7 +20,7 @@ ghost use Rattle.state.specs.Represents.{tables, Represented, Puts};
 ghost use Rattle.state.specs.Writes.{place-of, placed, opened-at, SpotFits};
 ghost use Rattle.address.specs.Addresses.{front-of, back-of};
 ghost use Rattle.reading.specs.Reading.{code-among, held, here, Ready, Reads, Does};
-ghost use Rattle.nodes.specs.Nodes.{Spotted, Fills, Steady};
+ghost use Rattle.nodes.specs.Nodes.{Spotted, Fills, Settled};
 ghost use Rattle.literals.specs.Literals.{ties, quotes-of, text-of, Quoted, Located, spot-at, own-x, own-y, own-spot, Adds, Obeys};
 use address::Address;
 use form::Form;
@@ -468,7 +468,7 @@ fn put_datatype(
     y: usize,
 ) -> u8
     requires { ⌜ Ready (now (now doc)) (held (now work) (now rows) (now terms) (now store) (now st)) × (SpotFits (own-spot x y at) × Quoted (now (now doc)) at len quotes) ⌝ }
-    ensures { λ r. ⌜ Reads (now (now (doc .entry))) (datatype (place-of x y) at (text-of (now (now (doc .entry))) at len quotes) ∷ []) [] (held (now (work .entry)) (now (rows .entry)) (now (terms .entry)) (now (store .entry)) (now (st .entry))) (held (now (work .exit)) (now (rows .exit)) (now (terms .exit)) (now (store .exit)) (now (st .exit))) r × Steady (held (now (work .entry)) (now (rows .entry)) (now (terms .entry)) (now (store .entry)) (now (st .entry))) (held (now (work .exit)) (now (rows .exit)) (now (terms .exit)) (now (store .exit)) (now (st .exit))) r ⌝ }
+    ensures { λ r. ⌜ Reads (now (now (doc .entry))) (datatype (place-of x y) at (text-of (now (now (doc .entry))) at len quotes) ∷ []) [] (held (now (work .entry)) (now (rows .entry)) (now (terms .entry)) (now (store .entry)) (now (st .entry))) (held (now (work .exit)) (now (rows .exit)) (now (terms .exit)) (now (store .exit)) (now (st .exit))) r × Settled (held (now (work .entry)) (now (rows .entry)) (now (terms .entry)) (now (store .entry)) (now (st .entry))) (held (now (work .exit)) (now (rows .exit)) (now (terms .exit)) (now (store .exit)) (now (st .exit))) r ⌝ }
 {
     if is_iri(st[Words::KIND]) {
         return put_typed(doc, work, rows, terms, store, st, at, len, quotes, x, y);
@@ -491,7 +491,7 @@ fn put_suffix(
     y: usize,
 ) -> u8
     requires { ⌜ (Ready (now (now doc)) (held (now work) (now rows) (now terms) (now store) (now st)) × (SpotFits (own-spot x y at) × Quoted (now (now doc)) at len quotes)) × (code-among ties (getD (now st) kind-word 0) ≡ true) ⌝ }
-    ensures { λ r. ⌜ Reads (now (now (doc .entry))) (suffix (place-of x y) at (text-of (now (now (doc .entry))) at len quotes) ∷ []) [] (held (now (work .entry)) (now (rows .entry)) (now (terms .entry)) (now (store .entry)) (now (st .entry))) (held (now (work .exit)) (now (rows .exit)) (now (terms .exit)) (now (store .exit)) (now (st .exit))) r × Steady (held (now (work .entry)) (now (rows .entry)) (now (terms .entry)) (now (store .entry)) (now (st .entry))) (held (now (work .exit)) (now (rows .exit)) (now (terms .exit)) (now (store .exit)) (now (st .exit))) r ⌝ }
+    ensures { λ r. ⌜ Reads (now (now (doc .entry))) (suffix (place-of x y) at (text-of (now (now (doc .entry))) at len quotes) ∷ []) [] (held (now (work .entry)) (now (rows .entry)) (now (terms .entry)) (now (store .entry)) (now (st .entry))) (held (now (work .exit)) (now (rows .exit)) (now (terms .exit)) (now (store .exit)) (now (st .exit))) r × Settled (held (now (work .entry)) (now (rows .entry)) (now (terms .entry)) (now (store .entry)) (now (st .entry))) (held (now (work .exit)) (now (rows .exit)) (now (terms .exit)) (now (store .exit)) (now (st .exit))) r ⌝ }
 {
     if st[Words::KIND] == 7 {
         return put_tagged(doc, work, rows, terms, store, st, at, len, quotes, x, y);
@@ -520,7 +520,7 @@ pub fn put_string(
     st: &mut [usize; Layout::WORDS],
 ) -> u8
     requires { ⌜ (Ready (now (now doc)) (held (now work) (now rows) (now terms) (now store) (now st)) × Spotted (held (now work) (now rows) (now terms) (now store) (now st))) × (code-among strings (getD (now st) kind-word 0) ≡ true) ⌝ }
-    ensures { λ r. ⌜ Fills (now (now (doc .entry))) (held (now (work .entry)) (now (rows .entry)) (now (terms .entry)) (now (store .entry)) (now (st .entry))) (held (now (work .exit)) (now (rows .exit)) (now (terms .exit)) (now (store .exit)) (now (st .exit))) r × Steady (held (now (work .entry)) (now (rows .entry)) (now (terms .entry)) (now (store .entry)) (now (st .entry))) (held (now (work .exit)) (now (rows .exit)) (now (terms .exit)) (now (store .exit)) (now (st .exit))) r ⌝ }
+    ensures { λ r. ⌜ Fills (now (now (doc .entry))) (held (now (work .entry)) (now (rows .entry)) (now (terms .entry)) (now (store .entry)) (now (st .entry))) (held (now (work .exit)) (now (rows .exit)) (now (terms .exit)) (now (store .exit)) (now (st .exit))) r × Settled (held (now (work .entry)) (now (rows .entry)) (now (terms .entry)) (now (store .entry)) (now (st .entry))) (held (now (work .exit)) (now (rows .exit)) (now (terms .exit)) (now (store .exit)) (now (st .exit))) r ⌝ }
 {
     if is_bad(*doc, st) {
         return 7;

@@ -1,21 +1,20 @@
 -- Saying where the next node belongs changes nothing for the machine.
-use mathlib.Core.Path.{_≡_, refl, sym, ap, _∙_, subst}
-use mathlib.Core.Logic.{inl, inr}
-use mathlib.Core.List.{List, [], _∷_}
+use mathlib.Core.Path.{_≡_, refl, sym, _∙_}
+use mathlib.Core.List.{List}
 use mathlib.Core.Bool.{Bool, true, false, not}
-use Prim.Native.Nat.{ℕ, suc, _+_, _-_, _/_, _≤_, _<_}
+use Prim.Native.Nat.{ℕ, _-_, _<_}
 use native.Mathlib.Omega.{arith}
 use lib.ListN.{length, getD}
 use denote.Ref.{RefT}
-use Rattle.text.specs.Text.{Text, cond}
+use Rattle.text.specs.Text.{Text}
 use Rattle.text.proofs.Compare.{contrary}
 use Rattle.machine.specs.Frame.{Open}
 use Rattle.machine.specs.Memory.{Memory}
 use Rattle.grammar.specs.Productions.{Mode}
-use Rattle.state.specs.Words.{terms-word, kind-word, at-word, depth-word}
-use Rattle.state.specs.Cursor.{Cursor, TokenHere, left}
-use Rattle.state.specs.Represents.{Tables, room-in, Represents}
-use Rattle.reading.specs.Reading.{Held, held, tables-of, Holding, goes, Ready, Same, Comes}
+use Rattle.state.specs.Words.{kind-word, at-word, depth-word}
+use Rattle.state.specs.Cursor.{Cursor, TokenHere}
+use Rattle.state.specs.Represents.{Tables}
+use Rattle.reading.specs.Reading.{Held, held, tables-of, Holding, goes, Ready, Comes}
 use Rattle.nodes.specs.Nodes.{Aimed, Spotted}
 use Rattle.nodes.proofs.Moving.{cursor-words, left-words}
 use Rattle.nodes.proofs.Passing.{represents-words}
@@ -60,16 +59,16 @@ place-small doc a r = omega (arith, r .cursor .inside, r .cursor .size)
 
 -- ---- What routines ask for
 
-pub ready-words : (doc : Text) (a : Held) → Ready doc a → length (a .st) ≡ 90
+pub ready-words : (doc : Text) (a : Held) → Ready doc a → length (a .st) ≡ 212
 ready-words doc a r = let (old, (m, h)) = r .holds in h .usable .words
 
-pub unexpected-call : (doc : Text) (a : Held) → Ready doc a → Cursor doc (a .st) × (length (a .st) ≡ 90)
+pub unexpected-call : (doc : Text) (a : Held) → Ready doc a → Cursor doc (a .st) × (length (a .st) ≡ 212)
 unexpected-call doc a r = (r .cursor, ready-words doc a r)
 
-pub pass-call : (doc : Text) (a : Held) (k : ℕ) → Ready doc a → getD (a .st) kind-word 0 ≡ k → (k ≡ 0 → ⊥) → (k ≡ 31 → ⊥) → (Cursor doc (a .st) × TokenHere doc (a .st)) × (length (a .st) ≡ 90)
+pub pass-call : (doc : Text) (a : Held) (k : ℕ) → Ready doc a → getD (a .st) kind-word 0 ≡ k → (k ≡ 0 → ⊥) → (k ≡ 31 → ⊥) → (Cursor doc (a .st) × TokenHere doc (a .st)) × (length (a .st) ≡ 212)
 pass-call doc a k r e z y = ((r .cursor, r .cursor .token (λ h. z (sym e ∙ h)) (λ h. y (sym e ∙ h))), ready-words doc a r)
 
-pub leave-call : (doc : Text) (a : Held) (k : ℕ) → Ready doc a → getD (a .st) kind-word 0 ≡ k → (k ≡ 0 → ⊥) → (k ≡ 31 → ⊥) → 0 < getD (a .st) depth-word 0 → (Cursor doc (a .st) × TokenHere doc (a .st)) × ((length (a .st) ≡ 90) × (0 < getD (a .st) depth-word 0))
+pub leave-call : (doc : Text) (a : Held) (k : ℕ) → Ready doc a → getD (a .st) kind-word 0 ≡ k → (k ≡ 0 → ⊥) → (k ≡ 31 → ⊥) → 0 < getD (a .st) depth-word 0 → (Cursor doc (a .st) × TokenHere doc (a .st)) × ((length (a .st) ≡ 212) × (0 < getD (a .st) depth-word 0))
 leave-call doc a k r e z y d = let w = pass-call doc a k r e z y in (w .0, (w .1, d))
 
 -- A test that was turned round.

@@ -1,9 +1,13 @@
 pub mod Skipping
 pub mod Entering
 pub mod Aiming
+pub mod Levels
 pub mod OfObjects
+pub mod OfVerbs
 pub mod OfProperties
 pub mod OfBrackets
 pub mod OfElements
 pub mod OfLeaves
 pub mod OfNodes
+pub mod OfPredicates
+pub mod OfLists

@@ -2,30 +2,31 @@
 use mathlib.Core.Path.{_≡_, refl, sym, ap, _∙_, subst}
 use mathlib.Core.List.{List, [], _∷_, _++_}
 use mathlib.Core.Bool.{Bool, true, false}
-use mathlib.Core.Option.{none, some}
-use Prim.Native.Nat.{ℕ, suc, _+_, _-_, _≤_, _<_}
+use mathlib.Core.Option.{Option, some}
+use Prim.Native.Nat.{ℕ, _-_, _<_}
 use native.Mathlib.Omega.{arith}
 use borrow.Author.Tests.{ne-eqb}
-use lib.ListN.{length, getD}
+use lib.ListN.{getD}
 use denote.Ref.{RefT}
-use Rattle.text.specs.Text.{Text}
-use Rattle.token.specs.Kind.{Kind, kind-of-code, close-bracket}
+use Rattle.text.specs.Text.{Text, cond}
+use Rattle.token.specs.Kind.{Kind, kind-of-code, among, close-bracket}
 use Rattle.token.specs.Tokens.{Token}
-use Rattle.machine.specs.Memory.{return}
-use Rattle.machine.specs.Frame.{Ending, bracket-end, Place, object-of, Frame, bracket, object}
-use Rattle.machine.specs.Rules.{find-rule, verb-rules, frame-rules, end-rules, after-node, after-properties}
+use Rattle.machine.specs.Memory.{Write, return}
+use Rattle.machine.specs.Frame.{bracket-end, object-of, Frame, bracket, object}
+use Rattle.machine.specs.Rules.{find-rule, frame-rules, after-properties}
 use Rattle.machine.specs.Refusals.{new-depth}
-use Rattle.state.specs.Words.{node-word, kind-word, at-word, depth-word, graph-word}
-use Rattle.state.specs.Cursor.{Cursor, TokenHere}
+use Rattle.state.specs.Words.{node-word, kind-word, depth-word, graph-word}
 use Rattle.reading.specs.Reading.{code-among, Held, held, here, Ready, Reads, on-top, refusal-here}
-use Rattle.reading.proofs.Compose.{comes-then, comes-stop}
-use Rattle.reading.proofs.Tests.{among-code, no-rule}
+use Rattle.reading.proofs.Compose.{comes-then, comes-within}
+use Rattle.reading.proofs.Tests.{among-code}
 use Rattle.reading.proofs.Frames.{reads-does, reads-none}
 use Rattle.reading.proofs.Steps.{here-some}
-use Rattle.nodes.specs.Nodes.{Passed, Steady, Verbs, Ends, verb-kinds}
+use Rattle.nodes.specs.Nodes.{Passed, Verbs, Ends, verb-kinds}
 use Rattle.nodes.proofs.Passing.{Quiet, passed-same, depth-closing}
 use Rattle.nodes.proofs.Predicates.{verbs-bracket, no-verb}
-use Rattle.nesting.specs.Nesting.{Listed, Properties, Inside}
+use Rattle.nesting.specs.Nesting.{level-x, Marked, Levels, SomeLevels, Deep, Resumes, Contents, Predicates, Closing}
+use Rattle.nesting.proofs.Aiming.{comes-aimed, ready-aimed}
+use Rattle.nesting.proofs.Levels.{levels-at, mark-depth, mark-before, mark-below, mark-deep}
 use Rattle.nesting.proofs.Skipping.{token-there}
 
 quiet : Quiet 23
@@ -42,74 +43,74 @@ close-reads doc work rows terms store st st' r k p f gs rule =
     depth-23 : (work rows terms store : RefT (List ℕ)) (st : List ℕ) → getD st kind-word 0 ≡ 23 → getD st depth-word 0 - 1 ≡ new-depth (getD st depth-word 0) (here doc (held work rows terms store st))
     depth-23 work rows terms store st k = depth-closing doc (held work rows terms store st) 23 k refl refl
 
+-- ---- The end
+
 module _ (doc : Text) (work rows terms store : RefT (List ℕ)) (st : List ℕ) (r : Ready doc (held work rows terms store st)) where
   abbrev a : Held
   a = held work rows terms store st
 
-  -- An empty bracket.
-  pub inside-empty : (st' : List ℕ) → getD st kind-word 0 ≡ 23 → 0 < getD st depth-word 0 → Passed doc st st' (getD st depth-word 0 - 1) (getD st graph-word 0) → Inside doc a (held work rows terms store st') 0
-  inside-empty st' k d p =
+  pub closing-none : (q : ℕ) → (getD st kind-word 0 ≡ 23 → ⊥) → q ≡ refusal-here doc st → Closing doc a a q
+  closing-none q k e f ends fs l =
       record {
-        reads = λ place e1 e2. close-reads doc work rows terms store st st' r k p (bracket place (getD st node-word 0)) [] (λ t tied. ap (λ (x : List Frame). some (return x)) (e1 (getD st node-word 0)));
-        depth = λ e. omega (arith, p .depth-is);
-      }
-
-  -- Neither its end nor a predicate.
-  pub inside-none : (q : ℕ) → (getD st kind-word 0 ≡ 23 → ⊥) → code-among verb-kinds (getD st kind-word 0) ≡ false → q ≡ refusal-here doc st → Inside doc a a q
-  inside-none q k v e =
-      record {
-        reads = λ place e1 e2. reads-none doc (bracket place (getD st node-word 0)) [] [] a q r (λ z h tied. none-there z h place tied) e;
+        reads = reads-none doc f fs [] a q r (λ z h tied. ends z (h .known) (here doc a) tied ∙ rw (among-code (close-bracket ∷ []) (getD st kind-word 0) z (h .known), ne-eqb (getD st kind-word 0) 23 k)) e;
         depth = λ z. absurd (here-some doc st (sym e ∙ z));
       }
-    where
-      none-there : (getD st kind-word 0 ≡ 0 → ⊥) → TokenHere doc st → (place : Place) (tied : Bool) → find-rule (here doc a .kind) (frame-rules (here doc a) tied (bracket place (getD st node-word 0))) ≡ none
-      none-there z h place tied =
-          rw (among-code (close-bracket ∷ []) (getD st kind-word 0) z (h .known), ne-eqb (getD st kind-word 0) 23 k)
-          (no-verb (here doc a) tied (λ p. object (getD st node-word 0) p bracket-end ∷ after-properties place (getD st node-word 0)) (getD st kind-word 0) z (h .known) v)
 
--- Behind its properties.
-module _ (doc : Text) (a : Held) (work rows terms store : RefT (List ℕ)) (u : List ℕ) (q : ℕ) (P : Properties doc a (held work rows terms store u) (getD (a .st) node-word 0) q) where
-  abbrev b : Held
-  b = held work rows terms store u
+  module _ (st' : List ℕ) (k : getD st kind-word 0 ≡ 23) (h : 0 < getD st depth-word 0) (p : Passed doc st st' (getD st depth-word 0 - 1) (getD st graph-word 0)) where
+    abbrev b : Held
+    b = held work rows terms store st'
 
-  listed : (place : Place) → Listed doc (bracket place (getD (a .st) node-word 0)) bracket-end (after-properties place (getD (a .st) node-word 0)) a b q
-  listed place = P .reads (bracket place (getD (a .st) node-word 0)) bracket-end (after-properties place (getD (a .st) node-word 0)) (verbs-bracket place (getD (a .st) node-word 0))
+    left-levels : (fs : List Frame) → Levels st (getD st depth-word 0 - 1) fs → Levels st' (getD st' depth-word 0) fs
+    left-levels fs l = levels-at st st' (getD st depth-word 0 - 1) (getD st' depth-word 0) (p .depth-is) (λ i g. p .spot i (omega arith)) fs l
 
-  -- Nothing is open behind the bracket's own frame.
-  within : (place : Place) → ((n : ℕ) → after-properties place n ≡ []) → Reads doc (bracket place (getD (a .st) node-word 0) ∷ []) (listed place .open-frame ∷ []) a b q
-  within place e = subst (λ (x : List Frame). Reads doc (bracket place (getD (a .st) node-word 0) ∷ []) (listed place .open-frame ∷ x) a b q) (e (getD (a .st) node-word 0)) (listed place .reads)
+    pub left-call : Deep st → Ready doc b × SomeLevels st' (getD st' depth-word 0)
+    left-call (g, (fs, l)) = (close-reads doc work rows terms store st st' r k p (bracket (object-of 1 1) 1) [] (λ t tied. refl) .ready refl, (fs, left-levels fs l))
 
-  pub inside-stop : (q ≡ 0 → ⊥) → Inside doc a b q
-  inside-stop z =
-      record {
-        reads = λ place e1 e2. comes-stop doc (on-top (bracket place (getD (a .st) node-word 0) ∷ [])) (on-top (listed place .open-frame ∷ [])) (on-top []) a b q (within place e2) z;
-        depth = λ y. absurd (z y);
-      }
-
-  module _ (z : q ≡ 0) where
-    ready-b : Ready doc b
-    ready-b = listed (object-of 1 1) .reads .ready z
-
-    pub inside-ready : Ready doc b × (getD u depth-word 0 ≡ getD (a .st) depth-word 0)
-    inside-ready = (ready-b, P .steady .depth z)
-
-    pub inside-open : (x : ℕ) → (getD u kind-word 0 ≡ 23 → ⊥) → x ≡ refusal-here doc u → Inside doc a b x
-    inside-open x k e =
+    pub closing-resumes : (d : Held) (q : ℕ) → Resumes doc b d q → Closing doc a d q
+    closing-resumes d q R f ends fs l =
+        let w = R fs (left-levels fs l) in
         record {
-          reads = λ place e1 e2.
-              comes-then doc (on-top (bracket place (getD (a .st) node-word 0) ∷ [])) (on-top (listed place .open-frame ∷ [])) (on-top []) a b b q x (within place e2) z
-              (reads-none doc (listed place .open-frame) [] [] b x ready-b (λ y h tied. listed place .ends z y (h .known) (here doc b) tied ∙ rw (among-code (close-bracket ∷ []) (getD u kind-word 0) y (h .known), ne-eqb (getD u kind-word 0) 23 k)) e);
-          depth = λ y. absurd (here-some doc u (sym e ∙ y));
-        }
-
-    pub inside-close : (u' : List ℕ) → getD u kind-word 0 ≡ 23 → 0 < getD (a .st) depth-word 0 → Passed doc u u' (getD u depth-word 0 - 1) (getD u graph-word 0) → Inside doc a (held work rows terms store u') 0
-    inside-close u' k d p =
-        record {
-          reads = λ place e1 e2.
-              comes-then doc (on-top (bracket place (getD (a .st) node-word 0) ∷ [])) (on-top (listed place .open-frame ∷ [])) (on-top []) a b (held work rows terms store u') q 0 (within place e2) z
-              (close-reads doc work rows terms store u u' ready-b k p (listed place .open-frame) [] (λ t tied. ends-23 place t tied));
-          depth = λ y. omega (arith, p .depth-is, P .steady .depth z);
+          reads = comes-then doc (on-top (f ∷ fs)) (on-top fs) (on-top []) a b d 0 q (comes-within doc (λ x. fs ++ x) (on-top (f ∷ [])) (on-top []) a b 0 (close-reads doc work rows terms store st st' r k p f [] ends-23)) refl (w .reads);
+          depth = λ z. omega (arith, w .depth z, p .depth-is);
         }
       where
-        ends-23 : (place : Place) (t : Token) (tied : Bool) → find-rule close-bracket (frame-rules t tied (listed place .open-frame)) ≡ some (return [])
-        ends-23 place t tied = subst (λ (x : ℕ). (x ≡ 0 → ⊥) → x ≤ 30 → (t : Token) (tied : Bool) → find-rule (kind-of-code x) (frame-rules t tied (listed place .open-frame)) ≡ find-rule (kind-of-code x) (end-rules t tied bracket-end)) k (listed place .ends z) (λ y. omega arith) (omega arith) t tied
+        ends-23 : (t : Token) (tied : Bool) → find-rule close-bracket (frame-rules t tied f) ≡ some (return [])
+        ends-23 t tied = subst (λ (x : ℕ). Ends f bracket-end x) k ends (λ z. omega arith) (omega arith) t tied
+
+-- ---- The contents
+
+module _ (doc : Text) (work rows terms store : RefT (List ℕ)) (st : List ℕ) (r : Ready doc (held work rows terms store st)) where
+  -- No predicate: the bracket ends, if with anything.
+  pub contents-end : code-among verb-kinds (getD st kind-word 0) ≡ false → (d : Held) (q : ℕ) → Closing doc (held work rows terms store st) d q → Contents doc (held work rows terms store st) d q
+  contents-end v d q C place e1 e2 = C (bracket place (getD st node-word 0)) ends
+    where
+      ends : Ends (bracket place (getD st node-word 0)) bracket-end (getD st kind-word 0)
+      ends z h t tied =
+          rw (e1 (getD st node-word 0)) (ap (λ (o : Option (Write (List Frame))). cond (among (close-bracket ∷ []) (kind-of-code (getD st kind-word 0))) (some (return [])) o) (no-verb t tied (λ p. object (getD st node-word 0) p bracket-end ∷ after-properties place (getD st node-word 0)) (getD st kind-word 0) z h v))
+
+  -- A predicate of the bracket's node, which its level holds now.
+  module _ (st' : List ℕ) (n : ℕ) (en : n ≡ getD st node-word 0) (M : Marked st st' n 0) where
+    abbrev c : Held
+    c = held work rows terms store st'
+
+    level-there : level-x st' (getD st' depth-word 0) ≡ n
+    level-there = ap (level-x st') (mark-depth st st' n 0 M) ∙ M .x-is
+
+    pub contents-call : getD st node-word 0 < 4294967296 → 0 < getD st node-word 0 → Deep st → code-among verb-kinds (getD st kind-word 0) ≡ true
+        → (Ready doc c × (level-x st' (getD st' depth-word 0) < 4294967296)) × (((0 < level-x st' (getD st' depth-word 0)) × (code-among verb-kinds (getD st' kind-word 0) ≡ true)) × Deep st')
+    contents-call small some-node deep v = (
+      (ready-aimed doc work rows terms store st st' (mark-before st st' n 0 M) (M .words) r, omega (arith, level-there)),
+      ((omega (arith, level-there), rw (M .below 71 (omega arith)) v), mark-deep st st' n 0 M deep),
+    )
+
+    pub contents-predicate : 0 < getD st depth-word 0 → (d : Held) (q : ℕ) → Predicates doc c d q → Contents doc (held work rows terms store st) d q
+    contents-predicate h d q P place e1 e2 fs l =
+        let w = P (bracket place (getD st node-word 0)) verbs fs (mark-below st st' n 0 M h fs l) in
+        record {
+          reads = comes-then doc (on-top (bracket place (getD st node-word 0) ∷ fs)) (on-top (bracket place (getD st node-word 0) ∷ fs)) (on-top []) (held work rows terms store st) c d 0 q
+              (comes-aimed doc work rows terms store st st' (mark-before st st' n 0 M) (M .words) (on-top (bracket place (getD st node-word 0) ∷ fs)) r) refl (w .reads);
+          depth = λ z. w .depth z ∙ mark-depth st st' n 0 M;
+        }
+      where
+        verbs : Verbs (bracket place (getD st node-word 0)) (level-x st' (getD st' depth-word 0)) bracket-end []
+        verbs = subst (λ (s : ℕ). Verbs (bracket place (getD st node-word 0)) s bracket-end []) (sym (level-there ∙ en)) (subst (λ (gs : List Frame). Verbs (bracket place (getD st node-word 0)) (getD st node-word 0) bracket-end gs) (e2 (getD st node-word 0)) (verbs-bracket place (getD st node-word 0)))

@@ -1,23 +1,21 @@
 -- The elements of a list, and its end.
-use mathlib.Core.Path.{_≡_, refl, sym, ap, _∙_, subst}
-use mathlib.Core.List.{List, [], _∷_, _++_}
-use mathlib.Core.Bool.{Bool, true, false}
+use mathlib.Core.Path.{_≡_, refl, sym, _∙_, subst}
+use mathlib.Core.List.{List, [], _∷_}
 use Prim.Native.Nat.{ℕ, zero, suc, _+_, _-_, _≤_, _<_}
 use native.Mathlib.Omega.{arith}
-use borrow.Author.Tests.{eq-eqb, ne-eqb}
+use borrow.Author.Tests.{ne-eqb}
 use lib.ListN.{length, getD}
 use denote.Ref.{RefT}
-use Rattle.text.specs.Text.{Text, cond}
-use Rattle.machine.specs.Frame.{Ending, full-stop, Place, subject-before, object-of, element-of, Cells, no-cell, cells, Frame, list}
+use Rattle.text.specs.Text.{Text}
+use Rattle.machine.specs.Frame.{full-stop, Place, subject-before, object-of, element-of, Cells, no-cell, cells, list}
 use Rattle.machine.specs.Rules.{extended, after-node}
-use Rattle.state.specs.Words.{terms-word, node-word, kind-word, at-word, depth-word, x-word, y-word, opened-word, last-word}
-use Rattle.state.specs.Cursor.{Cursor, TokenHere}
-use Rattle.reading.specs.Reading.{Held, held, here, Ready, Reads, on-top}
+use Rattle.state.specs.Words.{terms-word, node-word, kind-word, at-word, depth-word, x-word, y-word, opened-word}
+use Rattle.reading.specs.Reading.{Held, held, Ready, Reads, on-top}
 use Rattle.reading.proofs.Compose.{comes-here, comes-then, comes-stop}
-use Rattle.nodes.specs.Nodes.{Aimed, Fills, Steady, Spotted, Belongs, LastCell, Closes}
+use Rattle.nodes.specs.Nodes.{Aimed, Fills, Steady, Spotted, Belongs, LastCell, InList, Closes}
 use Rattle.nodes.proofs.Passing.{depth-closing}
-use Rattle.nodes.proofs.Slots.{element-slot, list-closes, cell-or-nil}
-use Rattle.nesting.specs.Nesting.{Lists, list-node}
+use Rattle.nodes.proofs.Slots.{in-list, element-slot, list-closes, cell-or-nil}
+use Rattle.nesting.specs.Nesting.{Awaited, Lists, list-node}
 use Rattle.nesting.proofs.Skipping.{token-there}
 use Rattle.reading.proofs.Numbers.{next-small}
 use Rattle.nesting.proofs.Aiming.{comes-aimed, ready-aimed, spotted, less-left}
@@ -93,8 +91,15 @@ module _ (doc : Text) (a₀ : Held) (spot : Spotted a₀) (work rows terms store
   belongs : (place : Place) → Belongs place x y → Belongs place (getD st' x-word 0) (getD st' y-word 0)
   belongs place b = rw (aim .x-is, aim .y-is) b
 
-  last-there : LastCell (I .cs) (getD st' last-word 0)
-  last-there = rw (aim .last-is) (I .last-cell)
+  there : (place : Place) → Belongs place x y → InList a1 place opened (I .cs)
+  there place b = subst (λ (o : ℕ). InList a1 place o (I .cs)) (aim .opened-is) (in-list a1 place (I .cs) (belongs place b) (rw (aim .last-is) (I .last-cell)))
+
+  pub elements-call : (getD st' kind-word 0 ≡ 25 → ⊥) → (Ready doc a1 × Spotted a1) × Awaited doc a1
+  elements-call k =
+      let (place, q) = some-place x y in (
+        elements-ready,
+        (list place opened (I .cs), (list place opened (extended (I .cs) (suc (getD st' terms-word 0))), element-slot doc a1 place opened (I .cs) (λ e. omega (arith, aim .list-is)) (there place q) k)),
+      )
 
   -- From the start's own words.
   from-start : (place : Place) → Belongs place (getD (a₀ .st) x-word 0) (getD (a₀ .st) y-word 0) → Belongs place x y
@@ -113,9 +118,7 @@ module _ (doc : Text) (a₀ : Held) (spot : Spotted a₀) (work rows terms store
     to-close place b₀ =
         let q = from-start place b₀ in
         let t = token-there doc st' 25 (ready-1 .cursor) k (λ h. omega arith) (λ h. omega arith) in
-        let R : Reads doc (list place opened (I .cs) ∷ []) (after-node place (cell-or-nil (I .cs) (getD (b .st) node-word 0))) a1 b r =
-        subst (λ (o : ℕ). Reads doc (list place o (I .cs) ∷ []) (after-node place (cell-or-nil (I .cs) (getD (b .st) node-word 0))) a1 b r) (aim .opened-is)
-        (list-closes doc a1 b r ready-1 t (λ h. omega arith) k (C .gives) place (I .cs) (belongs place q) last-there) in
+        let R : Reads doc (list place opened (I .cs) ∷ []) (after-node place (cell-or-nil (I .cs) (getD (b .st) node-word 0))) a1 b r = list-closes doc a1 b r ready-1 t (λ h. omega arith) k (C .gives) place opened (I .cs) (there place q) in
         let S : Reads doc (list place opened no-cell ∷ []) (after-node place (cell-or-nil (I .cs) (getD (b .st) node-word 0))) a₀ b r =
         comes-then doc (on-top (list place opened no-cell ∷ [])) (on-top (list place opened (I .cs) ∷ [])) (on-top (after-node place (cell-or-nil (I .cs) (getD (b .st) node-word 0)))) a₀ a1 b 0 r (to-aimed place q) refl R in
         subst (λ (o : ℕ). Reads doc (list place o no-cell ∷ []) (after-node place (list-node a₀ b)) a₀ b r) (I .opened-is)
@@ -148,10 +151,8 @@ module _ (doc : Text) (a₀ : Held) (spot : Spotted a₀) (work rows terms store
   module _ (b : Held) (r : ℕ) (k : getD st' kind-word 0 ≡ 25 → ⊥) (N : Fills doc a1 b r × Steady a1 b r) where
     to-element : (place : Place) → Belongs place x y → Reads doc (list place opened no-cell ∷ []) (list place opened (extended (I .cs) (suc (getD st' terms-word 0))) ∷ []) a₀ b r
     to-element place q =
-        let slot = element-slot doc a1 place (I .cs) (λ e. omega (arith, aim .list-is)) (belongs place q) last-there k in
-        let R : Reads doc (list place opened (I .cs) ∷ []) (list place opened (extended (I .cs) (suc (getD st' terms-word 0))) ∷ []) a1 b r =
-        subst (λ (o : ℕ). Reads doc (list place o (I .cs) ∷ []) (list place o (extended (I .cs) (suc (getD st' terms-word 0))) ∷ []) a1 b r) (aim .opened-is)
-        (N .0 (list place (getD st' opened-word 0) (I .cs)) (list place (getD st' opened-word 0) (extended (I .cs) (suc (getD st' terms-word 0)))) slot) in
+        let slot = element-slot doc a1 place opened (I .cs) (λ e. omega (arith, aim .list-is)) (there place q) k in
+        let R : Reads doc (list place opened (I .cs) ∷ []) (list place opened (extended (I .cs) (suc (getD st' terms-word 0))) ∷ []) a1 b r = N .0 (list place opened (I .cs)) (list place opened (extended (I .cs) (suc (getD st' terms-word 0)))) slot in
         comes-then doc (on-top (list place opened no-cell ∷ [])) (on-top (list place opened (I .cs) ∷ [])) (on-top (list place opened (extended (I .cs) (suc (getD st' terms-word 0))) ∷ [])) a₀ a1 b 0 r (to-aimed place q) refl R
 
     pub elements-stop : (r ≡ 0 → ⊥) → Lists doc a₀ b r

@@ -1,7 +1,7 @@
 -- A node of its own tokens alone: a term, or a string.
 use mathlib.Core.Path.{_≡_, refl, sym, _∙_}
-use mathlib.Core.Bool.{Bool, true, false, _&&_}
-use mathlib.Core.Option.{none, some}
+use mathlib.Core.Bool.{Bool, true, false, _&&_, _||_}
+use mathlib.Core.Option.{none}
 use Prim.Native.Nat.{ℕ}
 use native.Mathlib.Omega.{arith}
 use lib.ListN.{getD}
@@ -14,7 +14,7 @@ use Rattle.machine.specs.Rules.{find-rule}
 use Rattle.state.specs.Words.{kind-word}
 use Rattle.reading.specs.Reading.{code-among, Held, here, Ready}
 use Rattle.reading.proofs.Tests.{kinds-of, among-any, no-rule, among-code}
-use Rattle.nodes.specs.Nodes.{term-rules, Fills, Steady, PutsTerm}
+use Rattle.nodes.specs.Nodes.{term-rules, Fills, Settled, PutsTerm}
 use Rattle.nesting.specs.Nesting.{Leaf}
 
 -- No term is a string by itself.
@@ -29,7 +29,7 @@ string-token : (k : ℕ) → code-among strings k ≡ true → (k ≡ 0 → ⊥)
 string-token k v = ((λ e. contrary (sym (rw e at v))), (λ e. contrary (sym (rw e at v))))
 
 module _ (doc : Text) (a : Held) (ready : Ready doc a) where
-  pub leaf-string : (b : Held) (r : ℕ) → code-among strings (getD (a .st) kind-word 0) ≡ true → Fills doc a b r × Steady a b r → Leaf doc a b r
+  pub leaf-string : (b : Held) (r : ℕ) → code-among strings (getD (a .st) kind-word 0) ≡ true → Fills doc a b r × Settled a b r → Leaf doc a b r
   leaf-string b r v f =
       let (z, y) = string-token (getD (a .st) kind-word 0) v in
       let t = ready .cursor .token z y in
@@ -38,3 +38,12 @@ module _ (doc : Text) (a : Held) (ready : Ready doc a) where
 
 pub leaf-term : (doc : Text) (a b : Held) (r : ℕ) → code-among strings (getD (a .st) kind-word 0) ≡ false → PutsTerm doc a b r → Leaf doc a b r
 leaf-term doc a b r v p = record { puts = p; fills = λ e. contrary (sym e ∙ v) }
+
+-- Whether a kind is a term's, or else a string's.
+pub either-first : (b x y : Bool) → b ≡ x → b ≡ true → true ≡ (x || y)
+either-first b true y e f = refl
+either-first b false y e f = contrary (sym f ∙ e)
+
+pub either-second : (b c x y : Bool) → b ≡ x → b ≡ false → c ≡ y → c ≡ (x || y)
+either-second b c true y e f g = contrary (sym e ∙ f)
+either-second b c false y e f g = g

@@ -1,53 +1,101 @@
--- A node where one is awaited: a term, a string, a bracket or a list.
+-- A node where one is awaited: a term, a string, a bracket or a list; and what is resumed behind it.
 use mathlib.Core.Path.{_≡_, refl, sym, ap, _∙_, subst}
 use mathlib.Core.List.{List, [], _∷_, _++_}
 use mathlib.Core.Bool.{Bool, true, false, _||_}
 use mathlib.Core.Option.{none}
 use Prim.Native.Nat.{ℕ, zero, suc, _+_, _-_, _≤_, _<_}
 use native.Mathlib.Omega.{arith}
-use borrow.Author.Tests.{eq-eqb, ne-eqb, eqb-true, eqb-false}
+use borrow.Author.Tests.{ne-eqb, eqb-true, eqb-false}
 use lib.Dec.{eqb}
 use lib.ListN.{length, getD}
 use denote.Ref.{RefT}
 use Rattle.text.specs.Text.{Text, cond}
 use Rattle.text.proofs.Compare.{by, contrary}
-use Rattle.token.specs.Kind.{Kind, kind-of-code, among, strings, kw-a, open-bracket, open-paren}
+use Rattle.token.specs.Kind.{kind-of-code, among, strings, kw-a, open-bracket, open-paren}
+use Rattle.token.specs.Tokens.{Token}
 use Rattle.dataset.specs.Terms.{blank, bracket as bracket-node}
-use Rattle.machine.specs.Memory.{new-term}
-use Rattle.machine.specs.Frame.{Place, top, object-of, element-of, no-cell, Frame, bracket, list}
-use Rattle.machine.specs.Rules.{find-rule, frame-rules, after-node}
+use Rattle.machine.specs.Memory.{Memory, new-term}
+use Rattle.machine.specs.Frame.{Place, no-cell, Frame, bracket, list}
+use Rattle.machine.specs.Rules.{find-rule, object-rules, frame-rules, after-node}
 use Rattle.machine.specs.Refusals.{new-depth}
-use Rattle.state.specs.Words.{terms-word, node-word, kind-word, at-word, depth-word, list-word, x-word, y-word, opened-word, last-word}
-use Rattle.state.specs.Cursor.{Cursor, TokenHere}
+use Rattle.state.specs.Words.{terms-word, node-word, kind-word, at-word, depth-word, list-word, x-word, y-word}
+use Rattle.state.specs.Cursor.{TokenHere}
+use Rattle.state.specs.Represents.{Tables}
 use Rattle.state.specs.Writes.{place-of, placed, opened-at}
-use Rattle.reading.specs.Reading.{code-among, Held, held, here, Ready, Reads, on-top, Does, refusal-here}
+use Rattle.reading.specs.Reading.{code-among, Held, held, tables-of, here, Holding, Ready, Reads, on-top, Does, refusal-here}
 use Rattle.reading.proofs.Compose.{comes-then, comes-stop, comes-within}
 use Rattle.reading.proofs.Tests.{among-code}
 use Rattle.reading.proofs.Frames.{reads-none, ready-does}
 use Rattle.reading.proofs.Steps.{here-some}
-use Rattle.nodes.specs.Nodes.{Slot, slot-place, spot-of, object-kinds, term-kinds, Fills, Steady, Spotted, Belongs, Numbers, PutsTerm}
+use Rattle.nodes.specs.Nodes.{Slot, slot-place, spot-of, object-kinds, term-kinds, Fills, Steady, Settled, Spotted, Belongs, InList, Numbers, PutsTerm}
 use Rattle.nodes.proofs.Slots.{term-fills, term-rule, bracket-opens, paren-opens, slot-plain, slot-list}
 use Rattle.nodes.proofs.Predicates.{term-depth}
-use Rattle.nesting.specs.Nesting.{Inside, Lists, list-node, Entered}
+use Rattle.nodes.proofs.Moving.{token-words}
+use Rattle.nodes.proofs.Passing.{represents-words}
+use Rattle.nesting.specs.Nesting.{Leaf, Awaited, Entered, Marked, Levels, SomeLevels, Deep, Resumes, Values, Contents, Elements}
+use Rattle.nesting.proofs.Levels.{levels-at, mark-depth, mark-before, mark-spot, mark-none}
 use Rattle.nesting.proofs.Skipping.{token-there}
 use Rattle.reading.proofs.Numbers.{next-small}
 use Rattle.nesting.proofs.Aiming.{comes-aimed, ready-aimed, place-small}
-use Rattle.nesting.proofs.OfElements.{some-place}
 
 -- The kind of a term is a token's.
 term-token : (k : ℕ) → code-among term-kinds k ≡ true → (k ≡ 0 → ⊥) × (k ≡ 31 → ⊥)
 term-token k v = ((λ e. contrary (sym (rw e at v))), (λ e. contrary (sym (rw e at v))))
 
-pub term-call : (k : ℕ) → code-among term-kinds k ≡ true → code-among (kw-a ∷ term-kinds) k ≡ true
+term-call : (k : ℕ) → code-among term-kinds k ≡ true → code-among (kw-a ∷ term-kinds) k ≡ true
 term-call k v = rw v (or-true (eqb k 13))
   where
     or-true : (b : Bool) → (b || true) ≡ true
     or-true true = refl
     or-true false = refl
 
+-- A term or a string, where it is no string.
+first-true : (x y : Bool) → (x || y) ≡ true → y ≡ false → x ≡ true
+first-true true y e f = refl
+first-true false y e f = contrary (sym e ∙ f)
+
+pub leaf-call : (k : ℕ) (c : Bool) → c ≡ (code-among term-kinds k || code-among strings k) → c ≡ true → code-among strings k ≡ false → code-among (kw-a ∷ term-kinds) k ≡ true
+leaf-call k c e t f = term-call k (first-true (code-among term-kinds k) (code-among strings k) (sym e ∙ t) f)
+
+-- What the levels save is read behind a node of its own tokens alone.
+module _ (doc : Text) (a b : Held) (r : ℕ) (N : Fills doc a b r × Settled a b r) where
+  pub leaf-stop : (r ≡ 0 → ⊥) → Values doc a b r
+  leaf-stop z =
+      record {
+        goes-on = λ f g s fs l.
+            record {
+              reads = comes-stop doc (on-top (f ∷ fs)) (on-top (g ∷ fs)) (on-top []) a b r (comes-within doc (λ k. fs ++ k) (on-top (f ∷ [])) (on-top (g ∷ [])) a b r (N .0 f g s)) z;
+              depth = λ y. absurd (z y);
+            };
+        alone = λ l f g s. (N .0 f g s, N .1 .steady);
+      }
+
+  module _ (z : r ≡ 0) where
+    settled : (fs : List Frame) → Levels (a .st) (getD (a .st) depth-word 0) fs → Levels (b .st) (getD (b .st) depth-word 0) fs
+    settled fs l = levels-at (a .st) (b .st) (getD (a .st) depth-word 0) (getD (b .st) depth-word 0) (N .1 .steady .depth z) (λ k h. N .1 .spot z k (omega arith)) fs l
+
+    pub leaf-done : Awaited doc a → SomeLevels (a .st) (getD (a .st) depth-word 0) → Ready doc b × SomeLevels (b .st) (getD (b .st) depth-word 0)
+    leaf-done (f, (g, s)) (fs, l) = (N .0 f g s .ready z, (fs, settled fs l))
+
+    pub leaf-resumes : (d : Held) (q : ℕ) → Resumes doc b d q → Values doc a d q
+    leaf-resumes d q R =
+        record {
+          goes-on = λ f g s fs l.
+              let w = R (g ∷ fs) (settled (g ∷ fs) l) in
+              record {
+                reads = comes-then doc (on-top (f ∷ fs)) (on-top (g ∷ fs)) (on-top []) a b d r q (comes-within doc (λ k. fs ++ k) (on-top (f ∷ [])) (on-top (g ∷ [])) a b r (N .0 f g s)) z (w .reads);
+                depth = λ y. w .depth y ∙ N .1 .steady .depth z;
+              };
+          alone = λ l f g s.
+              let w = R [] (settled [] l) in (
+                comes-then doc (on-top (f ∷ [])) (on-top (g ∷ [])) (on-top (g ∷ [])) a b d r q (N .0 f g s) z (comes-within doc (λ k. g ∷ k) (on-top []) (on-top []) b d q (w .reads)),
+                record { depth = λ y. omega (arith, w .depth y, N .1 .steady .depth z); later = λ y. omega (arith, N .1 .steady .later z, w .reads .later y) },
+              );
+        }
+
 module _ (doc : Text) (a : Held) (ready : Ready doc a) where
-  pub node-term : (b : Held) (r : ℕ) → code-among term-kinds (getD (a .st) kind-word 0) ≡ true → PutsTerm doc a b r → Fills doc a b r × Steady a b r
-  node-term b r v P =
+  term-settled : (b : Held) (r : ℕ) → code-among term-kinds (getD (a .st) kind-word 0) ≡ true → PutsTerm doc a b r → Fills doc a b r × Settled a b r
+  term-settled b r v P =
       let (z, y) = term-token (getD (a .st) kind-word 0) v in
       let t = ready .cursor .token z y in
       let h : among term-kinds (here doc a .kind) ≡ true = among-code term-kinds (getD (a .st) kind-word 0) z (t .known) ∙ v in
@@ -55,17 +103,33 @@ module _ (doc : Text) (a : Held) (ready : Ready doc a) where
       let (w, q) = term-rule (here doc a) (here doc a .kind) h' in
       let D = P w q .gives .does in (
         term-fills doc a b r ready t z P h,
-        record { depth = λ e. D .done e .depth ∙ term-depth (here doc a) (getD (a .st) depth-word 0) h'; later = λ e. D .done e .later },
+        record { steady = record { depth = λ e. D .done e .depth ∙ term-depth (here doc a) (getD (a .st) depth-word 0) h'; later = λ e. D .done e .later }; spot = λ e. D .done e .spot },
       )
 
+  pub leaf-settled : (b : Held) (r : ℕ) (c : Bool) → c ≡ (code-among term-kinds (getD (a .st) kind-word 0) || code-among strings (getD (a .st) kind-word 0)) → c ≡ true → Leaf doc a b r → Fills doc a b r × Settled a b r
+  leaf-settled b r c e t L =
+      by (code-among strings (getD (a .st) kind-word 0)) (λ p. L .fills p) (λ p. term-settled b r (first-true (code-among term-kinds (getD (a .st) kind-word 0)) (code-among strings (getD (a .st) kind-word 0)) (sym e ∙ t) p) (L .puts))
+
   -- Nothing that may stand there.
-  pub node-none : (r : ℕ) → code-among term-kinds (getD (a .st) kind-word 0) ≡ false → code-among strings (getD (a .st) kind-word 0) ≡ false → (getD (a .st) kind-word 0 ≡ 22 → ⊥) → (getD (a .st) kind-word 0 ≡ 24 → ⊥)
-      → r ≡ refusal-here doc (a .st) → Fills doc a a r × Steady a a r
-  node-none r v w x y e = (
-    (λ f g s. reads-none doc f [] (g ∷ []) a r ready (λ z h tied. s .others z h tied (no-object z h)) e),
-    record { depth = λ z. refl; later = λ z. absurd (here-some doc (a .st) (sym e ∙ z)) },
-  )
+  pub value-none : (r : ℕ) (c : Bool) → c ≡ (code-among term-kinds (getD (a .st) kind-word 0) || code-among strings (getD (a .st) kind-word 0)) → c ≡ false → (getD (a .st) kind-word 0 ≡ 22 → ⊥) → (getD (a .st) kind-word 0 ≡ 24 → ⊥) → r ≡ refusal-here doc (a .st)
+      → Values doc a a r
+  value-none r c ec f x y e =
+      leaf-stop doc a a r (
+        (λ f g s. reads-none doc f [] (g ∷ []) a r ready (λ z h tied. s .others z h tied (no-object z h)) e),
+        record { steady = record { depth = λ z. refl; later = λ z. absurd (here-some doc (a .st) (sym e ∙ z)) }; spot = λ z k h. refl },
+      )
+      (λ z. here-some doc (a .st) (sym e ∙ z))
     where
+      neither : (x y : Bool) → (x || y) ≡ false → (x ≡ false) × (y ≡ false)
+      neither true y e = contrary e
+      neither false y e = (refl, e)
+
+      v : code-among term-kinds (getD (a .st) kind-word 0) ≡ false
+      v = neither (code-among term-kinds (getD (a .st) kind-word 0)) (code-among strings (getD (a .st) kind-word 0)) (sym ec ∙ f) .0
+
+      w : code-among strings (getD (a .st) kind-word 0) ≡ false
+      w = neither (code-among term-kinds (getD (a .st) kind-word 0)) (code-among strings (getD (a .st) kind-word 0)) (sym ec ∙ f) .1
+
       parts : (k : ℕ) → code-among term-kinds k ≡ false → code-among strings k ≡ false → (k ≡ 22 → ⊥) → (k ≡ 24 → ⊥) → code-among object-kinds k ≡ false
       parts k p q x y = nine (eqb k 1) (eqb k 2) (eqb k 3) (eqb k 4) (eqb k 8) (eqb k 9) (eqb k 10) (eqb k 14) (eqb k 15) _ p (four (eqb k 11) (eqb k 12) (eqb k 29) (eqb k 30) _ q (rw (ne-eqb k 22 x, ne-eqb k 24 y)))
         where
@@ -102,28 +166,54 @@ module _ (doc : Text) (a : Held) (ready : Ready doc a) where
     to-bracket : (f g : Frame) → Slot doc a f g → Reads doc (f ∷ []) (bracket (slot-place a) (getD (b .st) node-word 0) ∷ g ∷ []) a b r
     to-bracket f g s = bracket-opens doc a b r ready (token-there doc (a .st) 22 (ready .cursor) k (λ h. omega arith) (λ h. omega arith)) (λ h. omega arith) k (N .gives) f g s
 
-    pub bracket-stop : (r ≡ 0 → ⊥) → Fills doc a b r × Steady a b r
-    bracket-stop z = (
-      (λ f g s. comes-stop doc (on-top (f ∷ [])) (on-top (bracket (slot-place a) (getD (b .st) node-word 0) ∷ g ∷ [])) (on-top (g ∷ [])) a b r (to-bracket f g s) z),
-      record { depth = λ y. absurd (z y); later = λ y. absurd (z y) },
-    )
+    within : (f g : Frame) → Slot doc a f g → (fs : List Frame) → Reads doc (f ∷ fs) (bracket (slot-place a) (getD (b .st) node-word 0) ∷ g ∷ fs) a b r
+    within f g s fs = comes-within doc (λ x. fs ++ x) (on-top (f ∷ [])) (on-top (bracket (slot-place a) (getD (b .st) node-word 0) ∷ g ∷ [])) a b r (to-bracket f g s)
+
+    pub bracket-stop : (r ≡ 0 → ⊥) → Values doc a b r
+    bracket-stop z =
+        record {
+          goes-on = λ f g s fs l.
+              record {
+                reads = comes-stop doc (on-top (f ∷ fs)) (on-top (bracket (slot-place a) (getD (b .st) node-word 0) ∷ g ∷ fs)) (on-top []) a b r (within f g s fs) z;
+                depth = λ y. absurd (z y);
+              };
+          alone = λ l f g s. (
+            comes-stop doc (on-top (f ∷ [])) (on-top (bracket (slot-place a) (getD (b .st) node-word 0) ∷ g ∷ [])) (on-top (g ∷ [])) a b r (to-bracket f g s) z,
+            record { depth = λ y. absurd (z y); later = λ y. absurd (z y) },
+          );
+        }
 
     pub bracket-depth : r ≡ 0 → getD (b .st) depth-word 0 ≡ getD (a .st) depth-word 0 + 1
     bracket-depth z = N .gives .does .done z .depth ∙ deeper 22 k refl
 
-    pub bracket-call : r ≡ 0 → (Ready doc b × (getD (b .st) node-word 0 < 4294967296)) × ((0 < getD (b .st) node-word 0) × (0 < getD (b .st) depth-word 0))
-    bracket-call z = ((bracket-ready z, N .gives .small z), (N .positive z, omega (arith, bracket-depth z)))
+    pub bracket-later : r ≡ 0 → getD (a .st) at-word 0 < getD (b .st) at-word 0
+    bracket-later z = N .gives .does .done z .later
+
+    saved : (z : r ≡ 0) (fs : List Frame) → Levels (a .st) (getD (a .st) depth-word 0) fs → Levels (b .st) (getD (b .st) depth-word 0 - 1) fs
+    saved z fs l = levels-at (a .st) (b .st) (getD (a .st) depth-word 0) (getD (b .st) depth-word 0 - 1) (omega (arith, bracket-depth z)) (λ i h. N .gives .does .done z .spot i (omega arith)) fs l
+
+    pub bracket-call : r ≡ 0 → SomeLevels (a .st) (getD (a .st) depth-word 0) → (Ready doc b × (getD (b .st) node-word 0 < 4294967296)) × ((0 < getD (b .st) node-word 0) × Deep (b .st))
+    bracket-call z (fs, l) = ((bracket-ready z, N .gives .small z), (N .positive z, (omega (arith, bracket-depth z), (fs, saved z fs l))))
       where
         bracket-ready : r ≡ 0 → Ready doc b
         bracket-ready z = ready-does doc (placed (spot-of a) (new-term (blank (bracket-node (getD (a .st) at-word 0))))) a b r ready (token-there doc (a .st) 22 (ready .cursor) k (λ h. omega arith) (λ h. omega arith)) (λ h. omega arith) (N .gives .does) z
 
-    pub bracket-inside : r ≡ 0 → (d : Held) (q : ℕ) → Inside doc b d q → Fills doc a d q × Steady a d q
-    bracket-inside z d q n = (
-      (λ f g s.
-          comes-then doc (on-top (f ∷ [])) (on-top (bracket (slot-place a) (getD (b .st) node-word 0) ∷ g ∷ [])) (on-top (g ∷ [])) a b d r q (to-bracket f g s) z
-          (comes-within doc (λ x. g ∷ x) (on-top (bracket (slot-place a) (getD (b .st) node-word 0) ∷ [])) (on-top []) b d q (n .reads (slot-place a) (s .no-node) (s .no-properties)))),
-      record { depth = λ y. omega (arith, n .depth y, bracket-depth z); later = λ y. omega (arith, N .gives .does .done z .later, n .reads (object-of 1 1) (λ i. refl) (λ i. refl) .later y) },
-    )
+    pub bracket-contents : r ≡ 0 → (d : Held) (q : ℕ) → Contents doc b d q → Values doc a d q
+    bracket-contents z d q C =
+        record {
+          goes-on = λ f g s fs l.
+              let w = C (slot-place a) (s .no-node) (s .no-properties) (g ∷ fs) (saved z (g ∷ fs) l) in
+              record {
+                reads = comes-then doc (on-top (f ∷ fs)) (on-top (bracket (slot-place a) (getD (b .st) node-word 0) ∷ g ∷ fs)) (on-top []) a b d r q (within f g s fs) z (w .reads);
+                depth = λ y. omega (arith, w .depth y, bracket-depth z);
+              };
+          alone = λ l f g s.
+              let w = C (slot-place a) (s .no-node) (s .no-properties) [] (saved z [] l) in (
+                comes-then doc (on-top (f ∷ [])) (on-top (bracket (slot-place a) (getD (b .st) node-word 0) ∷ g ∷ [])) (on-top (g ∷ [])) a b d r q (to-bracket f g s) z
+                    (comes-within doc (λ x. g ∷ x) (on-top (bracket (slot-place a) (getD (b .st) node-word 0) ∷ [])) (on-top []) b d q (w .reads)),
+                record { depth = λ y. omega (arith, w .depth y, bracket-depth z); later = λ y. omega (arith, bracket-later z, w .reads .later y) },
+              );
+        }
 
   -- ---- A list
 
@@ -143,11 +233,19 @@ module _ (doc : Text) (a : Held) (ready : Ready doc a) where
     to-list : (f g : Frame) → Slot doc a f g → Reads doc (f ∷ []) (list (slot-place a) (getD (a .st) at-word 0) no-cell ∷ g ∷ []) a b r
     to-list f g s = paren-opens doc a b r ready (token-there doc (a .st) 24 (ready .cursor) k (λ h. omega arith) (λ h. omega arith)) (λ h. omega arith) k D f g s
 
-    pub list-stop : (r ≡ 0 → ⊥) → Fills doc a b r × Steady a b r
-    list-stop z = (
-      (λ f g s. comes-stop doc (on-top (f ∷ [])) (on-top (list (slot-place a) (getD (a .st) at-word 0) no-cell ∷ g ∷ [])) (on-top (g ∷ [])) a b r (to-list f g s) z),
-      record { depth = λ y. absurd (z y); later = λ y. absurd (z y) },
-    )
+    pub list-stop : (r ≡ 0 → ⊥) → Values doc a b r
+    list-stop z =
+        record {
+          goes-on = λ f g s fs l.
+              record {
+                reads = comes-stop doc (on-top (f ∷ fs)) (on-top (list (slot-place a) (getD (a .st) at-word 0) no-cell ∷ g ∷ fs)) (on-top []) a b r (comes-within doc (λ x. fs ++ x) (on-top (f ∷ [])) (on-top (list (slot-place a) (getD (a .st) at-word 0) no-cell ∷ g ∷ [])) a b r (to-list f g s)) z;
+                depth = λ y. absurd (z y);
+              };
+          alone = λ l f g s. (
+            comes-stop doc (on-top (f ∷ [])) (on-top (list (slot-place a) (getD (a .st) at-word 0) no-cell ∷ g ∷ [])) (on-top (g ∷ [])) a b r (to-list f g s) z,
+            record { depth = λ y. absurd (z y); later = λ y. absurd (z y) },
+          );
+        }
 
     pub list-open : r ≡ 0 → Ready doc b
     list-open z = ready-does doc (opened-at (spot-of a)) a b r ready (token-there doc (a .st) 24 (ready .cursor) k (λ h. omega arith) (λ h. omega arith)) (λ h. omega arith) D z
@@ -175,8 +273,17 @@ module _ (doc : Text) (a : Held) (ready : Ready doc a) where
       y-there : getD u' y-word 0 ≡ cond (eqb (getD (a .st) list-word 0) 0) (getD (a .st) y-word 0) 0
       y-there = E .y-is ∙ rw (list-word-same, D .done z .spot 79 (omega arith))
 
-      pub list-call : Spotted a → (Ready doc b' × Spotted b') × (0 < getD u' depth-word 0)
-      list-call s = (
+      list-spot : (i : ℕ) → 82 ≤ i → getD u' i 0 ≡ getD (a .st) i 0
+      list-spot i h = E .behind i (omega arith) ∙ D .done z .spot i (omega arith)
+
+      below : (fs : List Frame) → Levels (a .st) (getD (a .st) depth-word 0) fs → Levels u' (getD u' depth-word 0 - 1) fs
+      below fs l = levels-at (a .st) u' (getD (a .st) depth-word 0) (getD u' depth-word 0 - 1) (omega (arith, list-depth)) list-spot fs l
+
+      pub list-later : getD (a .st) at-word 0 < getD u' at-word 0
+      list-later = omega (arith, D .done z .later, E .before 72 (omega arith))
+
+      pub list-call : Spotted a → SomeLevels (a .st) (getD (a .st) depth-word 0) → (Ready doc b' × Spotted b') × ((getD u' list-word 0 ≡ 1) × Deep u')
+      list-call s (fs, l) = (
         (
           list-ready,
           record {
@@ -186,7 +293,7 @@ module _ (doc : Text) (a : Held) (ready : Ready doc a) where
             last = rw (E .last-is) (omega arith);
           },
         ),
-        omega (arith, list-depth),
+        (E .list-is, (omega (arith, list-depth), (fs, below fs l))),
       )
 
       belongs-slot : (f g : Frame) → Slot doc a f g → Belongs (slot-place a) (getD u' x-word 0) (getD u' y-word 0)
@@ -197,18 +304,84 @@ module _ (doc : Text) (a : Held) (ready : Ready doc a) where
           rw (x-there, y-there, e, there) (belongs-plain (getD (a .st) x-word 0) (getD (a .st) y-word 0) (λ n. subst (λ (p : Place). after-node p n ≡ []) there (s .no-node n))))
           (λ e. rw (x-there, y-there, e, slot-list a (eqb-false (getD (a .st) list-word 0) 0 e)) (omega arith, (refl, omega arith)))
 
-      pub list-elements : (d : Held) (q : ℕ) → Lists doc b' d q → Fills doc a d q × Steady a d q
-      list-elements d q L = (
-        (λ f g s.
-            let R : Reads doc (list (slot-place a) (getD (a .st) at-word 0) no-cell ∷ []) [] b' d q =
-            subst (λ (x : List Frame). Reads doc (list (slot-place a) (getD (a .st) at-word 0) no-cell ∷ []) x b' d q) (s .no-node (list-node b' d))
-            (subst (λ (o : ℕ). Reads doc (list (slot-place a) o no-cell ∷ []) (after-node (slot-place a) (list-node b' d)) b' d q) (E .opened-is ∙ eat) (L .reads (slot-place a) (belongs-slot f g s))) in
-            comes-then doc (on-top (f ∷ [])) (on-top (list (slot-place a) (getD (a .st) at-word 0) no-cell ∷ g ∷ [])) (on-top (g ∷ [])) a b d r q (to-list f g s) z
-            (comes-then doc (on-top (list (slot-place a) (getD (a .st) at-word 0) no-cell ∷ g ∷ [])) (on-top (list (slot-place a) (getD (a .st) at-word 0) no-cell ∷ g ∷ [])) (on-top (g ∷ [])) b b' d 0 q
-            (comes-aimed doc work rows terms store u u' (E .before) (E .words) (on-top (list (slot-place a) (getD (a .st) at-word 0) no-cell ∷ g ∷ [])) ready-b) refl
-            (comes-within doc (λ x. g ∷ x) (on-top (list (slot-place a) (getD (a .st) at-word 0) no-cell ∷ [])) (on-top []) b' d q R))),
-        record { depth = λ y. omega (arith, L .depth y, list-depth); later = λ y. omega (arith, D .done z .later, E .before 72 (omega arith), later-list y) },
+      -- The list as its first element sees it.
+      opened-list : (f g : Frame) → Slot doc a f g → InList b' (slot-place a) (getD (a .st) at-word 0) no-cell
+      opened-list f g s = (belongs-slot f g s, (sym (E .opened-is ∙ eat), E .last-is))
+
+      to-entered : (f g : Frame) → Slot doc a f g → (fs : List Frame) → Reads doc (f ∷ fs) (list (slot-place a) (getD (a .st) at-word 0) no-cell ∷ g ∷ fs) a b' 0
+      to-entered f g s fs =
+          comes-then doc (on-top (f ∷ fs)) (on-top (list (slot-place a) (getD (a .st) at-word 0) no-cell ∷ g ∷ fs)) (on-top (list (slot-place a) (getD (a .st) at-word 0) no-cell ∷ g ∷ fs)) a b b' r 0
+          (comes-within doc (λ x. fs ++ x) (on-top (f ∷ [])) (on-top (list (slot-place a) (getD (a .st) at-word 0) no-cell ∷ g ∷ [])) a b r (to-list f g s)) z
+          (comes-aimed doc work rows terms store u u' (E .before) (E .words) (on-top (list (slot-place a) (getD (a .st) at-word 0) no-cell ∷ g ∷ fs)) ready-b)
+
+      pub list-elements : (d : Held) (q : ℕ) → Elements doc b' d q → Values doc a d q
+      list-elements d q L =
+          record {
+            goes-on = λ f g s fs l.
+                let w = L (slot-place a) (s .no-node) (getD (a .st) at-word 0) no-cell (opened-list f g s) (g ∷ fs) (below (g ∷ fs) l) in
+                record {
+                  reads = comes-then doc (on-top (f ∷ fs)) (on-top (list (slot-place a) (getD (a .st) at-word 0) no-cell ∷ g ∷ fs)) (on-top []) a b' d 0 q (to-entered f g s fs) refl (w .reads);
+                  depth = λ y. omega (arith, w .depth y, list-depth);
+                };
+            alone = λ l f g s.
+                let w = L (slot-place a) (s .no-node) (getD (a .st) at-word 0) no-cell (opened-list f g s) [] (below [] l) in (
+                  comes-then doc (on-top (f ∷ [])) (on-top (list (slot-place a) (getD (a .st) at-word 0) no-cell ∷ g ∷ [])) (on-top (g ∷ [])) a b' d 0 q (to-entered f g s []) refl
+                      (comes-within doc (λ x. g ∷ x) (on-top (list (slot-place a) (getD (a .st) at-word 0) no-cell ∷ [])) (on-top []) b' d q (w .reads)),
+                  record { depth = λ y. omega (arith, w .depth y, list-depth); later = λ y. omega (arith, list-later, w .reads .later y) },
+                );
+          }
+
+-- A level of zeros was put before.
+module _ (doc : Text) (work rows terms store : RefT (List ℕ)) (st st' : List ℕ) (ready : Ready doc (held work rows terms store st)) (M : Marked st st' 0 0) where
+  abbrev a₀ : Held
+  a₀ = held work rows terms store st
+
+  abbrev a₁ : Held
+  a₁ = held work rows terms store st'
+
+  -- What awaits a node does so still.
+  slot-marked : (f g : Frame) → Slot doc a₀ f g → Slot doc a₁ f g
+  unfolding slot-place
+  slot-marked f g s =
+      record {
+        opening = s .opening;
+        rules = λ k tied h. subst (λ (t : Token). find-rule k (frame-rules t tied f) ≡ find-rule k (object-rules t tied (s .opening))) (sym here-same) (s .rules k tied h);
+        others = λ z y tied h.
+            subst (λ (t : Token). among object-kinds (t .kind) ≡ false → find-rule (t .kind) (frame-rules t tied f) ≡ none) (sym here-same)
+            (s .others (λ e. z (same 71 (omega arith) ∙ e)) (token-words doc st' st (λ k x w. sym (same k (omega arith))) y) tied) h;
+        opens = λ old m h. rw (place-same, spot-same) (s .opens old m (holding old m h));
+        begins = λ old m h. rw (place-same, spot-same) (s .begins old m (holding old m h));
+        no-node = λ n. rw place-same (s .no-node n);
+        no-properties = λ n. rw place-same (s .no-properties n);
+      }
+    where
+      same : (k : ℕ) → k < 82 → getD st' k 0 ≡ getD st k 0
+      same = mark-spot st st' 0 0 M
+
+      here-same : here doc a₁ ≡ here doc a₀
+      here-same = rw (same 71 (omega arith), same 72 (omega arith), same 73 (omega arith))
+
+      place-same : slot-place a₁ ≡ slot-place a₀
+      place-same = rw (same 67 (omega arith), same 77 (omega arith), same 78 (omega arith), same 79 (omega arith))
+
+      spot-same : spot-of a₁ ≡ spot-of a₀
+      spot-same = rw (same 72 (omega arith), same 77 (omega arith), same 78 (omega arith), same 79 (omega arith), same 80 (omega arith), same 81 (omega arith))
+
+      holding : (old : Tables) (m : Memory) → Holding old m a₁ → Holding old m a₀
+      holding old m h = represents-words old m (work .now) (tables-of a₁) st' st (λ k x. sym (same k (omega arith))) (sym (same 76 (omega arith))) (sym (M .words)) h
+
+  pub node-call : Spotted a₀ → Awaited doc a₀ → (Ready doc a₁ × Spotted a₁) × (Awaited doc a₁ × SomeLevels st' (getD st' depth-word 0))
+  node-call s (f, (g, o)) = (
+    (
+      ready-aimed doc work rows terms store st st' (mark-before st st' 0 0 M) (M .words) ready,
+      record { x = rw (mark-spot st st' 0 0 M 78 (omega arith)) (s .x); y = rw (mark-spot st st' 0 0 M 79 (omega arith)) (s .y); opened = rw (mark-spot st st' 0 0 M 80 (omega arith)) (s .opened); last = rw (mark-spot st st' 0 0 M 81 (omega arith)) (s .last) },
+    ),
+    ((f, (g, slot-marked f g o)), ([], mark-none st st' 0 0 M refl refl)),
+  )
+
+  pub node-alone : Awaited doc a₀ → (d : Held) (q : ℕ) → Values doc a₁ d q → Fills doc a₀ d q × Steady a₀ d q
+  node-alone (f₀, (g₀, s₀)) d q W =
+      let l = mark-none st st' 0 0 M refl refl in (
+        (λ f g s. comes-then doc (on-top (f ∷ [])) (on-top (f ∷ [])) (on-top (g ∷ [])) a₀ a₁ d 0 q (comes-aimed doc work rows terms store st st' (mark-before st st' 0 0 M) (M .words) (on-top (f ∷ [])) ready) refl (W .alone l f g (slot-marked f g s) .0)),
+        (let w = W .alone l f₀ g₀ (slot-marked f₀ g₀ s₀) .1 in record { depth = λ e. w .depth e ∙ mark-depth st st' 0 0 M; later = λ e. omega (arith, w .later e, M .below 72 (omega arith)) }),
       )
-        where
-          later-list : q ≡ 0 → getD u' at-word 0 ≤ getD (d .st) at-word 0
-          later-list y = let (place, bl) = some-place (getD u' x-word 0) (getD u' y-word 0) in L .reads place bl .later y

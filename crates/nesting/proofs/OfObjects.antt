@@ -1,7 +1,7 @@
 -- The objects of a subject and a predicate.
-use mathlib.Core.Path.{_≡_, refl, sym, ap, _∙_, subst}
+use mathlib.Core.Path.{_≡_, refl, _∙_, subst}
 use mathlib.Core.List.{List, [], _∷_}
-use Prim.Native.Nat.{ℕ, suc, _+_, _-_, _≤_, _<_}
+use Prim.Native.Nat.{ℕ, _-_, _≤_, _<_}
 use native.Mathlib.Omega.{arith}
 use lib.ListN.{length, getD}
 use denote.Ref.{RefT}
@@ -10,14 +10,13 @@ use Rattle.machine.specs.Memory.{return}
 use Rattle.machine.specs.Frame.{Ending, full-stop, object, after-object}
 use Rattle.machine.specs.Refusals.{new-depth}
 use Rattle.state.specs.Words.{kind-word, at-word, depth-word, graph-word}
-use Rattle.state.specs.Cursor.{Cursor, TokenHere}
 use Rattle.reading.specs.Reading.{Held, held, here, Ready, Reads, on-top}
-use Rattle.reading.proofs.Compose.{comes-here, comes-then, comes-stop}
+use Rattle.reading.proofs.Compose.{comes-here, comes-then}
 use Rattle.reading.proofs.Frames.{reads-does}
 use Rattle.nodes.specs.Nodes.{Aimed, Passed, Fills, Steady, Spotted}
 use Rattle.nodes.proofs.Passing.{Quiet, passed-same}
 use Rattle.nodes.proofs.Slots.{object-slot}
-use Rattle.nesting.specs.Nesting.{Objects}
+use Rattle.nesting.specs.Nesting.{Awaited, Objects}
 use Rattle.nesting.proofs.Skipping.{token-there}
 use Rattle.nesting.proofs.Aiming.{comes-aimed, ready-aimed, spotted, less-left}
 
@@ -32,8 +31,11 @@ pub objects-start : (doc : Text) (a : Held) (s p : ℕ) → Ready doc a → Obje
 objects-start doc a s p r = record { ready = r; depth = refl; later = omega arith; reads = λ e. comes-here doc (on-top (object s p e ∷ [])) a r }
 
 module _ (doc : Text) (a₀ : Held) (work rows terms store : RefT (List ℕ)) (st st' : List ℕ) (s p : ℕ) (I : ObjectsInv doc a₀ (held work rows terms store st) s p) (aim : Aimed st st' 0 s p 0 0) where
-  pub objects-ready : (s < 4294967296) → (p < 4294967296) → Ready doc (held work rows terms store st') × Spotted (held work rows terms store st')
-  objects-ready hs hp = (ready-aimed doc work rows terms store st st' (aim .before) (aim .words) (I .ready), spotted work rows terms store st st' 0 s p 0 0 aim hs hp (omega arith) (omega arith))
+  pub objects-ready : (s < 4294967296) → (p < 4294967296) → 0 < s → 0 < p → (Ready doc (held work rows terms store st') × Spotted (held work rows terms store st')) × Awaited doc (held work rows terms store st')
+  objects-ready hs hp zs zp = (
+    (ready-aimed doc work rows terms store st st' (aim .before) (aim .words) (I .ready), spotted work rows terms store st st' 0 s p 0 0 aim hs hp (omega arith) (omega arith)),
+    (object s p full-stop, (after-object s p full-stop, object-slot doc (held work rows terms store st') s p full-stop (aim .list-is) (aim .x-is) (aim .y-is) zs zp)),
+  )
 
   pub objects-depth : getD st' depth-word 0 ≡ getD (a₀ .st) depth-word 0
   objects-depth = aim .before 75 (omega arith) ∙ I .depth
@@ -64,6 +66,17 @@ module _ (doc : Text) (a₀ : Held) (work rows terms store : RefT (List ℕ)) (s
 quiet : Quiet 20
 quiet = record { escapes = refl; reference = refl; name = refl; opening = refl }
 
+module _ (doc : Text) (work rows terms store : RefT (List ℕ)) (u u' : List ℕ) (ready : Ready doc (held work rows terms store u)) (k : getD u kind-word 0 ≡ 20) (P : Passed doc u u' (getD u depth-word 0) (getD u graph-word 0)) where
+  depth-20 : getD u depth-word 0 ≡ new-depth (getD u depth-word 0) (here doc (held work rows terms store u))
+  unfolding new-depth
+  depth-20 = rw k
+
+  pub comma-reads : (s p : ℕ) (e : Ending) → Reads doc (after-object s p e ∷ []) (object s p e ∷ []) (held work rows terms store u) (held work rows terms store u') 0
+  comma-reads s p e =
+      reads-does doc (after-object s p e) (object s p e ∷ []) (held work rows terms store u) (held work rows terms store u') 0 ready (λ m. (0, m)) (token-there doc u 20 (ready .cursor) k (λ h. omega arith) (λ h. omega arith)) (λ h. omega arith)
+      (passed-same doc work rows terms store u u' 20 (getD u depth-word 0) 0 k quiet P depth-20)
+      (λ tied. (return (object s p e ∷ []), (rw k, λ old m h. (refl, λ y. refl))))
+
 -- A comma, and one object more.
 module _ (doc : Text) (a₀ : Held) (work₁ rows₁ terms₁ store₁ : RefT (List ℕ)) (st st' : List ℕ) (s p : ℕ) (I : ObjectsInv doc a₀ (held work₁ rows₁ terms₁ store₁ st) s p) (aim : Aimed st st' 0 s p 0 0)
     (work rows terms store : RefT (List ℕ)) (u u' : List ℕ) (r : ℕ) (hs : 0 < s) (hp : 0 < p) (N : Fills doc (held work₁ rows₁ terms₁ store₁ st') (held work rows terms store u) r × Steady (held work₁ rows₁ terms₁ store₁ st') (held work rows terms store u) r)
@@ -77,15 +90,8 @@ module _ (doc : Text) (a₀ : Held) (work₁ rows₁ terms₁ store₁ : RefT (L
   ready-b : Ready doc b
   ready-b = objects-more-ready doc a₀ work₁ rows₁ terms₁ store₁ st st' s p I aim b r hs hp N z
 
-  depth-20 : getD u depth-word 0 ≡ new-depth (getD u depth-word 0) (here doc b)
-  unfolding new-depth
-  depth-20 = rw k
-
   comma : (e : Ending) → Reads doc (after-object s p e ∷ []) (object s p e ∷ []) b b' 0
-  comma e =
-      reads-does doc (after-object s p e) (object s p e ∷ []) b b' 0 ready-b (λ m. (0, m)) (token-there doc u 20 (ready-b .cursor) k (λ h. omega arith) (λ h. omega arith)) (λ h. omega arith)
-      (passed-same doc work rows terms store u u' 20 (getD u depth-word 0) 0 k quiet P depth-20)
-      (λ tied. (return (object s p e ∷ []), (rw k, λ old m h. (refl, λ y. refl))))
+  comma e = comma-reads doc work rows terms store u u' ready-b k P s p e
 
   pub objects-again : ObjectsInv doc a₀ b' s p
   objects-again =

@@ -1,28 +1,22 @@
 -- Predicates and their objects.
-use mathlib.Core.Path.{_≡_, refl, sym, ap, _∙_, subst}
+use mathlib.Core.Path.{_≡_, refl, sym, _∙_, subst}
 use mathlib.Core.List.{List, [], _∷_, _++_}
-use mathlib.Core.Bool.{Bool, true, false}
-use Prim.Native.Nat.{ℕ, suc, _+_, _-_, _≤_, _<_}
+use mathlib.Core.Bool.{true, false}
+use Prim.Native.Nat.{ℕ, _-_, _≤_, _<_}
 use native.Mathlib.Omega.{arith}
-use lib.Dec.{eqb}
 use lib.ListN.{length, getD}
 use denote.Ref.{RefT}
 use Rattle.text.specs.Text.{Text}
-use Rattle.text.proofs.Compare.{by, contrary}
-use Rattle.token.specs.Kind.{Kind, kind-of-code, among, kw-a}
-use Rattle.token.proofs.KindCodes.{each-kind}
 use Rattle.machine.specs.Frame.{Ending, full-stop, Frame, object, after-object, after-semicolon}
 use Rattle.state.specs.Words.{node-word, kind-word, at-word, depth-word}
-use Rattle.state.specs.Cursor.{Cursor, TokenHere}
-use Rattle.reading.specs.Reading.{code-among, Held, held, here, Ready, Reads, on-top}
-use Rattle.reading.proofs.Compose.{comes-here, comes-then, comes-stop, comes-within}
-use Rattle.reading.proofs.Tests.{among-code}
-use Rattle.nodes.specs.Nodes.{Aimed, Steady, Spotted, PutsTerm, Verbs, Ends, verb-kinds, term-kinds}
-use Rattle.nodes.proofs.Predicates.{verb-reads, verb-is-term, term-depth, verbs-semicolon, ends-object, ends-semicolon}
-use Rattle.nodes.proofs.Slots.{term-rule}
-use Rattle.nesting.specs.Nesting.{Objects, Listed, Properties, Skips}
-use Rattle.nesting.proofs.Skipping.{token-there}
-use Rattle.nesting.proofs.Aiming.{comes-aimed, ready-aimed, spotted, less-left}
+use Rattle.state.specs.Cursor.{Cursor}
+use Rattle.reading.specs.Reading.{code-among, Held, held, Ready, Reads, on-top}
+use Rattle.reading.proofs.Compose.{comes-here, comes-then, comes-within}
+use Rattle.nodes.specs.Nodes.{Aimed, Steady, PutsTerm, Verbs, verb-kinds}
+use Rattle.nodes.proofs.Predicates.{verbs-semicolon, ends-object, ends-semicolon}
+use Rattle.nesting.specs.Nesting.{Objects, Properties, Skips}
+use Rattle.nesting.proofs.OfVerbs.{VerbDone, verb-comes, verb-done}
+use Rattle.nesting.proofs.Aiming.{less-left}
 
 -- What is open where the next predicate is awaited: at first f; later what is open behind a semicolon, and the frames after it.
 pub record Awaits (doc : Text) (f : Frame) (s : ℕ) (e : Ending) (after : List Frame) (a₀ a : Held) : Type 0 where
@@ -48,10 +42,6 @@ properties-start doc a s r v =
       reads = λ f e after verbs. record { frames = f ∷ []; reads = comes-here doc (on-top (f ∷ [])) a r; next = λ b q R. R f after verbs };
     }
 
--- A predicate's kind is a token's.
-verb-token : (k : ℕ) → code-among verb-kinds k ≡ true → (k ≡ 0 → ⊥) × (k ≡ 31 → ⊥)
-verb-token k v = ((λ e. contrary (sym (rw e at v))), (λ e. contrary (sym (rw e at v))))
-
 module _ (doc : Text) (a₀ : Held) (work rows terms store : RefT (List ℕ)) (st st' : List ℕ) (s : ℕ) (I : PropertiesInv doc a₀ (held work rows terms store st) s) (aim : Aimed st st' 0 0 0 0 0) where
   abbrev a : Held
   a = held work rows terms store st
@@ -59,53 +49,16 @@ module _ (doc : Text) (a₀ : Held) (work rows terms store : RefT (List ℕ)) (s
   abbrev a1 : Held
   a1 = held work rows terms store st'
 
-  same-kind : getD st' kind-word 0 ≡ getD st kind-word 0
-  same-kind = aim .before 71 (omega arith)
-
-  ready-1 : Ready doc a1
-  ready-1 = ready-aimed doc work rows terms store st st' (aim .before) (aim .words) (I .ready)
-
-  token-1 : TokenHere doc st'
-  token-1 = ready-1 .cursor .token (λ h. verb-token (getD st kind-word 0) (I .verb) .0 (sym same-kind ∙ h)) (λ h. verb-token (getD st kind-word 0) (I .verb) .1 (sym same-kind ∙ h))
-
-  some-kind : getD st' kind-word 0 ≡ 0 → ⊥
-  some-kind h = verb-token (getD st kind-word 0) (I .verb) .0 (sym same-kind ∙ h)
-
-  verb-1 : among verb-kinds (here doc a1 .kind) ≡ true
-  verb-1 = among-code verb-kinds (getD st' kind-word 0) some-kind (token-1 .known) ∙ rw same-kind (I .verb)
-
-  pub properties-ready : (Ready doc a1 × Spotted a1) × (code-among (kw-a ∷ term-kinds) (getD st' kind-word 0) ≡ true)
-  properties-ready = (
-    (ready-1, spotted work rows terms store st st' 0 0 0 0 0 aim (omega arith) (omega arith) (omega arith) (omega arith)),
-    sym (among-code (kw-a ∷ term-kinds) (getD st' kind-word 0) some-kind (token-1 .known)) ∙ verb-is-term (here doc a1 .kind) verb-1,
-  )
-
   module _ (b : Held) (r : ℕ) (P : PutsTerm doc a1 b r) where
     -- The predicate is read.
     to-verb : (f : Frame) (e : Ending) (after : List Frame) → Verbs f s e after → Reads doc (f ∷ []) (object s (getD (b .st) node-word 0) e ∷ after) a₀ b r
     to-verb f e after verbs =
         let w = I .reads f e after verbs in
         comes-then doc (on-top (f ∷ [])) (on-top (w .frames)) (on-top (object s (getD (b .st) node-word 0) e ∷ after)) a₀ a b 0 r (w .reads) refl
-        (w .next b r (λ g x v.
-        comes-then doc (on-top (g ∷ [])) (on-top (g ∷ [])) (on-top (object s (getD (b .st) node-word 0) e ∷ x)) a a1 b 0 r (comes-aimed doc work rows terms store st st' (aim .before) (aim .words) (on-top (g ∷ [])) (I .ready)) refl
-        (verb-reads doc a1 b r ready-1 token-1 some-kind (aim .list-is) (aim .x-is) P verb-1 g s e x v)))
+        (w .next b r (λ g x v. verb-comes doc work rows terms store st st' (I .ready) (I .verb) aim b r P g s e x v))
 
-    -- The words that stay.
-    depth-verb : r ≡ 0 → getD (b .st) depth-word 0 ≡ getD (a₀ .st) depth-word 0
-    depth-verb z =
-        let t = verb-is-term (here doc a1 .kind) verb-1 in
-        let (v, q) = term-rule (here doc a1) (here doc a1 .kind) t in
-        P v q .gives .does .done z .depth ∙ (term-depth (here doc a1) (getD st' depth-word 0) t ∙ (aim .before 75 (omega arith) ∙ I .depth))
-
-    later-verb : r ≡ 0 → getD (a₀ .st) at-word 0 < getD (b .st) at-word 0
-    later-verb z =
-        let (v, q) = term-rule (here doc a1) (here doc a1 .kind) (verb-is-term (here doc a1 .kind) verb-1) in
-        omega (arith, P v q .gives .does .done z .later, aim .before 72 (omega arith), I .later)
-
-    further : r ≡ 0 → getD st at-word 0 < getD (b .st) at-word 0
-    further z =
-        let (v, q) = term-rule (here doc a1) (here doc a1 .kind) (verb-is-term (here doc a1 .kind) verb-1) in
-        omega (arith, P v q .gives .does .done z .later, aim .before 72 (omega arith))
+    done : r ≡ 0 → VerbDone doc st b
+    done z = verb-done doc work rows terms store st st' (I .ready) (I .verb) aim b r P z
 
     -- The predicate was refused.
     pub properties-stop : (r ≡ 0 → ⊥) → Properties doc a₀ b s r
@@ -115,18 +68,9 @@ module _ (doc : Text) (a₀ : Held) (work rows terms store : RefT (List ℕ)) (s
           steady = record { depth = λ y. absurd (z y); later = λ y. absurd (z y) };
         }
 
-    pub depth-objects : r ≡ 0 → getD (b .st) depth-word 0 ≡ getD (a₀ .st) depth-word 0
-    depth-objects z = depth-verb z
-
     -- What its objects may be called with.
     pub objects-call : r ≡ 0 → (s < 4294967296) → 0 < s → (p : ℕ) → p ≡ getD (b .st) node-word 0 → (Ready doc b × ((s < 4294967296) × (p < 4294967296))) × ((0 < s) × (0 < p))
-    objects-call z hs h0 p ep =
-        let (v, q) = term-rule (here doc a1) (here doc a1 .kind) (verb-is-term (here doc a1 .kind) verb-1) in
-        let N = P v q in
-        ((to-verb-ready z, (hs, rw ep (N .gives .small z))), (h0, rw ep (N .positive z)))
-      where
-        to-verb-ready : r ≡ 0 → Ready doc b
-        to-verb-ready z = to-verb (after-semicolon s full-stop) full-stop [] (verbs-semicolon s full-stop) .ready z
+    objects-call z hs h0 p ep = ((done z .ready, (hs, rw ep (done z .small))), (h0, rw ep (done z .some-node)))
 
     module _ (z : r ≡ 0) (d : Held) (q p : ℕ) (ep : p ≡ getD (b .st) node-word 0) (O : Objects doc b d s p q) where
       to-objects : (f : Frame) (e : Ending) (after : List Frame) → Verbs f s e after → Reads doc (f ∷ []) (after-object s p e ∷ after) a₀ d q
@@ -136,7 +80,7 @@ module _ (doc : Text) (a₀ : Held) (work rows terms store : RefT (List ℕ)) (s
           (comes-within doc (λ k. after ++ k) (on-top (object s p e ∷ [])) (on-top (after-object s p e ∷ [])) b d q (O .reads e))
 
       steady-objects : Steady a₀ d q
-      steady-objects = record { depth = λ y. O .steady .depth y ∙ depth-verb z; later = λ y. omega (arith, O .steady .later y, later-verb z) }
+      steady-objects = record { depth = λ y. O .steady .depth y ∙ (done z .depth ∙ I .depth); later = λ y. omega (arith, O .steady .later y, done z .later, I .later) }
 
       pub properties-stop-2 : (q ≡ 0 → ⊥) → Properties doc a₀ d s q
       properties-stop-2 y =
@@ -153,7 +97,7 @@ module _ (doc : Text) (a₀ : Held) (work rows terms store : RefT (List ℕ)) (s
             steady = steady-objects;
           })
 
-      pub skips-call : q ≡ 0 → getD (d .st) kind-word 0 ≡ 21 → (Cursor doc (d .st) × (length (d .st) ≡ 90)) × (getD (d .st) kind-word 0 ≡ 21)
+      pub skips-call : q ≡ 0 → getD (d .st) kind-word 0 ≡ 21 → (Cursor doc (d .st) × (length (d .st) ≡ 212)) × (getD (d .st) kind-word 0 ≡ 21)
       skips-call y k =
           let R = to-objects (after-semicolon s full-stop) full-stop [] (verbs-semicolon s full-stop) .ready y in
           let (old, (m, h)) = R .holds in
@@ -206,4 +150,4 @@ module _ (doc : Text) (a₀ : Held) (work₁ rows₁ terms₁ store₁ : RefT (L
       }
 
   pub properties-less : length doc - getD u' at-word 0 < length doc - getD st at-word 0
-  properties-less = less-left doc (held work₁ rows₁ terms₁ store₁ st) d' (to-semicolon (after-semicolon s full-stop) full-stop [] (verbs-semicolon s full-stop) .ready refl) (omega (arith, S .later, O .steady .later y, further doc a₀ work₁ rows₁ terms₁ store₁ st st' s I aim b r P z))
+  properties-less = less-left doc (held work₁ rows₁ terms₁ store₁ st) d' (to-semicolon (after-semicolon s full-stop) full-stop [] (verbs-semicolon s full-stop) .ready refl) (omega (arith, S .later, O .steady .later y, done doc a₀ work₁ rows₁ terms₁ store₁ st st' s I aim b r P z .later))

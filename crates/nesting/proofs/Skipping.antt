@@ -1,18 +1,18 @@
 -- Semicolons.
-use mathlib.Core.Path.{_≡_, refl, sym, ap, _∙_, subst}
+use mathlib.Core.Path.{_≡_, refl, sym, _∙_, subst}
 use mathlib.Core.Logic.{_⊎_, inl, inr, ⊎-elim}
-use mathlib.Core.List.{List, [], _∷_, _++_}
-use Prim.Native.Nat.{ℕ, _+_, _-_, _≤_, _<_}
+use mathlib.Core.List.{List, [], _∷_}
+use Prim.Native.Nat.{ℕ, _-_, _≤_, _<_}
 use native.Mathlib.Omega.{arith}
 use lib.ListN.{length, getD}
 use denote.Ref.{RefT}
 use Rattle.text.specs.Text.{Text}
 use Rattle.machine.specs.Memory.{return}
-use Rattle.machine.specs.Frame.{Ending, Frame, after-object, after-semicolon}
+use Rattle.machine.specs.Frame.{Ending, after-object, after-semicolon}
 use Rattle.machine.specs.Refusals.{new-depth}
-use Rattle.state.specs.Words.{kind-word, at-word, depth-word, graph-word}
+use Rattle.state.specs.Words.{kind-word, at-word, depth-word, graph-word, list-word}
 use Rattle.state.specs.Cursor.{Cursor, TokenHere}
-use Rattle.reading.specs.Reading.{Held, held, here, Ready, Reads, on-top}
+use Rattle.reading.specs.Reading.{held, here, Ready, Reads, on-top}
 use Rattle.reading.proofs.Compose.{comes-then}
 use Rattle.reading.proofs.Frames.{reads-does}
 use Rattle.nodes.specs.Nodes.{Passed}
@@ -25,6 +25,7 @@ pub record Skipping (doc : Text) (st st' : List ℕ) : Type 0 where
   pub cursor : Cursor doc st'
   pub depth : getD st' depth-word 0 ≡ getD st depth-word 0
   pub later : getD st at-word 0 < getD st' at-word 0
+  pub spot : (k : ℕ) → list-word ≤ k → getD st' k 0 ≡ getD st k 0
   pub words : length st' ≡ length st
 
 quiet : Quiet 21
@@ -53,7 +54,7 @@ module _ (doc : Text) (st st' : List ℕ) (e : getD st kind-word 0 ≡ 21) (c : 
         (λ tied. (return (after-semicolon s x ∷ []), (rw e, λ old m h. (refl, λ y. refl))))
 
   pub skip-first : Skipping doc st st'
-  skip-first = record { reads = λ work rows terms store ready s q x. after-first work rows terms store ready s q x; cursor = p .cursor; depth = p .depth-is; later = p .later; words = p .words }
+  skip-first = record { reads = λ work rows terms store ready s q x. after-first work rows terms store ready s q x; cursor = p .cursor; depth = p .depth-is; later = p .later; spot = p .spot; words = p .words }
 
   pub skip-more : (st₀ : List ℕ) → Skipping doc st₀ st → Skipping doc st₀ st'
   skip-more st₀ k =
@@ -67,6 +68,7 @@ module _ (doc : Text) (st st' : List ℕ) (e : getD st kind-word 0 ≡ 21) (c : 
         cursor = p .cursor;
         depth = p .depth-is ∙ k .depth;
         later = omega (arith, k .later, p .later);
+        spot = λ i h. p .spot i h ∙ k .spot i h;
         words = p .words ∙ k .words;
       }
 
@@ -88,10 +90,10 @@ module _ (doc : Text) (st₀ st st' : List ℕ) (I : SkipInv doc st₀ st) (p : 
   skip-again e = record { cursor = p .cursor; kind = e; words = p .words ∙ I .words; way = inr skipped }
 
   pub skips : (getD st' kind-word 0 ≡ 21 → ⊥) → Skips doc st₀ st'
-  skips z = let k = skipped in record { reads = k .reads; ended = z; depth = k .depth; later = k .later; words = k .words }
+  skips z = let k = skipped in record { reads = k .reads; ended = z; depth = k .depth; later = k .later; spot = k .spot; words = k .words }
 
   pub skip-less : length doc - getD st' at-word 0 < length doc - getD st at-word 0
   skip-less = omega (arith, p .later, p .cursor .inside)
 
-pub skip-ready : (doc : Text) (st₀ st : List ℕ) → SkipInv doc st₀ st → length st₀ ≡ 90 → (Cursor doc st × TokenHere doc st) × (length st ≡ 90)
+pub skip-ready : (doc : Text) (st₀ st : List ℕ) → SkipInv doc st₀ st → length st₀ ≡ 212 → (Cursor doc st × TokenHere doc st) × (length st ≡ 212)
 skip-ready doc st₀ st I n = ((I .cursor, token-there doc st 21 (I .cursor) (I .kind) (λ h. omega arith) (λ h. omega arith)), I .words ∙ n)

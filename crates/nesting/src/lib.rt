@@ -1,20 +1,21 @@
-// Brackets in lists and lists in brackets: the readers of nodes, properties, objects and lists, which call each other. The
-// measure is how many brackets may still be opened. What a token writes is done outside this cycle.
+// Brackets in lists and lists in brackets. Properties, objects and elements of a subject are read in loops, each node with
+// its brackets by readers that call each other. What a token writes is done outside this cycle.
 ghost use mathlib.Core.Path.{_≡_};
 ghost use mathlib.Core.List.{_∷_};
-ghost use mathlib.Core.Bool.{true, false};
-ghost use Prim.Native.Nat.{_<_};
+ghost use mathlib.Core.Bool.{true, false, _||_};
+ghost use Prim.Native.Nat.{_≤_, _<_};
 ghost use lib.ListN.{length, getD};
+ghost use Rattle.limits.specs.Limits.{depth-limit};
 ghost use Rattle.dataset.specs.Terms.{blank, bracket};
 ghost use Rattle.machine.specs.Memory.{new-term};
-ghost use Rattle.state.specs.Words.{node-word, kind-word, at-word, depth-word};
+ghost use Rattle.state.specs.Words.{node-word, kind-word, at-word, depth-word, list-word};
 ghost use Rattle.scope.specs.Code.{words-size};
 ghost use Rattle.state.specs.Cursor.{Cursor};
 ghost use Rattle.state.specs.Writes.{placed, opened-at};
 ghost use Rattle.reading.specs.Reading.{code-among, held, Ready, Does};
 ghost use Rattle.nodes.specs.Nodes.{spot-of, Spotted, Fills, Numbers, PutsTerm, Closes, Steady, term-kinds, verb-kinds};
 ghost use Rattle.token.specs.Kind.{strings, kw-a};
-ghost use Rattle.nesting.specs.Nesting.{Skips, Leaf, Inside, Lists, Objects, Properties, Entered};
+ghost use Rattle.nesting.specs.Nesting.{Skips, Leaf, Awaited, Lists, Objects, Properties, Entered, level-x, level-y, Marked, SomeLevels, Deep, Values, Resumes, Contents, Closing, Predicates, Follows, Elements};
 use scope::Layout;
 use state::Words;
 
@@ -50,7 +51,7 @@ pub fn leaf(
     leaves::put_term(doc, work, rows, terms, store, st)
 }
 
-// A node where one is awaited.
+// A node where one is awaited. The level of zeros ends what is read in its brackets.
 fn node(
     doc: &&[u8],
     work: &mut &mut [u8],
@@ -59,65 +60,11 @@ fn node(
     store: &mut &mut [u8],
     st: &mut [usize; Layout::WORDS],
 ) -> u8
-    requires { ⌜ Ready (now (now doc)) (held (now work) (now rows) (now terms) (now store) (now st)) × Spotted (held (now work) (now rows) (now terms) (now store) (now st)) ⌝ }
+    requires { ⌜ (Ready (now (now doc)) (held (now work) (now rows) (now terms) (now store) (now st)) × Spotted (held (now work) (now rows) (now terms) (now store) (now st))) × Awaited (now (now doc)) (held (now work) (now rows) (now terms) (now store) (now st)) ⌝ }
     ensures { λ r. ⌜ Fills (now (now (doc .entry))) (held (now (work .entry)) (now (rows .entry)) (now (terms .entry)) (now (store .entry)) (now (st .entry))) (held (now (work .exit)) (now (rows .exit)) (now (terms .exit)) (now (store .exit)) (now (st .exit))) r × Steady (held (now (work .entry)) (now (rows .entry)) (now (terms .entry)) (now (store .entry)) (now (st .entry))) (held (now (work .exit)) (now (rows .exit)) (now (terms .exit)) (now (store .exit)) (now (st .exit))) r ⌝ }
 {
-    let kind = st[Words::KIND];
-    if nodes::is_term(kind) {
-        return leaf(doc, work, rows, terms, store, st);
-    }
-    if nodes::is_string(kind) {
-        return leaf(doc, work, rows, terms, store, st);
-    }
-    if kind == 22 {
-        let c = leaves::put_bracket(doc, work, rows, terms, store, st);
-        if c != 0 {
-            return c;
-        }
-        return inside(doc, work, rows, terms, store, st);
-    }
-    if kind == 24 {
-        let at = st[Words::AT];
-        let cell = st[Words::TERMS] + 1;
-        let c = leaves::put_paren(doc, work, rows, terms, store, st);
-        if c != 0 {
-            return c;
-        }
-        enter_list(st, at, cell);
-        return elements(doc, work, rows, terms, store, st);
-    }
-    reading::unexpected(*doc, st)
-}
-
-// What is in a bracket, behind it, and its end.
-fn inside(
-    doc: &&[u8],
-    work: &mut &mut [u8],
-    rows: &mut &mut [u32],
-    terms: &mut &mut [u32],
-    store: &mut &mut [u8],
-    st: &mut [usize; Layout::WORDS],
-) -> u8
-    requires { ⌜ (Ready (now (now doc)) (held (now work) (now rows) (now terms) (now store) (now st)) × (getD (now st) node-word 0 < 4294967296)) × ((0 < getD (now st) node-word 0) × (0 < getD (now st) depth-word 0)) ⌝ }
-    ensures { λ r. ⌜ Inside (now (now (doc .entry))) (held (now (work .entry)) (now (rows .entry)) (now (terms .entry)) (now (store .entry)) (now (st .entry))) (held (now (work .exit)) (now (rows .exit)) (now (terms .exit)) (now (store .exit)) (now (st .exit))) r ⌝ }
-{
-    let n = st[Words::NODE];
-    if st[Words::KIND] == 23 {
-        nodes::leave(doc, st);
-        return 0;
-    }
-    if !nodes::is_verb(st[Words::KIND]) {
-        return reading::unexpected(*doc, st);
-    }
-    let c = properties(doc, work, rows, terms, store, st, n);
-    if c != 0 {
-        return c;
-    }
-    if st[Words::KIND] != 23 {
-        return reading::unexpected(*doc, st);
-    }
-    nodes::leave(doc, st);
-    0
+    mark(st, 0, 0);
+    value(doc, work, rows, terms, store, st)
 }
 
 // Predicates of s and their objects, from a predicate on to what cannot go on with them.
@@ -211,7 +158,45 @@ pub fn elements(
     }
 }
 
-// The list at the cursor's back was opened at a place; what it belongs to itself is put where its elements look for it.
+// Puts into the level of this depth what is resumed once a node is complete here: behind an object of the subject x and the
+// predicate y; in a list, x being 0, behind the cell y; with zeros the caller goes on.
+fn mark(st: &mut [usize; Layout::WORDS], x: usize, y: usize)
+    requires { ⌜ (length (now st) ≡ words-size) × (getD (now st) depth-word 0 ≤ depth-limit) ⌝ }
+    ensures { λ _. ⌜ Marked (now (st .entry)) (now (st .exit)) x y ⌝ }
+{
+    let i = Words::LEVELS + 2 * st[Words::DEPTH];
+    st[i] = x;
+    st[i + 1] = y;
+}
+
+// The two words of the level of this depth.
+fn level_x(st: &[usize; Layout::WORDS]) -> usize
+    requires { ⌜ (length (now st) ≡ words-size) × (getD (now st) depth-word 0 ≤ depth-limit) ⌝ }
+    ensures { λ r. ⌜ r ≡ level-x (now (st .entry)) (getD (now (st .entry)) depth-word 0) ⌝ }
+{
+    let i = Words::LEVELS + 2 * st[Words::DEPTH];
+    st[i]
+}
+
+fn level_y(st: &[usize; Layout::WORDS]) -> usize
+    requires { ⌜ (length (now st) ≡ words-size) × (getD (now st) depth-word 0 ≤ depth-limit) ⌝ }
+    ensures { λ r. ⌜ r ≡ level-y (now (st .entry)) (getD (now (st .entry)) depth-word 0) ⌝ }
+{
+    let i = Words::LEVELS + 2 * st[Words::DEPTH];
+    st[i + 1]
+}
+
+// Whether a token of this kind begins a node without brackets.
+fn is_leaf(kind: usize) -> bool
+    ensures { λ r. ⌜ r ≡ (code-among term-kinds kind || code-among strings kind) ⌝ }
+{
+    if nodes::is_term(kind) {
+        return true;
+    }
+    nodes::is_string(kind)
+}
+
+// The list at the cursor's back was opened at a place; what it belongs to itself is put where its first element looks for it.
 fn enter_list(st: &mut [usize; Layout::WORDS], at: usize, cell: usize)
     requires { ⌜ length (now st) ≡ words-size ⌝ }
     ensures { λ _. ⌜ Entered (now (st .entry)) (now (st .exit)) at cell ⌝ }
@@ -219,8 +204,193 @@ fn enter_list(st: &mut [usize; Layout::WORDS], at: usize, cell: usize)
     if st[Words::LIST] == 0 {
         let x = st[Words::X];
         let y = st[Words::Y];
-        nodes::aim(st, 0, x, y, at, 0);
+        nodes::aim(st, 1, x, y, at, 0);
         return;
     }
-    nodes::aim(st, 0, cell, 0, at, 0);
+    nodes::aim(st, 1, cell, 0, at, 0);
+}
+
+// ---- The readers that call each other
+
+// Every call among them is in tail position, so that the compiler can make it a jump and a bracket costs no stack: what is
+// resumed behind it stands in the levels. The measure is the remaining document; where no token is passed, the order is
+// resume, then after_object, contents and element, then the others.
+
+// A node where one is awaited; then what is resumed behind it.
+fn value(
+    doc: &&[u8],
+    work: &mut &mut [u8],
+    rows: &mut &mut [u32],
+    terms: &mut &mut [u32],
+    store: &mut &mut [u8],
+    st: &mut [usize; Layout::WORDS],
+) -> u8
+    requires { ⌜ (Ready (now (now doc)) (held (now work) (now rows) (now terms) (now store) (now st)) × Spotted (held (now work) (now rows) (now terms) (now store) (now st))) × (Awaited (now (now doc)) (held (now work) (now rows) (now terms) (now store) (now st)) × SomeLevels (now st) (getD (now st) depth-word 0)) ⌝ }
+    ensures { λ r. ⌜ Values (now (now (doc .entry))) (held (now (work .entry)) (now (rows .entry)) (now (terms .entry)) (now (store .entry)) (now (st .entry))) (held (now (work .exit)) (now (rows .exit)) (now (terms .exit)) (now (store .exit)) (now (st .exit))) r ⌝ }
+{
+    let kind = st[Words::KIND];
+    if is_leaf(kind) {
+        let c = leaf(doc, work, rows, terms, store, st);
+        if c != 0 {
+            return c;
+        }
+        return resume(doc, work, rows, terms, store, st);
+    }
+    if kind == 22 {
+        let c = leaves::put_bracket(doc, work, rows, terms, store, st);
+        if c != 0 {
+            return c;
+        }
+        return contents(doc, work, rows, terms, store, st);
+    }
+    if kind == 24 {
+        let at = st[Words::AT];
+        let cell = st[Words::TERMS] + 1;
+        let c = leaves::put_paren(doc, work, rows, terms, store, st);
+        if c != 0 {
+            return c;
+        }
+        enter_list(st, at, cell);
+        return element(doc, work, rows, terms, store, st);
+    }
+    reading::unexpected(*doc, st)
+}
+
+// What the level of this depth says; nothing where it says that the caller goes on.
+fn resume(
+    doc: &&[u8],
+    work: &mut &mut [u8],
+    rows: &mut &mut [u32],
+    terms: &mut &mut [u32],
+    store: &mut &mut [u8],
+    st: &mut [usize; Layout::WORDS],
+) -> u8
+    requires { ⌜ Ready (now (now doc)) (held (now work) (now rows) (now terms) (now store) (now st)) × SomeLevels (now st) (getD (now st) depth-word 0) ⌝ }
+    ensures { λ r. ⌜ Resumes (now (now (doc .entry))) (held (now (work .entry)) (now (rows .entry)) (now (terms .entry)) (now (store .entry)) (now (st .entry))) (held (now (work .exit)) (now (rows .exit)) (now (terms .exit)) (now (store .exit)) (now (st .exit))) r ⌝ }
+{
+    if level_x(st) != 0 {
+        return after_object(doc, work, rows, terms, store, st);
+    }
+    let last = level_y(st);
+    if last == 0 {
+        return 0;
+    }
+    nodes::aim(st, 1, 0, 0, 0, last);
+    element(doc, work, rows, terms, store, st)
+}
+
+// What is in a bracket, behind it.
+fn contents(
+    doc: &&[u8],
+    work: &mut &mut [u8],
+    rows: &mut &mut [u32],
+    terms: &mut &mut [u32],
+    store: &mut &mut [u8],
+    st: &mut [usize; Layout::WORDS],
+) -> u8
+    requires { ⌜ (Ready (now (now doc)) (held (now work) (now rows) (now terms) (now store) (now st)) × (getD (now st) node-word 0 < 4294967296)) × ((0 < getD (now st) node-word 0) × Deep (now st)) ⌝ }
+    ensures { λ r. ⌜ Contents (now (now (doc .entry))) (held (now (work .entry)) (now (rows .entry)) (now (terms .entry)) (now (store .entry)) (now (st .entry))) (held (now (work .exit)) (now (rows .exit)) (now (terms .exit)) (now (store .exit)) (now (st .exit))) r ⌝ }
+{
+    if !nodes::is_verb(st[Words::KIND]) {
+        return close_bracket(doc, work, rows, terms, store, st);
+    }
+    let n = st[Words::NODE];
+    mark(st, n, 0);
+    predicate(doc, work, rows, terms, store, st)
+}
+
+// The end of a bracket.
+fn close_bracket(
+    doc: &&[u8],
+    work: &mut &mut [u8],
+    rows: &mut &mut [u32],
+    terms: &mut &mut [u32],
+    store: &mut &mut [u8],
+    st: &mut [usize; Layout::WORDS],
+) -> u8
+    requires { ⌜ Ready (now (now doc)) (held (now work) (now rows) (now terms) (now store) (now st)) × Deep (now st) ⌝ }
+    ensures { λ r. ⌜ Closing (now (now (doc .entry))) (held (now (work .entry)) (now (rows .entry)) (now (terms .entry)) (now (store .entry)) (now (st .entry))) (held (now (work .exit)) (now (rows .exit)) (now (terms .exit)) (now (store .exit)) (now (st .exit))) r ⌝ }
+{
+    if st[Words::KIND] != 23 {
+        return reading::unexpected(*doc, st);
+    }
+    nodes::leave(doc, st);
+    resume(doc, work, rows, terms, store, st)
+}
+
+// A predicate of the subject that the level holds; then its first object.
+fn predicate(
+    doc: &&[u8],
+    work: &mut &mut [u8],
+    rows: &mut &mut [u32],
+    terms: &mut &mut [u32],
+    store: &mut &mut [u8],
+    st: &mut [usize; Layout::WORDS],
+) -> u8
+    requires { ⌜ (Ready (now (now doc)) (held (now work) (now rows) (now terms) (now store) (now st)) × (level-x (now st) (getD (now st) depth-word 0) < 4294967296)) × (((0 < level-x (now st) (getD (now st) depth-word 0)) × (code-among verb-kinds (getD (now st) kind-word 0) ≡ true)) × Deep (now st)) ⌝ }
+    ensures { λ r. ⌜ Predicates (now (now (doc .entry))) (held (now (work .entry)) (now (rows .entry)) (now (terms .entry)) (now (store .entry)) (now (st .entry))) (held (now (work .exit)) (now (rows .exit)) (now (terms .exit)) (now (store .exit)) (now (st .exit))) r ⌝ }
+{
+    let s = level_x(st);
+    nodes::aim(st, 0, 0, 0, 0, 0);
+    let c = leaf(doc, work, rows, terms, store, st);
+    if c != 0 {
+        return c;
+    }
+    let p = st[Words::NODE];
+    mark(st, s, p);
+    nodes::aim(st, 0, s, p, 0, 0);
+    value(doc, work, rows, terms, store, st)
+}
+
+// Behind an object in a bracket: one more, or a predicate, or the end.
+fn after_object(
+    doc: &&[u8],
+    work: &mut &mut [u8],
+    rows: &mut &mut [u32],
+    terms: &mut &mut [u32],
+    store: &mut &mut [u8],
+    st: &mut [usize; Layout::WORDS],
+) -> u8
+    requires { ⌜ Ready (now (now doc)) (held (now work) (now rows) (now terms) (now store) (now st)) × ((0 < level-x (now st) (getD (now st) depth-word 0)) × SomeLevels (now st) (getD (now st) depth-word 0)) ⌝ }
+    ensures { λ r. ⌜ Follows (now (now (doc .entry))) (held (now (work .entry)) (now (rows .entry)) (now (terms .entry)) (now (store .entry)) (now (st .entry))) (held (now (work .exit)) (now (rows .exit)) (now (terms .exit)) (now (store .exit)) (now (st .exit))) r ⌝ }
+{
+    if st[Words::KIND] == 20 {
+        nodes::pass(doc, st);
+        let s = level_x(st);
+        let p = level_y(st);
+        nodes::aim(st, 0, s, p, 0, 0);
+        return value(doc, work, rows, terms, store, st);
+    }
+    if st[Words::KIND] != 21 {
+        return close_bracket(doc, work, rows, terms, store, st);
+    }
+    skip_semicolons(doc, st);
+    if nodes::is_verb(st[Words::KIND]) {
+        return predicate(doc, work, rows, terms, store, st);
+    }
+    close_bracket(doc, work, rows, terms, store, st)
+}
+
+// The next element of a list, or its end.
+fn element(
+    doc: &&[u8],
+    work: &mut &mut [u8],
+    rows: &mut &mut [u32],
+    terms: &mut &mut [u32],
+    store: &mut &mut [u8],
+    st: &mut [usize; Layout::WORDS],
+) -> u8
+    requires { ⌜ (Ready (now (now doc)) (held (now work) (now rows) (now terms) (now store) (now st)) × Spotted (held (now work) (now rows) (now terms) (now store) (now st))) × ((getD (now st) list-word 0 ≡ 1) × Deep (now st)) ⌝ }
+    ensures { λ r. ⌜ Elements (now (now (doc .entry))) (held (now (work .entry)) (now (rows .entry)) (now (terms .entry)) (now (store .entry)) (now (st .entry))) (held (now (work .exit)) (now (rows .exit)) (now (terms .exit)) (now (store .exit)) (now (st .exit))) r ⌝ }
+{
+    if st[Words::KIND] == 25 {
+        let c = leaves::close_list(doc, work, rows, terms, store, st);
+        if c != 0 {
+            return c;
+        }
+        return resume(doc, work, rows, terms, store, st);
+    }
+    let cell = st[Words::TERMS] + 1;
+    mark(st, 0, cell);
+    value(doc, work, rows, terms, store, st)
 }

@@ -52,7 +52,7 @@ module _ (doc : Text) (st st' : List ℕ) (t : TokenHere doc st) (s : Sought doc
       }
 
   -- One word more was put, behind the cursor's and before the place's.
-  module _ (st'' : List ℕ) (i v : ℕ) (low : 74 < i) (high : i < 77) (n : length st ≡ 90) (e : st'' ≡ set st' i v) where
+  module _ (st'' : List ℕ) (i v : ℕ) (low : 74 < i) (high : i < 77) (n : length st ≡ 212) (e : st'' ≡ set st' i v) where
     other : (k : ℕ) → (k ≡ i → ⊥) → getD st'' k 0 ≡ getD st' k 0
     other k h = ap (λ (l : List ℕ). getD l k 0) e ∙ getD-set-other st' i k v 0 h
 
@@ -72,20 +72,20 @@ module _ (doc : Text) (st st' : List ℕ) (t : TokenHere doc st) (s : Sought doc
           words = ap length e ∙ (length-set st' i v ∙ s .words);
         }
 
-  pub passed-leave : (st'' : List ℕ) → length st ≡ 90 → st'' ≡ set st' 75 (getD st' 75 0 - 1) → Passed doc st st'' (getD st 75 0 - 1) (getD st 76 0)
+  pub passed-leave : (st'' : List ℕ) → length st ≡ 212 → st'' ≡ set st' 75 (getD st' 75 0 - 1) → Passed doc st st'' (getD st 75 0 - 1) (getD st 76 0)
   passed-leave st'' n e =
       passed-put st'' 75 (getD st' 75 0 - 1) (omega arith) (omega arith) n e (getD st 75 0 - 1) (getD st 76 0)
       (put-same st'' 75 (getD st' 75 0 - 1) (omega arith) (omega arith) n e ∙ ap (λ (x : ℕ). x - 1) (s .beside 75 (inr (omega arith))))
       (other st'' 75 (getD st' 75 0 - 1) (omega arith) (omega arith) n e 76 (λ z. omega arith) ∙ s .beside 76 (inr (omega arith)))
 
-  pub passed-enter : (g : ℕ) (st'' : List ℕ) → length st ≡ 90 → st'' ≡ set st' 76 g → Passed doc st st'' (getD st 75 0) g
+  pub passed-enter : (g : ℕ) (st'' : List ℕ) → length st ≡ 212 → st'' ≡ set st' 76 g → Passed doc st st'' (getD st 75 0) g
   passed-enter g st'' n e =
       passed-put st'' 76 g (omega arith) (omega arith) n e (getD st 75 0) g
       (other st'' 76 g (omega arith) (omega arith) n e 75 (λ z. omega arith) ∙ s .beside 75 (inr (omega arith)))
       (put-same st'' 76 g (omega arith) (omega arith) n e)
 
 -- The five words of a place.
-module _ (st : List ℕ) (list x y opened last : ℕ) (n : length st ≡ 90) where
+module _ (st : List ℕ) (list x y opened last : ℕ) (n : length st ≡ 212) where
   abbrev s1 : List ℕ
   s1 = set st 77 list
 
@@ -98,16 +98,16 @@ module _ (st : List ℕ) (list x y opened last : ℕ) (n : length st ≡ 90) whe
   abbrev s4 : List ℕ
   s4 = set s3 80 opened
 
-  l1 : length s1 ≡ 90
+  l1 : length s1 ≡ 212
   l1 = length-set st 77 list ∙ n
 
-  l2 : length s2 ≡ 90
+  l2 : length s2 ≡ 212
   l2 = length-set s1 78 x ∙ l1
 
-  l3 : length s3 ≡ 90
+  l3 : length s3 ≡ 212
   l3 = length-set s2 79 y ∙ l2
 
-  l4 : length s4 ≡ 90
+  l4 : length s4 ≡ 212
   l4 = length-set s3 80 opened ∙ l3
 
   aimed-there : Aimed st (set s4 81 last) list x y opened last
@@ -119,6 +119,7 @@ module _ (st : List ℕ) (list x y opened last : ℕ) (n : length st ≡ 90) whe
         opened-is = past 81 last 80 s4 (λ e. omega arith) ∙ getD-set-same s3 80 opened 0 (omega (arith, l3));
         last-is = getD-set-same s4 81 last 0 (omega (arith, l4));
         before = λ k h. past 81 last k s4 (λ e. omega arith) ∙ (past 80 opened k s3 (λ e. omega arith) ∙ (past 79 y k s2 (λ e. omega arith) ∙ (past 78 x k s1 (λ e. omega arith) ∙ getD-set-other st 77 k list 0 (λ e. omega arith))));
+        behind = λ k h. past 81 last k s4 (λ e. omega arith) ∙ (past 80 opened k s3 (λ e. omega arith) ∙ (past 79 y k s2 (λ e. omega arith) ∙ (past 78 x k s1 (λ e. omega arith) ∙ getD-set-other st 77 k list 0 (λ e. omega arith))));
         words = length-set s4 81 last ∙ (l4 ∙ sym n);
       }
     where

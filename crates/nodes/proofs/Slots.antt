@@ -27,7 +27,7 @@ use Rattle.state.specs.Cursor.{TokenHere}
 use Rattle.reading.specs.Reading.{Held, here, Holding, Ready, Reads, Does, Gives}
 use Rattle.reading.proofs.Tests.{kinds-of, among-any, no-rule, among-code}
 use Rattle.reading.proofs.Frames.{FrameDoes, reads-does}
-use Rattle.nodes.specs.Nodes.{node-rules, term-rules, spot-of, slot-place, object-kinds, term-kinds, Slot, Fills, Numbers, PutsTerm, Belongs, LastCell}
+use Rattle.nodes.specs.Nodes.{node-rules, term-rules, spot-of, slot-place, object-kinds, term-kinds, Slot, Fills, Numbers, PutsTerm, Belongs, LastCell, InList}
 
 -- ---- Kinds
 
@@ -96,26 +96,34 @@ hold-belongs (object-of (suc s) (suc p)) x y b n at = rw (b .0, b .1 .0)
 hold-belongs (element-of zero) x y b n at = absurd (omega arith)
 hold-belongs (element-of (suc c)) x y b n at = rw (b .0, b .1 .0)
 
-pub cell-belongs : (place : Place) (x y : ℕ) → Belongs place x y → (opened : ℕ) (cs : Cells) (last at : ℕ) → LastCell cs last → (m : Memory) → new-cell place opened cs at m ≡ new-cell (place-of x y) opened (cells-of last) at m
-cell-belongs place x y b opened no-cell last at l m = rw l (ap (λ (w : Write Done). (suc (length (m .terms)), w (new-term (blank (cell at)) m .1) .1)) (hold-belongs place x y b (suc (length (m .terms))) opened))
-cell-belongs place x y b opened (cells head zero) last at l m = absurd (omega arith)
-cell-belongs place x y b opened (cells head (suc c)) last at l m = rw (l .0)
+cell-same : (a : Held) (place : Place) (opened : ℕ) (cs : Cells) (at : ℕ) → InList a place opened cs → (m : Memory)
+    → new-cell place opened cs at m ≡ new-cell (place-of (getD (a .st) x-word 0) (getD (a .st) y-word 0)) (getD (a .st) opened-word 0) (cells-of (getD (a .st) last-word 0)) at m
+cell-same a place opened no-cell at (b, (o, l)) m =
+    rw (o, l) (ap (λ (w : Write Done). (suc (length (m .terms)), w (new-term (blank (cell at)) m .1) .1)) (hold-belongs place (getD (a .st) x-word 0) (getD (a .st) y-word 0) b (suc (length (m .terms))) (getD (a .st) opened-word 0)))
+cell-same a place opened (cells head zero) at (l, h) m = absurd (omega arith)
+cell-same a place opened (cells head (suc c)) at (l, h) m = rw l
+
+-- A list at the place that the array knows.
+pub in-list : (a : Held) (place : Place) (cs : Cells) → Belongs place (getD (a .st) x-word 0) (getD (a .st) y-word 0) → LastCell cs (getD (a .st) last-word 0) → InList a place (getD (a .st) opened-word 0) cs
+in-list a place no-cell b l = (b, (refl, l))
+in-list a place (cells head c) b l = l
 
 -- The node of a list: its first cell, or the number of rdf:nil.
 abbrev pub cell-or-nil : Cells → ℕ → ℕ
 cell-or-nil no-cell n = n
 cell-or-nil (cells head last) n = head
 
-closes-same : (place : Place) (x y : ℕ) → Belongs place x y → (opened : ℕ) (cs : Cells) (last at : ℕ) → LastCell cs last → (m : Memory)
-    → (end-list place opened cs at m .1 ≡ end-list (place-of x y) opened (cells-of last) at m .1)
-    × ((n : ℕ) → n ≡ end-list (place-of x y) opened (cells-of last) at m .0 → end-list place opened cs at m .0 ≡ cell-or-nil cs n)
-closes-same place x y b opened no-cell last at l m =
-    let t : ℕ × Memory = term (iri rdf-nil) m in (
-      rw l (ap (λ (w : Write Done). w (term (iri rdf-nil) m .1) .1) (hold-belongs place x y b (term (iri rdf-nil) m .0) opened)),
-      λ n e. sym (e ∙ rw l),
-    )
-closes-same place x y b opened (cells head zero) last at l m = absurd (omega arith)
-closes-same place x y b opened (cells head (suc c)) last at l m = (rw (l .0), λ n e. refl)
+abbrev closed-here : Held → ℕ → Write ℕ
+closed-here a at = end-list (place-of (getD (a .st) x-word 0) (getD (a .st) y-word 0)) (getD (a .st) opened-word 0) (cells-of (getD (a .st) last-word 0)) at
+
+closes-same : (a : Held) (place : Place) (opened : ℕ) (cs : Cells) (at : ℕ) → InList a place opened cs → (m : Memory)
+    → (end-list place opened cs at m .1 ≡ closed-here a at m .1) × ((n : ℕ) → n ≡ closed-here a at m .0 → end-list place opened cs at m .0 ≡ cell-or-nil cs n)
+closes-same a place opened no-cell at (b, (o, l)) m = (
+  rw (o, l) (ap (λ (w : Write Done). w (term (iri rdf-nil) m .1) .1) (hold-belongs place (getD (a .st) x-word 0) (getD (a .st) y-word 0) b (term (iri rdf-nil) m .0) (getD (a .st) opened-word 0))),
+  λ n e. sym (e ∙ rw l),
+)
+closes-same a place opened (cells head zero) at (l, h) m = absurd (omega arith)
+closes-same a place opened (cells head (suc c)) at (l, h) m = (rw l, λ n e. refl)
 
 -- The memory has as many terms as the array says.
 count-of : (old : Tables) (m : Memory) (a : Held) → Holding old m a → getD (a .st) terms-word 0 ≡ length (m .terms)
@@ -126,23 +134,20 @@ cell-number : (place : Place) (opened : ℕ) (cs : Cells) (at : ℕ) (m : Memory
 cell-number place opened no-cell at m = refl
 cell-number place opened (cells head last) at m = refl
 
-module _ (doc : Text) (a : Held) (place : Place) (cs : Cells) (z : getD (a .st) list-word 0 ≡ 0 → ⊥) (b : Belongs place (getD (a .st) x-word 0) (getD (a .st) y-word 0)) (l : LastCell cs (getD (a .st) last-word 0)) where
-  abbrev opened-at-word : ℕ
-  opened-at-word = getD (a .st) opened-word 0
-
+module _ (doc : Text) (a : Held) (place : Place) (opened : ℕ) (cs : Cells) (z : getD (a .st) list-word 0 ≡ 0 → ⊥) (w : InList a place opened cs) where
   abbrev cell-next : ℕ
   cell-next = suc (getD (a .st) terms-word 0)
 
   abbrev begins-list : Write Opening
-  begins-list = new-cell place opened-at-word cs (getD (a .st) at-word 0) >>= λ c. return (record { place = element-of c; after = list place opened-at-word (extended cs c) ∷ [] })
+  begins-list = new-cell place opened cs (getD (a .st) at-word 0) >>= λ c. return (record { place = element-of c; after = list place opened (extended cs c) ∷ [] })
 
-  same-cell : (m : Memory) → new-cell place opened-at-word cs (getD (a .st) at-word 0) m ≡ new-cell (place-of (getD (a .st) x-word 0) (getD (a .st) y-word 0)) opened-at-word (cells-of (getD (a .st) last-word 0)) (getD (a .st) at-word 0) m
-  same-cell m = cell-belongs place (getD (a .st) x-word 0) (getD (a .st) y-word 0) b opened-at-word cs (getD (a .st) last-word 0) (getD (a .st) at-word 0) l m
+  same-cell : (m : Memory) → new-cell place opened cs (getD (a .st) at-word 0) m ≡ new-cell (place-of (getD (a .st) x-word 0) (getD (a .st) y-word 0)) (getD (a .st) opened-word 0) (cells-of (getD (a .st) last-word 0)) (getD (a .st) at-word 0) m
+  same-cell m = cell-same a place opened cs (getD (a .st) at-word 0) w m
 
-  number-next : (old : Tables) (m : Memory) → Holding old m a → new-cell place opened-at-word cs (getD (a .st) at-word 0) m .0 ≡ cell-next
-  number-next old m h = cell-number place opened-at-word cs (getD (a .st) at-word 0) m ∙ ap suc (sym (count-of old m a h))
+  number-next : (old : Tables) (m : Memory) → Holding old m a → new-cell place opened cs (getD (a .st) at-word 0) m .0 ≡ cell-next
+  number-next old m h = cell-number place opened cs (getD (a .st) at-word 0) m ∙ ap suc (sym (count-of old m a h))
 
-  pub element-slot : (getD (a .st) kind-word 0 ≡ 25 → ⊥) → Slot doc a (list place opened-at-word cs) (list place opened-at-word (extended cs cell-next))
+  pub element-slot : (getD (a .st) kind-word 0 ≡ 25 → ⊥) → Slot doc a (list place opened cs) (list place opened (extended cs cell-next))
   element-slot k25 =
       record {
         opening = begins-list;
@@ -150,7 +155,7 @@ module _ (doc : Text) (a : Held) (place : Place) (cs : Cells) (z : getD (a .st) 
         others = λ x y tied h. rw (close-not (getD (a .st) kind-word 0) k25 x (y .known)) (no-object (here doc a) tied begins-list (here doc a .kind) h);
         opens = λ old m h.
             let n = number-next old m h in
-            rw (slot-list a z, begin-list a z m, ← same-cell m) (ap (λ (c : ℕ). (record { place = element-of c; after = list place opened-at-word (extended cs c) ∷ [] }, new-cell place opened-at-word cs (getD (a .st) at-word 0) m .1)) n);
+            rw (slot-list a z, begin-list a z m, ← same-cell m) (ap (λ (c : ℕ). (record { place = element-of c; after = list place opened (extended cs c) ∷ [] }, new-cell place opened cs (getD (a .st) at-word 0) m .1)) n);
         begins = λ old m h. rw (slot-list a z, begin-list a z m, ← same-cell m) (ap element-of (number-next old m h));
         no-node = λ n. rw (slot-list a z);
         no-properties = λ n. rw (slot-list a z);
@@ -259,16 +264,16 @@ module _ (doc : Text) (a b : Held) (r : ℕ) (ready : Ready doc a) (here-token :
       ))
 
   -- The end of a list.
-  pub list-closes : getD (a .st) kind-word 0 ≡ 25 → Gives doc (closed (spot-of a)) a b r → (place : Place) (cs : Cells) → Belongs place (getD (a .st) x-word 0) (getD (a .st) y-word 0) → LastCell cs (getD (a .st) last-word 0)
-      → Reads doc (list place (getD (a .st) opened-word 0) cs ∷ []) (after-node place (cell-or-nil cs (getD (b .st) node-word 0))) a b r
+  pub list-closes : getD (a .st) kind-word 0 ≡ 25 → Gives doc (closed (spot-of a)) a b r → (place : Place) (opened : ℕ) (cs : Cells) → InList a place opened cs
+      → Reads doc (list place opened cs ∷ []) (after-node place (cell-or-nil cs (getD (b .st) node-word 0))) a b r
   unfolding closed
-  list-closes k G place cs bl l =
-      reads-does doc (list place (getD (a .st) opened-word 0) cs) (after-node place (cell-or-nil cs (getD (b .st) node-word 0))) a b r ready (closed (spot-of a)) here-token z (G .does)
+  list-closes k G place opened cs w =
+      reads-does doc (list place opened cs) (after-node place (cell-or-nil cs (getD (b .st) node-word 0))) a b r ready (closed (spot-of a)) here-token z (G .does)
       (λ tied. (
-        (end-list place (getD (a .st) opened-word 0) cs (here doc a .start) >>= λ n. return (after-node place n)),
+        (end-list place opened cs (here doc a .start) >>= λ n. return (after-node place n)),
         (
           rw k,
-          λ old m x. let e = closes-same place (getD (a .st) x-word 0) (getD (a .st) y-word 0) bl (getD (a .st) opened-word 0) cs (getD (a .st) last-word 0) (getD (a .st) at-word 0) l m in (
+          λ old m x. let e = closes-same a place opened cs (getD (a .st) at-word 0) w m in (
             e .0,
             λ y. ap (after-node place) (e .1 (getD (b .st) node-word 0) (G .node y old m x)),
           ),

@@ -83,6 +83,11 @@ abbrev pub LastCell : Cells → ℕ → Type 0
 LastCell no-cell last = last ≡ 0
 LastCell (cells head c) last = (last ≡ c) × (0 < c)
 
+-- A list's place, where it was opened, and its cells, as far as the array knows them: of a list that has cells only the last one matters.
+abbrev pub InList : Held → Place → ℕ → Cells → Type 0
+InList h place opened no-cell = Belongs place (getD (h .st) x-word 0) (getD (h .st) y-word 0) × ((opened ≡ getD (h .st) opened-word 0) × (getD (h .st) last-word 0 ≡ 0))
+InList h place opened (cells head c) = (getD (h .st) last-word 0 ≡ c) × (0 < c)
+
 -- A node was read where one was awaited.
 abbrev pub Fills : Text → Held → Held → ℕ → Type 0
 Fills doc a b r = (f g : Frame) → Slot doc a f g → Reads doc (f ∷ []) (g ∷ []) a b r
@@ -124,6 +129,7 @@ pub record Aimed (st st' : List ℕ) (list x y opened last : ℕ) : Type 0 where
   pub opened-is : getD st' opened-word 0 ≡ opened
   pub last-is : getD st' last-word 0 ≡ last
   pub before : (k : ℕ) → k < list-word → getD st' k 0 ≡ getD st k 0
+  pub behind : (k : ℕ) → last-word < k → getD st' k 0 ≡ getD st k 0
   pub words : length st' ≡ length st
 
 -- The cursor is behind a token that writes nothing; so many brackets are open then, in this graph.
@@ -144,3 +150,8 @@ term-kinds = iris ++ («BLANK_NODE_LABEL» ∷ INTEGER ∷ DECIMAL ∷ DOUBLE �
 pub record Steady (a b : Held) (r : ℕ) : Type 0 where
   pub depth : r ≡ 0 → getD (b .st) depth-word 0 ≡ getD (a .st) depth-word 0
   pub later : r ≡ 0 → getD (a .st) at-word 0 < getD (b .st) at-word 0
+
+-- The same where a node of its own tokens alone was read: its place stays in the array, with all words behind it.
+pub record Settled (a b : Held) (r : ℕ) : Type 0 where
+  pub steady : Steady a b r
+  pub spot : r ≡ 0 → (k : ℕ) → list-word ≤ k → getD (b .st) k 0 ≡ getD (a .st) k 0

@@ -40,7 +40,7 @@ abbrev pub own-word : ℕ
 own-word = suc base-word
 
 abbrev pub words-size : ℕ
-words-size = own-word + 24
+words-size = own-word + 146
 
 unfoldable pub binding : Text → List ℕ → ℕ → Binding
 binding work lens i = record {

@@ -57,6 +57,10 @@ opened-word = own-word + 14
 abbrev pub last-word : ℕ
 last-word = own-word + 15
 
+-- What is resumed at each depth: two words a depth, from here on.
+abbrev pub level-word : ℕ
+level-word = own-word + 16
+
 abbrev pub counts-of : List ℕ → Counts
 counts-of st = record { terms = getD st terms-word 0; used = getD st used-word 0; blanks = getD st blanks-word 0 }
 

@@ -39,6 +39,8 @@ impl Words {
     pub const OPENED: usize = Self::ROWS + 14;
 
     pub const LAST: usize = Self::ROWS + 15;
+    // What is resumed at each depth, from 0 to the limit, once a node is complete there: two words a depth.
+    pub const LEVELS: usize = Self::ROWS + 16;
 
     pub const END: usize = 0;
 

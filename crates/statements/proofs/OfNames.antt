@@ -258,7 +258,7 @@ module _ (doc : Text) (work rows terms store : RefT (List ℕ)) (st st1 st2 : Li
       unfolding new-depth
       deeper = N .gives .does .done z .depth ∙ rw k22
 
-      pub bracket-leave : getD u kind-word 0 ≡ 23 → (Cursor doc u × TokenHere doc u) × ((length u ≡ 90) × (0 < getD u depth-word 0))
+      pub bracket-leave : getD u kind-word 0 ≡ 23 → (Cursor doc u × TokenHere doc u) × ((length u ≡ 212) × (0 < getD u depth-word 0))
       bracket-leave c = leave-call doc b 23 bracket-ready c (λ h. omega arith) (λ h. omega arith) (omega (arith, deeper))
 
       module _ (u' : List ℕ) (c : getD u kind-word 0 ≡ 23) (left : Passed doc u u' (getD u depth-word 0 - 1) (getD u graph-word 0)) where

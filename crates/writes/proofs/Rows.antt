@@ -38,7 +38,7 @@ module _ (s p o at : ℕ) (rows st : List ℕ) (r : RowReady s p o at rows st) w
   })
 
 -- The result goes into the node's word.
-pub wrote : (w : Write ℕ) (n : ℕ) (work work' : Text) (t t' : Tables) (st st' st″ : List ℕ) → Writes w n work work' t t' st st' → n < 4294967296 → length st ≡ 90 → st″ ≡ set st' node-word n
+pub wrote : (w : Write ℕ) (n : ℕ) (work work' : Text) (t t' : Tables) (st st' st″ : List ℕ) → Writes w n work work' t t' st st' → n < 4294967296 → length st ≡ 212 → st″ ≡ set st' node-word n
     → Wrote w work work' t t' st st″ × (Stays st st″ × (length st″ ≡ length st))
 wrote w n work work' t t' st st' st″ W small long e =
     let here : getD st″ node-word 0 ≡ n = rw e (getD-set-same st' node-word n 0 (omega (arith, W .kept .words))) in (
