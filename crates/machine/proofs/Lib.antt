@@ -23,3 +23,4 @@ pub mod Order
 pub mod Rows
 pub mod Distinct
 pub mod Counted
+pub mod Weights
