@@ -24,3 +24,4 @@ pub mod Rows
 pub mod Distinct
 pub mod Counted
 pub mod Weights
+pub mod Sizes

@@ -368,7 +368,7 @@ module _ (t : Token) (tied : Bool) (e : Environment) (short : among iris (t .kin
       always (modest (grows-return (after-semicolon s x ∷ [])) (omega arith) (λ m. omega arith)) (modests-append (modest-verb (λ p. object s p x ∷ []) (λ p. refl)) (modest-end x))
   modest-frame (bracket q n) =
       always (modest (grows-return (after-node q n)) (omega arith) (λ m. omega (arith, none-after-node q n)))
-      (modest-verb (λ p. object n p bracket-end ∷ after-properties q n) (λ p. none-after-properties q n))
+      (modest-verb (λ p. object n p bracket-end ∷ after-properties q n) (λ p. omega (arith, none-after-properties q n)))
   modest-frame (list q opened cs) =
       always (modest (grows-bind (grows-end-list q opened cs (t .start)) (λ n. grows-return (after-node q n))) (omega arith) (λ m. omega (arith, none-after-node q (end-list q opened cs (t .start) m .0))))
       (modest-object

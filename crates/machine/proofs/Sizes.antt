@@ -1,0 +1,325 @@
+-- What a document of n bytes can need: 2n rows, 2n + 9 terms and 1,025n + 386 bytes of the store. A token makes two rows and two terms at the most, besides the
+-- nine IRIs that the language itself writes, and stores one IRI at the most; no two tokens begin with the same byte, and none overlap.
+use mathlib.Core.Path.{_≡_, refl, sym, ap, _∙_, subst}
+use mathlib.Core.List.{List, [], _∷_, _++_}
+use mathlib.Core.Bool.{Bool, true, false, not, _&&_, _||_}
+use mathlib.Core.Option.{Option, none, some}
+use Prim.Native.Nat.{ℕ, zero, suc, pred, _+_, _*_, _-_, _≤_}
+use native.Mathlib.Nat.{le-refl}
+use native.Mathlib.Omega.{arith}
+use borrow.Author.Tests.{ltb-false, le-ltb}
+use lib.Dec.{eqb, ltb}
+use lib.ListN.{length, take, drop, length-append, length-drop, take-append-drop}
+use Rattle.text.specs.Text.{Text, ascii, cond, empty, is, begins, some-byte}
+use Rattle.text.proofs.Compare.{by, contrary}
+use Rattle.limits.specs.Limits.{document-limit, iri-limit}
+use Rattle.utf8.specs.Utf8.{decode-from, decode, sequence-size, width}
+use Rattle.token.specs.Regular.{Match, nothing as no-match, hit}
+use Rattle.token.specs.Terminals.{token-at}
+use Rattle.token.specs.Kind.{kind-code, kind-of-code, among, names, iris, IRIREF}
+use Rattle.token.specs.Tokens.{Token, has-kind, Lexeme, token, unreadable, Cutting, between, comment, inside, white-space, line-end, in-comment, passed, lexemes-from, lexemes, tokens-of}
+use Rattle.iri.specs.Iri.{has-scheme, scheme, after-scheme}
+use Rattle.iri.specs.Dots.{Buffers, buffers, without-last-segment, turn, turns, remove-dot-segments}
+use Rattle.iri.specs.Resolve.{Parts, parts, merge, defined, transform, recompose, resolve-by, resolve, resolve-with-dots, resolved}
+use Rattle.iri.specs.Code.{rule, segment}
+use Rattle.iri.specs.declared.Rule.{Rule}
+use Rattle.iri.specs.declared.Rule.the-variants.{UpSlash, HereSlash, SlashHere, SlashHereEnd, SlashUp, SlashUpEnd, Dots, Segment}
+use Rattle.iri.proofs.Turns.{in-after, out-after, turn-rule, Found, found}
+use Rattle.grammar.specs.Productions.{Mode}
+use Rattle.scope.specs.Environment.{Environment}
+use Rattle.dataset.specs.Constructors.{nothing, awaiting, prefix, reference, resolved-reference, joined-name, iri-of}
+use Rattle.table.specs.Tables.{store-size}
+use Rattle.machine.specs.Memory.{Memory, Write}
+use Rattle.machine.specs.Frame.{Frame, Open, directive, statement}
+use Rattle.machine.specs.Rules.{find-rule, rules}
+use Rattle.machine.specs.Refusals.{long-resolved, no-character, undeclared, no-base, too-long, one-prefix-more, too-deep}
+use Rattle.machine.specs.Step.{Room, State, awaited-by, in-force-now, Test, _when_, first-refusal, answer, obeyed, tests, step, tied-to, Outcome, accepted, refused, onward, run}
+use Rattle.machine.specs.Read.{Lent, mode-of, start-state}
+use Rattle.machine.specs.Construction.{tables}
+use Rattle.machine.specs.Demand.{Fits, Meets}
+use Rattle.machine.proofs.Extends.{two-rows}
+use Rattle.machine.proofs.Demands.{start-tracks, start-fits, accepted-fair, meets-run}
+use Rattle.machine.proofs.Weights.{one, size, weight, take-short, waiting, waiting-open, Light, light-rule, count-weight, size-weight, first-count, first-size}
+
+-- ---- An IRI that is not too long
+
+without-short : (o : Text) → length (without-last-segment o) ≤ length o
+unfolding without-last-segment
+without-short [] = omega arith
+without-short (c ∷ s) = by (some-byte (is "/") s) (λ e. rw e (omega (arith, without-short s))) (λ e. rw e (omega arith))
+
+rule-short : (r : Rule) (i o : Text) → Found i r → length (out-after r i o) + length (in-after r i) ≤ length o + length i
+unfolding in-after out-after
+rule-short UpSlash i o f = omega (arith, length-drop 3 i)
+rule-short HereSlash i o f = omega (arith, length-drop 2 i)
+rule-short SlashHere i o f = omega (arith, length-drop 2 i)
+rule-short SlashHereEnd i o f = omega (arith, ap length f)
+rule-short SlashUp i o f = omega (arith, length-drop 3 i, without-short o)
+rule-short SlashUpEnd i o f = omega (arith, ap length f, without-short o)
+rule-short Dots i o f = omega arith
+rule-short Segment i o f =
+    omega (arith, length-append o (take (segment i) i), length-append (take (segment i) i) (drop (segment i) i), ap length (take-append-drop (segment i) i))
+
+turns-short : (n : ℕ) (o i : Text) → length (turns n (buffers o i) .out) ≤ length o + length i
+unfolding turns
+turns-short zero o i = omega arith
+turns-short (suc n) o i =
+    subst (λ (b : Buffers). length (turns n b .out) ≤ length o + length i) (sym (turn-rule o i))
+    (omega (arith, turns-short n (out-after (rule i) i o) (in-after (rule i) i), rule-short (rule i) i o (found i)))
+
+-- Dot segments go, and nothing comes.
+dots-short : (path : Text) → length (remove-dot-segments path) ≤ length path
+unfolding remove-dot-segments
+dots-short path = omega (arith, turns-short (length path) [] path)
+
+parts-of : Text → Text → Text → Text → Parts
+parts-of a p q f = record { authority = a; path = p; query = q; fragment = f }
+
+path-short : (sch a q f p p′ : Text) → length p ≤ length p′ → length (recompose sch (parts-of a p q f)) ≤ length (recompose sch (parts-of a p′ q f))
+unfolding recompose parts-of
+path-short sch a q f p p′ h = simp length-append (omega arith)
+
+transform-short : (sch : Text) (base r : Parts) → length (recompose sch (transform remove-dot-segments base r)) ≤ length (recompose sch (transform (λ path. path) base r))
+unfolding transform parts-of
+transform-short sch base r =
+    by (defined (r .authority)) (λ e. rw e (path-short sch (r .authority) (r .query) (r .fragment) (remove-dot-segments (r .path)) (r .path) (dots-short (r .path))))
+    (λ e.
+    by (empty (r .path)) (λ f. rw (e, f) (le-refl _))
+    (λ f.
+    by (begins (ascii "/") (r .path)) (λ g. rw (e, f, g) (path-short sch (base .authority) (r .query) (r .fragment) (remove-dot-segments (r .path)) (r .path) (dots-short (r .path))))
+    (λ g. rw (e, f, g) (path-short sch (base .authority) (r .query) (r .fragment) (remove-dot-segments (merge base (r .path))) (merge base (r .path)) (dots-short (merge base (r .path)))))))
+
+resolve-short : (base r : Text) → length (resolve base r) ≤ length (resolve-with-dots base r)
+unfolding resolve resolve-with-dots resolve-by
+resolve-short base r = transform-short (scheme base) (parts (after-scheme base)) (parts r)
+
+-- What 11 says of an IRI that a statement names.
+by-kind : (a b s : Bool) (p : ℕ) (ref dotted res joined : Text) → length res ≤ length dotted
+    → (((a || false) && (ltb iri-limit (length ref) || (not s && ltb iri-limit (length dotted)))) || (b && not false && ltb iri-limit (length joined)) || (false && ltb 64 p)) ≡ false
+    → (a || b) ≡ true → length (cond (a || false) (cond s ref res) joined) ≤ iri-limit
+by-kind true b true p ref dotted res joined l h k = by (ltb iri-limit (length ref)) (λ e. contrary (rw e at h)) (λ e. ltb-false iri-limit (length ref) e)
+by-kind true b false p ref dotted res joined l h k =
+    by (ltb iri-limit (length ref)) (λ e. contrary (rw e at h))
+    (λ e. by (ltb iri-limit (length dotted)) (λ f. contrary (rw (e, f) at h)) (λ f. omega (arith, ltb-false iri-limit (length dotted) f)))
+by-kind false true s p ref dotted res joined l h k = by (ltb iri-limit (length joined)) (λ e. contrary (rw e at h)) (λ e. ltb-false iri-limit (length joined) e)
+by-kind false false s p ref dotted res joined l h k = contrary (sym k)
+
+iri-short : (e : Environment) (t : Token) → too-long (awaiting nothing e) t ≡ false → among iris (t .kind) ≡ true → length (iri-of e t) ≤ iri-limit
+unfolding too-long iri-of resolved-reference resolved
+iri-short e t h k =
+    by-kind (eqb (kind-code IRIREF) (kind-code (t .kind))) (has-kind names t) (has-scheme (reference t)) (length (prefix t)) (reference t) (resolve-with-dots (e .base) (reference t)) (resolve (e .base) (reference t))
+    (joined-name e t) (resolve-short (e .base) (reference t)) h k
+
+-- ---- Tokens
+
+-- How many bytes of a token are left.
+left-of : Cutting → ℕ
+left-of between = 0
+left-of comment = 0
+left-of (inside k) = k
+
+left-passed : (k : ℕ) → left-of (passed k) ≡ k
+unfolding left-of
+left-passed zero = refl
+left-passed (suc k) = refl
+
+left-comment : (c : ℕ) → left-of (in-comment c) ≡ 0
+unfolding left-of
+left-comment c = by (line-end c) (λ e. rw e) (λ e. rw e)
+
+left-sharp : (b : Bool) → left-of (cond b comment between) ≡ 0
+unfolding left-of
+left-sharp true = refl
+left-sharp false = refl
+
+abbrev bytes-of : List Token → ℕ
+bytes-of [] = 0
+bytes-of (t ∷ ts) = length (t .text) + bytes-of ts
+
+-- The tokens from a place on are no more than the code points from there on, and together no longer than the document from there on.
+record Cut (doc : Text) (from points : ℕ) (ts : List Token) : Type 0 where
+  count : length ts ≤ points
+  bytes : bytes-of ts ≤ length doc - from
+
+cut-from : (doc : Text) (state : Cutting) (at : ℕ) (cs : List ℕ) → Cut doc (at + left-of state) (length cs) (tokens-of (lexemes-from doc state at cs))
+unfolding lexemes-from tokens-of left-of
+cut-from doc state at [] = record { count = omega arith; bytes = omega arith }
+cut-from doc (inside k) at (c ∷ cs) =
+    let h = cut-from doc (passed (k - width c)) (at + width c) cs in
+    record { count = omega (arith, h .count); bytes = omega (arith, h .bytes, left-passed (k - width c)) }
+cut-from doc comment at (c ∷ cs) =
+    let h = cut-from doc (in-comment c) (at + width c) cs in
+    record { count = omega (arith, h .count); bytes = omega (arith, h .bytes, left-comment c) }
+cut-from doc between at (c ∷ cs) =
+    here (white-space c || is "#" c) (token-at (c ∷ cs)) (cut-from doc (cond (is "#" c) comment between) (at + 1) cs) (λ n. cut-from doc (passed (n - width c)) (at + width c) cs)
+  where
+    here : (b : Bool) (o : Match) → Cut doc (at + 1 + left-of (cond (is "#" c) comment between)) (length cs) (tokens-of (lexemes-from doc (cond (is "#" c) comment between) (at + 1) cs))
+        → ((n : ℕ) → Cut doc (at + width c + left-of (passed (n - width c))) (length cs) (tokens-of (lexemes-from doc (passed (n - width c)) (at + width c) cs)))
+        → Cut doc (at + 0) (length (c ∷ cs))
+        (tokens-of
+        (elim b [
+          | true ↦ lexemes-from doc (cond (is "#" c) comment between) (at + 1) cs
+          | false ↦
+              elim o [
+                | no-match ↦ unreadable at ∷ []
+                | hit k n ↦
+                    token (record { kind = kind-of-code k; start = at; text = take n (drop at doc) })
+                    ∷ lexemes-from doc (passed (n - width c)) (at + width c) cs
+              ]
+        ]))
+    here true o h f = record { count = omega (arith, h .count); bytes = omega (arith, h .bytes, left-sharp (is "#" c)) }
+    here false no-match h f = record { count = omega arith; bytes = omega arith }
+    here false (hit k n) h f =
+        let g = f n in
+        let (p, q) = take-short n (drop at doc) in
+        record { count = omega (arith, g .count); bytes = omega (arith, g .bytes, left-passed (n - width c), p, q, length-drop at doc) }
+
+decode-count : (k : ℕ) (s : Text) → length (decode-from k s) ≤ length s
+unfolding decode-from
+decode-count zero [] = omega arith
+decode-count (suc k) [] = omega arith
+decode-count zero (b ∷ s) = let h = decode-count (pred (sequence-size (b ∷ s))) s in omega arith
+decode-count (suc k) (b ∷ s) = let h = decode-count k s in omega arith
+
+-- A document has no more tokens than bytes, and they are together no longer than it.
+pub token-count : (doc : Text) → length (tokens-of (lexemes doc)) ≤ length doc
+unfolding lexemes decode left-of
+token-count doc = let h = cut-from doc between 0 (decode-from 0 doc) .count in let g = decode-count 0 doc in omega arith
+
+pub token-bytes : (doc : Text) → bytes-of (tokens-of (lexemes doc)) ≤ length doc
+unfolding lexemes decode left-of
+token-bytes doc = let h = cut-from doc between 0 (decode-from 0 doc) .bytes in omega arith
+
+-- ---- Room
+
+-- What a document of n bytes can need.
+abbrev pub room-for : ℕ → Room
+room-for n = record { rows = 2 * n; terms = 2 * n + 9; store = 1025 * n + 386 }
+
+-- What is written, and what the tokens ts can add to it, is within the room.
+record Within (room : Room) (s : State) (ts : List Token) : Type 0 where
+  rows : length (s .memory .rows) + 2 * length ts ≤ room .rows
+  terms : weight one (s .memory .terms) + 2 * length ts ≤ room .terms
+  store : weight size (s .memory .terms) + waiting-open (s .open-now) + (iri-limit * length ts + bytes-of ts) ≤ room .store
+
+within-start : (doc base : Text) → Within (room-for (length doc)) (start-state base) (tokens-of (lexemes doc))
+within-start doc base =
+    record {
+      rows = omega (arith, token-count doc);
+      terms = omega (arith, token-count doc, first-count);
+      store = omega (arith, token-count doc, token-bytes doc, first-size);
+    }
+
+within-fits : {room : Room} {s : State} {ts : List Token} → Within room s ts → Fits room (s .memory)
+within-fits {s = s} x =
+    record {
+      rows = omega (arith, x .rows);
+      terms = omega (arith, x .terms, count-weight (s .memory .terms));
+      store = omega (arith, x .store, size-weight (s .memory .terms));
+    }
+
+-- A token that 11 does not refuse keeps within it.
+within-step : {room : Room} (mode : Mode) (s : State) (t : Token) (ts : List Token) (tied : Bool) (w : Write Open) → find-rule (t .kind) (rules t tied mode (s .open-now)) ≡ some w
+    → too-long (in-force-now s) t ≡ false → Within room s (t ∷ ts) → Within room (obeyed (some w) t s) ts
+within-step mode s t ts tied w e h x =
+    let m = s .memory in
+    let short : (o : Open) → s .open-now ≡ o → (fs : List Frame) → o ≡ statement fs → among iris (t .kind) ≡ true → length (iri-of (m .environment) t) ≤ iri-limit =
+    λ o p fs q. iri-short (m .environment) t (ap (λ y. too-long (awaiting (awaited-by y) (m .environment)) t) (sym (p ∙ q)) ∙ h) in
+    let l = light-rule t tied m mode (s .open-now) w e (short (s .open-now) refl) in
+    record {
+      rows = omega (arith, x .rows, two-rows t tied mode m (s .open-now) w e);
+      terms = omega (arith, x .terms, l .terms);
+      store = omega (arith, x .store, l .bytes);
+    }
+
+-- Rooms that cannot be told apart by what fits within a third.
+pub record Alike (most a b : Room) : Type 0 where
+  pub rows : (k : ℕ) → k ≤ most .rows → ltb (a .rows) k ≡ ltb (b .rows) k
+  pub terms : (k : ℕ) → k ≤ most .terms → ltb (a .terms) k ≡ ltb (b .terms) k
+  pub store : (k : ℕ) → k ≤ most .store → ltb (a .store) k ≡ ltb (b .store) k
+
+room-tests : Room → Memory → List Test
+room-tests room m = 14 when ltb (room .rows) (length (m .rows)) ∷ 15 when ltb (room .terms) (length (m .terms)) ∷ 16 when ltb (room .store) (store-size (m .terms)) ∷ []
+
+same-room : {most a b : Room} → Alike most a b → (m : Memory) → Fits most m → first-refusal (room-tests a m) ≡ first-refusal (room-tests b m)
+unfolding room-tests
+same-room x m f = rw (x .rows (length (m .rows)) (f .rows), x .terms (length (m .terms)) (f .terms), x .store (store-size (m .terms)) (f .store))
+
+module _ (mode : Mode) (n : ℕ) {most a b : Room} (alike : Alike most a b) where
+  same-run : (ls : List Lexeme) (s : State) → Within most s (tokens-of ls) → run mode a n ls s ≡ run mode b n ls s
+  unfolding run step tokens-of room-tests
+  same-run [] s x = refl
+  same-run (unreadable p ∷ ls) s x = refl
+  same-run (token t ∷ ls) s x = go (find-rule (t .kind) (rules t (tied-to ls) mode (s .open-now))) refl (λ s′ y. same-run ls s′ y)
+    where
+      after : Room → State → Option ℕ → Outcome
+      after room s′ o = onward (λ s″. run mode room n ls s″) (answer o (t .start) s′)
+
+      -- A test that holds refuses in both rooms.
+      past : (s′ : State) (c : ℕ) (p : Bool) (xs ys : List Test) → (p ≡ false → after a s′ (first-refusal xs) ≡ after b s′ (first-refusal ys))
+          → after a s′ (first-refusal (c when p ∷ xs)) ≡ after b s′ (first-refusal (c when p ∷ ys))
+      past s′ c true xs ys f = refl
+      past s′ c false xs ys f = f refl
+
+      same-after : (s′ : State) → run mode a n ls s′ ≡ run mode b n ls s′ → (o : Option ℕ) → after a s′ o ≡ after b s′ o
+      same-after s′ e none = e
+      same-after s′ e (some c) = refl
+
+      go : (r : Option (Write Open)) → find-rule (t .kind) (rules t (tied-to ls) mode (s .open-now)) ≡ r → ((s′ : State) → Within most s′ (tokens-of ls) → run mode a n ls s′ ≡ run mode b n ls s′)
+          → after a (obeyed r t s) (first-refusal (tests a s t r (obeyed r t s))) ≡ after b (obeyed r t s) (first-refusal (tests b s t r (obeyed r t s)))
+      go none e f = past s 7 (no-character t) (drop 1 (tests a s t none s)) (drop 1 (tests b s t none s)) (λ _. refl)
+      go (some w) e f =
+          let s′ = obeyed (some w) t s in
+          let xs = tests a s t (some w) s′ in
+          let ys = tests b s t (some w) s′ in
+          past s′ 7 (no-character t) (drop 1 xs) (drop 1 ys)
+          (λ _.
+          past s′ 9 (undeclared (in-force-now s) t) (drop 3 xs) (drop 3 ys)
+          (λ _.
+          past s′ 10 (no-base (in-force-now s) t) (drop 4 xs) (drop 4 ys)
+          (λ _.
+          past s′ 11 (too-long (in-force-now s) t) (drop 5 xs) (drop 5 ys)
+          (λ h.
+          past s′ 12 (one-prefix-more (in-force-now s)) (drop 6 xs) (drop 6 ys)
+          (λ _.
+          past s′ 13 (too-deep (s .depth) t) (drop 7 xs) (drop 7 ys)
+          (λ _.
+          let y = within-step mode s t (tokens-of ls) (tied-to ls) w e h x in
+          ap (after a s′) (same-room alike (s′ .memory) (within-fits y)) ∙ same-after s′ (f s′ y) (first-refusal (drop 7 ys))))))))
+
+-- Room past what the document can need changes nothing.
+pub room-past : (mode : Mode) (doc base : Text) {a b : Room} → Alike (room-for (length doc)) a b
+    → run mode a (length doc) (lexemes doc) (start-state base) ≡ run mode b (length doc) (lexemes doc) (start-state base)
+room-past mode doc base x = same-run mode (length doc) x (lexemes doc) (start-state base) (within-start doc base)
+
+-- ---- What is accepted
+
+module _ (doc : Text) (mode : ℕ) (base : Text) (lent : Lent) (x : Meets doc mode base lent) where
+  abbrev made : Memory
+  made = tables (mode-of mode) (x .derivation .0) base
+
+  -- It needs no more than that: in a room that has at least as much it is accepted, so in this one too.
+  pub sizes : Fits (room-for (length doc)) made
+  sizes =
+      let n = length doc in
+      let large : Room = record { rows = 2 * n + length (made .rows); terms = 2 * n + 9 + length (made .terms); store = 1025 * n + 386 + store-size (made .terms) } in
+      let fits : Fits large made = record { rows = omega arith; terms = omega arith; store = omega arith } in
+      let within : (k i j : ℕ) → k ≤ i → ltb i k ≡ ltb (i + j) k = λ k i j h. le-ltb i k h ∙ sym (le-ltb (i + j) k (omega arith)) in
+      let alike : Alike (room-for n) (room-for n) large =
+      record {
+        rows = λ k h. within k (2 * n) (length (made .rows)) h;
+        terms = λ k h. within k (2 * n + 9) (length (made .terms)) h;
+        store = λ k h. within k (1025 * n + 386) (store-size (made .terms)) h;
+      } in
+      accepted-fair (mode-of mode) (room-for n) base n (lexemes doc) [] (start-state base) made (start-tracks base) (start-fits (room-for n) base)
+      (room-past (mode-of mode) doc base alike ∙ meets-run doc mode base lent large x fits) .1
+
+  -- "A document of n bytes makes at most 2n rows."
+  pub rows-at-most : length (made .rows) ≤ 2 * length doc
+  rows-at-most = sizes .rows
+
+  pub terms-at-most : length (made .terms) ≤ 2 * length doc + 9
+  terms-at-most = sizes .terms
+
+  pub store-at-most : store-size (made .terms) ≤ 1025 * length doc + 386
+  store-at-most = sizes .store
