@@ -1,97 +1,42 @@
 -- What a document of n bytes can need: 2n rows, 2n + 9 terms and 1,025n + 386 bytes of the store. A token makes two rows and two terms at the most, besides the
 -- nine IRIs that the language itself writes, and stores one IRI at the most; no two tokens begin with the same byte, and none overlap.
-use mathlib.Core.Path.{_≡_, refl, sym, ap, _∙_, subst}
-use mathlib.Core.List.{List, [], _∷_, _++_}
+use mathlib.Core.Path.{_≡_, refl, sym, ap, _∙_}
+use mathlib.Core.List.{List, [], _∷_}
 use mathlib.Core.Bool.{Bool, true, false, not, _&&_, _||_}
 use mathlib.Core.Option.{Option, none, some}
 use Prim.Native.Nat.{ℕ, zero, suc, pred, _+_, _*_, _-_, _≤_}
-use native.Mathlib.Nat.{le-refl}
 use native.Mathlib.Omega.{arith}
 use borrow.Author.Tests.{ltb-false, le-ltb}
 use lib.Dec.{eqb, ltb}
-use lib.ListN.{length, take, drop, length-append, length-drop, take-append-drop}
-use Rattle.text.specs.Text.{Text, ascii, cond, empty, is, begins, some-byte}
+use lib.ListN.{length, take, drop, length-drop}
+use Rattle.text.specs.Text.{Text, cond, is}
 use Rattle.text.proofs.Compare.{by, contrary}
-use Rattle.limits.specs.Limits.{document-limit, iri-limit}
+use Rattle.limits.specs.Limits.{iri-limit}
 use Rattle.utf8.specs.Utf8.{decode-from, decode, sequence-size, width}
 use Rattle.token.specs.Regular.{Match, nothing as no-match, hit}
 use Rattle.token.specs.Terminals.{token-at}
 use Rattle.token.specs.Kind.{kind-code, kind-of-code, among, names, iris, IRIREF}
 use Rattle.token.specs.Tokens.{Token, has-kind, Lexeme, token, unreadable, Cutting, between, comment, inside, white-space, line-end, in-comment, passed, lexemes-from, lexemes, tokens-of}
-use Rattle.iri.specs.Iri.{has-scheme, scheme, after-scheme}
-use Rattle.iri.specs.Dots.{Buffers, buffers, without-last-segment, turn, turns, remove-dot-segments}
-use Rattle.iri.specs.Resolve.{Parts, parts, merge, defined, transform, recompose, resolve-by, resolve, resolve-with-dots, resolved}
-use Rattle.iri.specs.Code.{rule, segment}
-use Rattle.iri.specs.declared.Rule.{Rule}
-use Rattle.iri.specs.declared.Rule.the-variants.{UpSlash, HereSlash, SlashHere, SlashHereEnd, SlashUp, SlashUpEnd, Dots, Segment}
-use Rattle.iri.proofs.Turns.{in-after, out-after, turn-rule, Found, found}
+use Rattle.iri.specs.Iri.{has-scheme}
+use Rattle.iri.specs.Resolve.{resolve, resolve-with-dots, resolved}
+use Rattle.iri.proofs.Lengths.{resolve-short}
 use Rattle.grammar.specs.Productions.{Mode}
 use Rattle.scope.specs.Environment.{Environment}
 use Rattle.dataset.specs.Constructors.{nothing, awaiting, prefix, reference, resolved-reference, joined-name, iri-of}
 use Rattle.table.specs.Tables.{store-size}
 use Rattle.machine.specs.Memory.{Memory, Write}
-use Rattle.machine.specs.Frame.{Frame, Open, directive, statement}
+use Rattle.machine.specs.Frame.{Frame, Open, statement}
 use Rattle.machine.specs.Rules.{find-rule, rules}
-use Rattle.machine.specs.Refusals.{long-resolved, no-character, undeclared, no-base, too-long, one-prefix-more, too-deep}
-use Rattle.machine.specs.Step.{Room, State, awaited-by, in-force-now, Test, _when_, first-refusal, answer, obeyed, tests, step, tied-to, Outcome, accepted, refused, onward, run}
+use Rattle.machine.specs.Refusals.{no-character, undeclared, no-base, too-long, one-prefix-more, too-deep}
+use Rattle.machine.specs.Step.{Room, State, awaited-by, in-force-now, Test, _when_, first-refusal, answer, obeyed, tests, step, tied-to, Outcome, onward, run}
 use Rattle.machine.specs.Read.{Lent, mode-of, start-state}
 use Rattle.machine.specs.Construction.{tables}
 use Rattle.machine.specs.Demand.{Fits, Meets}
 use Rattle.machine.proofs.Extends.{two-rows}
 use Rattle.machine.proofs.Demands.{start-tracks, start-fits, accepted-fair, meets-run}
-use Rattle.machine.proofs.Weights.{one, size, weight, take-short, waiting, waiting-open, Light, light-rule, count-weight, size-weight, first-count, first-size}
+use Rattle.machine.proofs.Weights.{one, size, weight, take-short, waiting-open, light-rule, count-weight, size-weight, first-count, first-size}
 
--- ---- An IRI that is not too long
-
-without-short : (o : Text) → length (without-last-segment o) ≤ length o
-unfolding without-last-segment
-without-short [] = omega arith
-without-short (c ∷ s) = by (some-byte (is "/") s) (λ e. rw e (omega (arith, without-short s))) (λ e. rw e (omega arith))
-
-rule-short : (r : Rule) (i o : Text) → Found i r → length (out-after r i o) + length (in-after r i) ≤ length o + length i
-unfolding in-after out-after
-rule-short UpSlash i o f = omega (arith, length-drop 3 i)
-rule-short HereSlash i o f = omega (arith, length-drop 2 i)
-rule-short SlashHere i o f = omega (arith, length-drop 2 i)
-rule-short SlashHereEnd i o f = omega (arith, ap length f)
-rule-short SlashUp i o f = omega (arith, length-drop 3 i, without-short o)
-rule-short SlashUpEnd i o f = omega (arith, ap length f, without-short o)
-rule-short Dots i o f = omega arith
-rule-short Segment i o f =
-    omega (arith, length-append o (take (segment i) i), length-append (take (segment i) i) (drop (segment i) i), ap length (take-append-drop (segment i) i))
-
-turns-short : (n : ℕ) (o i : Text) → length (turns n (buffers o i) .out) ≤ length o + length i
-unfolding turns
-turns-short zero o i = omega arith
-turns-short (suc n) o i =
-    subst (λ (b : Buffers). length (turns n b .out) ≤ length o + length i) (sym (turn-rule o i))
-    (omega (arith, turns-short n (out-after (rule i) i o) (in-after (rule i) i), rule-short (rule i) i o (found i)))
-
--- Dot segments go, and nothing comes.
-dots-short : (path : Text) → length (remove-dot-segments path) ≤ length path
-unfolding remove-dot-segments
-dots-short path = omega (arith, turns-short (length path) [] path)
-
-parts-of : Text → Text → Text → Text → Parts
-parts-of a p q f = record { authority = a; path = p; query = q; fragment = f }
-
-path-short : (sch a q f p p′ : Text) → length p ≤ length p′ → length (recompose sch (parts-of a p q f)) ≤ length (recompose sch (parts-of a p′ q f))
-unfolding recompose parts-of
-path-short sch a q f p p′ h = simp length-append (omega arith)
-
-transform-short : (sch : Text) (base r : Parts) → length (recompose sch (transform remove-dot-segments base r)) ≤ length (recompose sch (transform (λ path. path) base r))
-unfolding transform parts-of
-transform-short sch base r =
-    by (defined (r .authority)) (λ e. rw e (path-short sch (r .authority) (r .query) (r .fragment) (remove-dot-segments (r .path)) (r .path) (dots-short (r .path))))
-    (λ e.
-    by (empty (r .path)) (λ f. rw (e, f) (le-refl _))
-    (λ f.
-    by (begins (ascii "/") (r .path)) (λ g. rw (e, f, g) (path-short sch (base .authority) (r .query) (r .fragment) (remove-dot-segments (r .path)) (r .path) (dots-short (r .path))))
-    (λ g. rw (e, f, g) (path-short sch (base .authority) (r .query) (r .fragment) (remove-dot-segments (merge base (r .path))) (merge base (r .path)) (dots-short (merge base (r .path)))))))
-
-resolve-short : (base r : Text) → length (resolve base r) ≤ length (resolve-with-dots base r)
-unfolding resolve resolve-with-dots resolve-by
-resolve-short base r = transform-short (scheme base) (parts (after-scheme base)) (parts r)
+-- ---- Tokens that 11 does not refuse
 
 -- What 11 says of an IRI that a statement names.
 by-kind : (a b s : Bool) (p : ℕ) (ref dotted res joined : Text) → length res ≤ length dotted

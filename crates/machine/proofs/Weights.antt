@@ -1,6 +1,6 @@
 -- What a token writes, by weight: two terms at the most, and the bytes of one IRI and of texts that stand in the document. The nine IRIs that the
 -- language itself writes are weighed once for the whole document: as terms, or as owed.
-use mathlib.Core.Path.{_≡_, refl, sym, ap, _∙_, subst}
+use mathlib.Core.Path.{_≡_, refl, ap, _∙_, subst}
 use mathlib.Core.Logic.{⊎-elim}
 use mathlib.Core.List.{List, [], _∷_, _++_}
 use mathlib.Core.Bool.{Bool, true, false, _||_}
@@ -19,15 +19,15 @@ use Rattle.escape.proofs.Walk.{unescape-short}
 use Rattle.grammar.specs.Productions.{Mode, trig, turtle}
 use Rattle.scope.specs.Environment.{Environment}
 use Rattle.dataset.specs.Terms.{Term, label, bracket as bracket-node, cell, iri, blank, literal, tagged, rdf-type, rdf-first, rdf-rest, rdf-nil, xsd-string, xsd-integer, xsd-decimal, xsd-double, xsd-boolean}
-use Rattle.dataset.specs.Constructors.{inner, string-text, tag, node-label, prefix, iri-of}
-use Rattle.table.specs.Tables.{number-from, number, text-of, tag-of, term-bytes, store-size}
+use Rattle.dataset.specs.Constructors.{inner, string-text, tag, node-label, iri-of}
+use Rattle.table.specs.Tables.{number-from, number, text-of, tag-of, store-size}
 use Rattle.table.proofs.Numbers.{not-none}
 use Rattle.table.proofs.Finding.{number-more, number-last}
-use Rattle.machine.specs.Memory.{Memory, Write, return, _>>=_, _>>_, Done, done, term, term-by, new-term, typed, typed-by, iri-term, row, enter, declare-prefix, declare-base}
+use Rattle.machine.specs.Memory.{Memory, Write, return, _>>=_, _>>_, done, term, term-by, new-term, typed, typed-by, iri-term, row, enter}
 use Rattle.machine.specs.Frame.{Ending, full-stop, brace, bracket-end, Place, top, subject-before, object-of, element-of, Cells, no-cell, cells, Frame, graph-label, closing-label, graph-body, label-or-subject, triples-or-end, verb, verb-or-end, object, after-object, after-semicolon, bracket, list, suffix, datatype, Directive, prefix-name, namespace-of, new-base, last-dot, Open, directive, statement}
 use Rattle.machine.specs.Rules.{Rule, _⇒_, find-rule, hold, new-cell, extended, end-list, after-node, after-properties, list-place, Opening, end-rules, verb-rules, subject-rules, simple, string, object-rules, frame-rules, directive-rules, above, statement-rules, rules}
 use Rattle.machine.proofs.Made.{first-or-later}
-use Rattle.machine.proofs.Extends.{adds-new-term, adds-term, adds-row}
+use Rattle.machine.proofs.Extends.{adds-term}
 
 -- ---- Weights
 
@@ -296,25 +296,44 @@ module _ (t : Token) (tied : Bool) (e : Environment) (short : among iris (t .kin
   for-iris : {q : ℕ} {w : Write (List Frame)} {rs : List (Rule (List Frame))} → (length (iri-of e t) ≤ iri-limit → Modest t e q w) → Modests t e q rs → Modests t e q ((iris ⇒ w) ∷ rs)
   for-iris f r = rule (λ k. f (short k)) r
 
+  -- What writes no term, and waits for nothing.
+  opens : {q : ℕ} (fs : List Frame) → waiting fs ≡ 0 → Modest t e q (return fs)
+  opens fs z = modest (grows-return fs) (omega arith) (λ m. omega arith)
+
+  enters : {q : ℕ} (g : ℕ) (fs : List Frame) → waiting fs ≡ 0 → Modest t e q (enter g >> return fs)
+  enters g fs z = modest (grows-then (grows-enter g) (grows-return fs)) (omega arith) (λ m. omega arith)
+
+  -- What writes one term.
+  modest-iri : {q : ℕ} (after : ℕ → List Frame) → ((p : ℕ) → waiting (after p) ≡ 0) → length (iri-of e t) ≤ iri-limit → Modest t e q (iri-term t >>= λ p. return (after p))
+  modest-iri after z h = modest (grows-bind (grows-iri t) (λ p. grows-return (after p))) (omega arith) (λ m. omega (arith, z (iri-term t m .0)))
+
+  modest-label : {q : ℕ} (after : ℕ → List Frame) → ((p : ℕ) → waiting (after p) ≡ 0) → Modest t e q (term (blank (label (node-label t))) >>= λ p. return (after p))
+  modest-label after z =
+      modest (grows-bind (grows-term (blank (label (node-label t)))) (λ p. grows-return (after p))) (omega arith) (λ m. omega (arith, label-short t, z (term (blank (label (node-label t))) m .0)))
+
+  modest-bracket : {q : ℕ} (after : ℕ → List Frame) → ((p : ℕ) → waiting (after p) ≡ 0) → Modest t e q (new-term (blank (bracket-node (t .start))) >>= λ p. return (after p))
+  modest-bracket after z =
+      modest (grows-bind (grows-new (blank (bracket-node (t .start)))) (λ p. grows-return (after p))) (omega arith) (λ m. omega (arith, z (new-term (blank (bracket-node (t .start))) m .0)))
+
   modest-end : (x : Ending) → Modests t e 0 (end-rules t tied x)
-  modest-end full-stop = always (modest (grows-return []) (omega arith) (λ m. omega arith)) no-rule
+  modest-end full-stop = always (opens [] refl) no-rule
   modest-end brace =
-      always (modest (grows-return (triples-or-end ∷ [])) (omega arith) (λ m. omega arith))
-      (always (modest (grows-then (grows-enter 0) (grows-return [])) (omega arith) (λ m. omega arith)) no-rule)
-  modest-end bracket-end = always (modest (grows-return []) (omega arith) (λ m. omega arith)) no-rule
+      always (opens (triples-or-end ∷ []) refl)
+      (always (enters 0 [] refl) no-rule)
+  modest-end bracket-end = always (opens [] refl) no-rule
 
   modest-verb : (after : ℕ → List Frame) → ((p : ℕ) → waiting (after p) ≡ 0) → Modests t e 0 (verb-rules t tied after)
   unfolding listed same-text
   modest-verb after z =
-      for-iris (λ h. modest (grows-bind (grows-iri t) (λ p. grows-return (after p))) (omega arith) (λ m. omega (arith, z (iri-term t m .0))))
+      for-iris (modest-iri after z)
       (always (modest (grows-bind (grows-supplied rdf-type tt) (λ p. grows-return (after p))) (omega arith) (λ m. omega (arith, z (term (iri rdf-type) m .0)))) no-rule)
 
   modest-subject : (q : Place) → Modests t e 0 (subject-rules t tied q)
   modest-subject q =
-      for-iris (λ h. modest (grows-bind (grows-iri t) (λ n. grows-return (after-node q n))) (omega arith) (λ m. omega (arith, none-after-node q (iri-term t m .0))))
-      (always (modest (grows-bind (grows-term (blank (label (node-label t)))) (λ n. grows-return (after-node q n))) (omega arith) (λ m. omega (arith, label-short t, none-after-node q (term (blank (label (node-label t))) m .0))))
-      (always (modest (grows-bind (grows-new (blank (bracket-node (t .start)))) (λ n. grows-return (bracket q n ∷ []))) (omega arith) (λ m. omega arith))
-      (always (modest (grows-return (list (list-place q) (t .start) no-cell ∷ [])) (omega arith) (λ m. omega arith)) no-rule)))
+      for-iris (modest-iri (after-node q) (none-after-node q))
+      (always (modest-label (after-node q) (none-after-node q))
+      (always (modest-bracket (λ n. bracket q n ∷ []) (λ n. refl))
+      (always (opens (list (list-place q) (t .start) no-cell ∷ []) refl) no-rule)))
 
   module _ {begin : Write Opening} (b : Begins e begin) where
     -- A node that costs one term, with the bytes that it may have.
@@ -348,26 +367,26 @@ module _ (t : Token) (tied : Bool) (e : Environment) (short : among iris (t .kin
 
   modest-frame : (f : Frame) → Modests t e (waiting-in f) (frame-rules t tied f)
   modest-frame graph-label =
-      for-iris (λ h. modest (grows-bind (grows-iri t) (λ g. grows-return (graph-body g ∷ []))) (omega arith) (λ m. omega arith))
-      (always (modest (grows-bind (grows-term (blank (label (node-label t)))) (λ g. grows-return (graph-body g ∷ []))) (omega arith) (λ m. omega (arith, label-short t)))
-      (always (modest (grows-bind (grows-new (blank (bracket-node (t .start)))) (λ g. grows-return (closing-label g ∷ []))) (omega arith) (λ m. omega arith)) no-rule))
-  modest-frame (closing-label g) = always (modest (grows-return (graph-body g ∷ [])) (omega arith) (λ m. omega arith)) no-rule
-  modest-frame (graph-body g) = always (modest (grows-then (grows-enter g) (grows-return (triples-or-end ∷ []))) (omega arith) (λ m. omega arith)) no-rule
+      for-iris (modest-iri (λ g. graph-body g ∷ []) (λ g. refl))
+      (always (modest-label (λ g. graph-body g ∷ []) (λ g. refl))
+      (always (modest-bracket (λ g. closing-label g ∷ []) (λ g. refl)) no-rule))
+  modest-frame (closing-label g) = always (opens (graph-body g ∷ []) refl) no-rule
+  modest-frame (graph-body g) = always (enters g (triples-or-end ∷ []) refl) no-rule
   modest-frame (label-or-subject n) =
-      always (modest (grows-then (grows-enter n) (grows-return (triples-or-end ∷ []))) (omega arith) (λ m. omega arith)) (modest-verb (λ p. object n p full-stop ∷ []) (λ p. refl))
-  modest-frame triples-or-end = always (modest (grows-then (grows-enter 0) (grows-return [])) (omega arith) (λ m. omega arith)) (modest-subject (subject-before brace))
+      always (enters n (triples-or-end ∷ []) refl) (modest-verb (λ p. object n p full-stop ∷ []) (λ p. refl))
+  modest-frame triples-or-end = always (enters 0 [] refl) (modest-subject (subject-before brace))
   modest-frame (verb s x) = modest-verb (λ p. object s p x ∷ []) (λ p. refl)
   modest-frame (verb-or-end s x) = modests-append (modest-verb (λ p. object s p x ∷ []) (λ p. refl)) (modest-end x)
   modest-frame (object s p x) =
       modest-object
       (record { cost = λ v. 0; grows = grows-return (record { place = object-of s p; after = after-object s p x ∷ [] }); few = omega arith; bytes = refl; after = λ m. refl })
   modest-frame (after-object s p x) =
-      always (modest (grows-return (object s p x ∷ [])) (omega arith) (λ m. omega arith))
-      (always (modest (grows-return (after-semicolon s x ∷ [])) (omega arith) (λ m. omega arith)) (modest-end x))
+      always (opens (object s p x ∷ []) refl)
+      (always (opens (after-semicolon s x ∷ []) refl) (modest-end x))
   modest-frame (after-semicolon s x) =
-      always (modest (grows-return (after-semicolon s x ∷ [])) (omega arith) (λ m. omega arith)) (modests-append (modest-verb (λ p. object s p x ∷ []) (λ p. refl)) (modest-end x))
+      always (opens (after-semicolon s x ∷ []) refl) (modests-append (modest-verb (λ p. object s p x ∷ []) (λ p. refl)) (modest-end x))
   modest-frame (bracket q n) =
-      always (modest (grows-return (after-node q n)) (omega arith) (λ m. omega (arith, none-after-node q n)))
+      always (opens (after-node q n) (none-after-node q n))
       (modest-verb (λ p. object n p bracket-end ∷ after-properties q n) (λ p. omega (arith, none-after-properties q n)))
   modest-frame (list q opened cs) =
       always (modest (grows-bind (grows-end-list q opened cs (t .start)) (λ n. grows-return (after-node q n))) (omega arith) (λ m. omega (arith, none-after-node q (end-list q opened cs (t .start) m .0))))
@@ -387,8 +406,8 @@ module _ (t : Token) (tied : Bool) (e : Environment) (short : among iris (t .kin
 
   modest-statement : (mode : Mode) → Modests t e 0 (statement-rules t tied mode)
   modest-statement trig =
-      always (modest (grows-then (grows-enter 0) (grows-return (triples-or-end ∷ []))) (omega arith) (λ m. omega arith))
-      (always (modest (grows-return (graph-label ∷ [])) (omega arith) (λ m. omega arith)) (modest-subject top))
+      always (enters 0 (triples-or-end ∷ []) refl)
+      (always (opens (graph-label ∷ []) refl) (modest-subject top))
   modest-statement turtle = modest-subject (subject-before full-stop)
 
 -- ---- Every rule
