@@ -1,5 +1,5 @@
--- What a document of n bytes can need: 2n rows, 2n + 9 terms and 1,025n + 386 bytes of the store. A token makes two rows and two terms at the most, besides the
--- nine IRIs that the language itself writes, and stores one IRI at the most; no two tokens begin with the same byte, and none overlap.
+-- What a document of n bytes can need: 2n rows, 2n + 9 terms and 1,025n + 386 bytes of the store. A token makes two rows and two terms at the most, besides
+-- the nine IRIs that the language itself writes, and stores one IRI at the most; the other texts are no longer than their tokens, and no two tokens overlap.
 use mathlib.Core.Path.{_≡_, refl, sym, ap, _∙_}
 use mathlib.Core.List.{List, [], _∷_}
 use mathlib.Core.Bool.{Bool, true, false, not, _&&_, _||_}
@@ -25,10 +25,10 @@ use Rattle.scope.specs.Environment.{Environment}
 use Rattle.dataset.specs.Constructors.{nothing, awaiting, prefix, reference, resolved-reference, joined-name, iri-of}
 use Rattle.table.specs.Tables.{store-size}
 use Rattle.machine.specs.Memory.{Memory, Write}
-use Rattle.machine.specs.Frame.{Frame, Open, statement}
+use Rattle.machine.specs.Frame.{Open}
 use Rattle.machine.specs.Rules.{find-rule, rules}
 use Rattle.machine.specs.Refusals.{no-character, undeclared, no-base, too-long, one-prefix-more, too-deep}
-use Rattle.machine.specs.Step.{Room, State, awaited-by, in-force-now, Test, _when_, first-refusal, answer, obeyed, tests, step, tied-to, Outcome, onward, run}
+use Rattle.machine.specs.Step.{Room, State, in-force-now, Test, _when_, first-refusal, answer, obeyed, tests, step, tied-to, Outcome, onward, run}
 use Rattle.machine.specs.Read.{Lent, mode-of, start-state}
 use Rattle.machine.specs.Construction.{tables}
 use Rattle.machine.specs.Demand.{Fits, Meets}
@@ -36,9 +36,9 @@ use Rattle.machine.proofs.Extends.{two-rows}
 use Rattle.machine.proofs.Demands.{start-tracks, start-fits, accepted-fair, meets-run}
 use Rattle.machine.proofs.Weights.{one, size, weight, take-short, waiting-open, light-rule, count-weight, size-weight, first-count, first-size}
 
--- ---- Tokens that 11 does not refuse
+-- ---- IRIs
 
--- What 11 says of an IRI that a statement names.
+-- An IRI that a statement names is short, where 11 does not refuse it.
 by-kind : (a b s : Bool) (p : ℕ) (ref dotted res joined : Text) → length res ≤ length dotted
     → (((a || false) && (ltb iri-limit (length ref) || (not s && ltb iri-limit (length dotted)))) || (b && not false && ltb iri-limit (length joined)) || (false && ltb 64 p)) ≡ false
     → (a || b) ≡ true → length (cond (a || false) (cond s ref res) joined) ≤ iri-limit
@@ -57,7 +57,7 @@ iri-short e t h k =
 
 -- ---- Tokens
 
--- How many bytes of a token are left.
+-- How many bytes of the last token are left.
 left-of : Cutting → ℕ
 left-of between = 0
 left-of comment = 0
@@ -68,14 +68,9 @@ unfolding left-of
 left-passed zero = refl
 left-passed (suc k) = refl
 
-left-comment : (c : ℕ) → left-of (in-comment c) ≡ 0
-unfolding left-of
-left-comment c = by (line-end c) (λ e. rw e) (λ e. rw e)
-
-left-sharp : (b : Bool) → left-of (cond b comment between) ≡ 0
-unfolding left-of
-left-sharp true = refl
-left-sharp false = refl
+left-cond : (b : Bool) (x y : Cutting) → left-of x ≡ 0 → left-of y ≡ 0 → left-of (cond b x y) ≡ 0
+left-cond true x y p q = p
+left-cond false x y p q = q
 
 abbrev bytes-of : List Token → ℕ
 bytes-of [] = 0
@@ -94,7 +89,7 @@ cut-from doc (inside k) at (c ∷ cs) =
     record { count = omega (arith, h .count); bytes = omega (arith, h .bytes, left-passed (k - width c)) }
 cut-from doc comment at (c ∷ cs) =
     let h = cut-from doc (in-comment c) (at + width c) cs in
-    record { count = omega (arith, h .count); bytes = omega (arith, h .bytes, left-comment c) }
+    record { count = omega (arith, h .count); bytes = omega (arith, h .bytes, left-cond (line-end c) between comment refl refl) }
 cut-from doc between at (c ∷ cs) =
     here (white-space c || is "#" c) (token-at (c ∷ cs)) (cut-from doc (cond (is "#" c) comment between) (at + 1) cs) (λ n. cut-from doc (passed (n - width c)) (at + width c) cs)
   where
@@ -112,7 +107,7 @@ cut-from doc between at (c ∷ cs) =
                     ∷ lexemes-from doc (passed (n - width c)) (at + width c) cs
               ]
         ]))
-    here true o h f = record { count = omega (arith, h .count); bytes = omega (arith, h .bytes, left-sharp (is "#" c)) }
+    here true o h f = record { count = omega (arith, h .count); bytes = omega (arith, h .bytes, left-cond (is "#" c) comment between refl refl) }
     here false no-match h f = record { count = omega arith; bytes = omega arith }
     here false (hit k n) h f =
         let g = f n in
@@ -141,7 +136,7 @@ token-bytes doc = let h = cut-from doc between 0 (decode-from 0 doc) .bytes in o
 abbrev pub room-for : ℕ → Room
 room-for n = record { rows = 2 * n; terms = 2 * n + 9; store = 1025 * n + 386 }
 
--- What is written, and what the tokens ts can add to it, is within the room.
+-- The room holds what is written and all that the tokens ts can add to it. A text that waits for its tag or datatype is counted at its own token.
 record Within (room : Room) (s : State) (ts : List Token) : Type 0 where
   rows : length (s .memory .rows) + 2 * length ts ≤ room .rows
   terms : weight one (s .memory .terms) + 2 * length ts ≤ room .terms
@@ -168,16 +163,14 @@ within-step : {room : Room} (mode : Mode) (s : State) (t : Token) (ts : List Tok
     → too-long (in-force-now s) t ≡ false → Within room s (t ∷ ts) → Within room (obeyed (some w) t s) ts
 within-step mode s t ts tied w e h x =
     let m = s .memory in
-    let short : (o : Open) → s .open-now ≡ o → (fs : List Frame) → o ≡ statement fs → among iris (t .kind) ≡ true → length (iri-of (m .environment) t) ≤ iri-limit =
-    λ o p fs q. iri-short (m .environment) t (ap (λ y. too-long (awaiting (awaited-by y) (m .environment)) t) (sym (p ∙ q)) ∙ h) in
-    let l = light-rule t tied m mode (s .open-now) w e (short (s .open-now) refl) in
+    let l = light-rule t tied m mode (s .open-now) w e (λ p. iri-short (m .environment) t (ap (λ a. too-long (awaiting a (m .environment)) t) (sym p) ∙ h)) in
     record {
       rows = omega (arith, x .rows, two-rows t tied mode m (s .open-now) w e);
       terms = omega (arith, x .terms, l .terms);
       store = omega (arith, x .store, l .bytes);
     }
 
--- Rooms that cannot be told apart by what fits within a third.
+-- Whatever fits within the first room fits both others, or neither.
 pub record Alike (most a b : Room) : Type 0 where
   pub rows : (k : ℕ) → k ≤ most .rows → ltb (a .rows) k ≡ ltb (b .rows) k
   pub terms : (k : ℕ) → k ≤ most .terms → ltb (a .terms) k ≡ ltb (b .terms) k
@@ -232,7 +225,7 @@ module _ (mode : Mode) (n : ℕ) {most a b : Room} (alike : Alike most a b) wher
           let y = within-step mode s t (tokens-of ls) (tied-to ls) w e h x in
           ap (after a s′) (same-room alike (s′ .memory) (within-fits y)) ∙ same-after s′ (f s′ y) (first-refusal (drop 7 ys))))))))
 
--- Room past what the document can need changes nothing.
+-- Room past what the document can need changes no outcome.
 pub room-past : (mode : Mode) (doc base : Text) {a b : Room} → Alike (room-for (length doc)) a b
     → run mode a (length doc) (lexemes doc) (start-state base) ≡ run mode b (length doc) (lexemes doc) (start-state base)
 room-past mode doc base x = same-run mode (length doc) x (lexemes doc) (start-state base) (within-start doc base)
@@ -243,7 +236,7 @@ module _ (doc : Text) (mode : ℕ) (base : Text) (lent : Lent) (x : Meets doc mo
   abbrev made : Memory
   made = tables (mode-of mode) (x .derivation .0) base
 
-  -- It needs no more than that: in a room that has at least as much it is accepted, so in this one too.
+  -- It needs no more than that: it is accepted in a room that is larger, so in this one too.
   pub sizes : Fits (room-for (length doc)) made
   sizes =
       let n = length doc in

@@ -19,13 +19,14 @@ use Rattle.escape.proofs.Walk.{unescape-short}
 use Rattle.grammar.specs.Productions.{Mode, trig, turtle}
 use Rattle.scope.specs.Environment.{Environment}
 use Rattle.dataset.specs.Terms.{Term, label, bracket as bracket-node, cell, iri, blank, literal, tagged, rdf-type, rdf-first, rdf-rest, rdf-nil, xsd-string, xsd-integer, xsd-decimal, xsd-double, xsd-boolean}
-use Rattle.dataset.specs.Constructors.{inner, string-text, tag, node-label, iri-of}
+use Rattle.dataset.specs.Constructors.{nothing, inner, string-text, tag, node-label, iri-of}
 use Rattle.table.specs.Tables.{number-from, number, text-of, tag-of, store-size}
 use Rattle.table.proofs.Numbers.{not-none}
 use Rattle.table.proofs.Finding.{number-more, number-last}
 use Rattle.machine.specs.Memory.{Memory, Write, return, _>>=_, _>>_, done, term, term-by, new-term, typed, typed-by, iri-term, row, enter}
 use Rattle.machine.specs.Frame.{Ending, full-stop, brace, bracket-end, Place, top, subject-before, object-of, element-of, Cells, no-cell, cells, Frame, graph-label, closing-label, graph-body, label-or-subject, triples-or-end, verb, verb-or-end, object, after-object, after-semicolon, bracket, list, suffix, datatype, Directive, prefix-name, namespace-of, new-base, last-dot, Open, directive, statement}
 use Rattle.machine.specs.Rules.{Rule, _⇒_, find-rule, hold, new-cell, extended, end-list, after-node, after-properties, list-place, Opening, end-rules, verb-rules, subject-rules, simple, string, object-rules, frame-rules, directive-rules, above, statement-rules, rules}
+use Rattle.machine.specs.Step.{awaited-by}
 use Rattle.machine.proofs.Made.{first-or-later}
 use Rattle.machine.proofs.Extends.{adds-term}
 
@@ -317,9 +318,7 @@ module _ (t : Token) (tied : Bool) (e : Environment) (short : among iris (t .kin
 
   modest-end : (x : Ending) → Modests t e 0 (end-rules t tied x)
   modest-end full-stop = always (opens [] refl) no-rule
-  modest-end brace =
-      always (opens (triples-or-end ∷ []) refl)
-      (always (enters 0 [] refl) no-rule)
+  modest-end brace = always (opens (triples-or-end ∷ []) refl) (always (enters 0 [] refl) no-rule)
   modest-end bracket-end = always (opens [] refl) no-rule
 
   modest-verb : (after : ℕ → List Frame) → ((p : ℕ) → waiting (after p) ≡ 0) → Modests t e 0 (verb-rules t tied after)
@@ -372,19 +371,15 @@ module _ (t : Token) (tied : Bool) (e : Environment) (short : among iris (t .kin
       (always (modest-bracket (λ g. closing-label g ∷ []) (λ g. refl)) no-rule))
   modest-frame (closing-label g) = always (opens (graph-body g ∷ []) refl) no-rule
   modest-frame (graph-body g) = always (enters g (triples-or-end ∷ []) refl) no-rule
-  modest-frame (label-or-subject n) =
-      always (enters n (triples-or-end ∷ []) refl) (modest-verb (λ p. object n p full-stop ∷ []) (λ p. refl))
+  modest-frame (label-or-subject n) = always (enters n (triples-or-end ∷ []) refl) (modest-verb (λ p. object n p full-stop ∷ []) (λ p. refl))
   modest-frame triples-or-end = always (enters 0 [] refl) (modest-subject (subject-before brace))
   modest-frame (verb s x) = modest-verb (λ p. object s p x ∷ []) (λ p. refl)
   modest-frame (verb-or-end s x) = modests-append (modest-verb (λ p. object s p x ∷ []) (λ p. refl)) (modest-end x)
   modest-frame (object s p x) =
       modest-object
       (record { cost = λ v. 0; grows = grows-return (record { place = object-of s p; after = after-object s p x ∷ [] }); few = omega arith; bytes = refl; after = λ m. refl })
-  modest-frame (after-object s p x) =
-      always (opens (object s p x ∷ []) refl)
-      (always (opens (after-semicolon s x ∷ []) refl) (modest-end x))
-  modest-frame (after-semicolon s x) =
-      always (opens (after-semicolon s x ∷ []) refl) (modests-append (modest-verb (λ p. object s p x ∷ []) (λ p. refl)) (modest-end x))
+  modest-frame (after-object s p x) = always (opens (object s p x ∷ []) refl) (always (opens (after-semicolon s x ∷ []) refl) (modest-end x))
+  modest-frame (after-semicolon s x) = always (opens (after-semicolon s x ∷ []) refl) (modests-append (modest-verb (λ p. object s p x ∷ []) (λ p. refl)) (modest-end x))
   modest-frame (bracket q n) =
       always (opens (after-node q n) (none-after-node q n))
       (modest-verb (λ p. object n p bracket-end ∷ after-properties q n) (λ p. omega (arith, none-after-properties q n)))
@@ -405,9 +400,7 @@ module _ (t : Token) (tied : Bool) (e : Environment) (short : among iris (t .kin
       for-iris (λ h. modest (grows-bind (grows-typed-by s t) (λ n. grows-then (grows-hold q n at) (grows-return []))) (omega arith) (λ m. omega arith)) no-rule
 
   modest-statement : (mode : Mode) → Modests t e 0 (statement-rules t tied mode)
-  modest-statement trig =
-      always (enters 0 (triples-or-end ∷ []) refl)
-      (always (opens (graph-label ∷ []) refl) (modest-subject top))
+  modest-statement trig = always (enters 0 (triples-or-end ∷ []) refl) (always (opens (graph-label ∷ []) refl) (modest-subject top))
   modest-statement turtle = modest-subject (subject-before full-stop)
 
 -- ---- Every rule
@@ -445,10 +438,10 @@ module _ (t : Token) (tied : Bool) (m : Memory) where
 
   -- Where a statement's IRI is not too long, every rule is light.
   pub light-rule : (mode : Mode) (o : Open) (w : Write Open) → find-rule (t .kind) (rules t tied mode o) ≡ some w
-      → ((fs : List Frame) → o ≡ statement fs → among iris (t .kind) ≡ true → length (iri-of (m .environment) t) ≤ iri-limit) → Light t (waiting-open o) m w
+      → (awaited-by o ≡ nothing → among iris (t .kind) ≡ true → length (iri-of (m .environment) t) ≤ iri-limit) → Light t (waiting-open o) m w
   unfolding rules
   light-rule mode (directive d) w x short = light-directive d w x
-  light-rule mode (statement (f ∷ K)) w x short = light-found K (modest-frame t tied (m .environment) (short (f ∷ K) refl) f) w x
+  light-rule mode (statement (f ∷ K)) w x short = light-found K (modest-frame t tied (m .environment) (short refl) f) w x
   light-rule mode (statement []) w x short =
       first-or-later (among (at-prefix ∷ []) (t .kind)) x (λ k y. light-still refl refl y)
       (λ x₁.
@@ -457,7 +450,7 @@ module _ (t : Token) (tied : Bool) (m : Memory) where
       first-or-later (among (at-base ∷ []) (t .kind)) x₂ (λ k y. light-still refl refl y)
       (λ x₃.
       first-or-later (among (BASE ∷ []) (t .kind)) x₃ (λ k y. light-still refl refl y)
-      (λ x₄. light-found [] (modest-statement t tied (m .environment) (short [] refl) mode) w x₄))))
+      (λ x₄. light-found [] (modest-statement t tied (m .environment) (short refl) mode) w x₄))))
 
 -- ---- Weights and counts
 

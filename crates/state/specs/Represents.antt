@@ -27,11 +27,14 @@ pub record Tables : Type 0 where
 abbrev pub tables : List ℕ → List ℕ → Text → Tables
 tables rows terms store = record { rows = rows; terms = terms; store = store }
 
--- The code counts rows, terms and store bytes in 32 bits and looks at the next number before it uses it: room past that is not used.
-abbrev pub counted : ℕ → ℕ
-counted n = cond (leb n 4294967294) n 4294967294
+-- The code counts rows, terms and store bytes in 32 bits, and looks at the next number before it uses it: room past that is not used.
+abbrev pub most-counted : ℕ
+most-counted = 4294967294
 
--- How much room they have, as far as it is counted. No document needs more (proofs/Counted).
+abbrev pub counted : ℕ → ℕ
+counted n = cond (leb n most-counted) n most-counted
+
+-- How much room they have, as far as it is counted. No document within the limit needs more (proofs/Counted).
 abbrev pub room-in : Tables → Room
 room-in t = record { rows = counted (row-room (length (t .rows))); terms = counted (term-room (length (t .terms))); store = counted (length (t .store)) }
 
