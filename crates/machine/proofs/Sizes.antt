@@ -1,5 +1,5 @@
--- What a document of n bytes can need: 2n rows, 2n + 9 terms and 1,025n + 386 bytes of the store. A token makes two rows and two terms at the most, besides
--- the nine IRIs that the language itself writes, and stores one IRI at the most; the other texts are no longer than their tokens, and no two tokens overlap.
+-- A document of n bytes needs at most 2n rows, 2n + 9 terms and 1,025n + 386 bytes of the store. A token makes two rows and two terms at the most, besides the
+-- nine IRIs that the language itself writes, and stores one IRI at the most; the other texts are no longer than their tokens, and no two tokens overlap.
 use mathlib.Core.Path.{_≡_, refl, sym, ap, _∙_}
 use mathlib.Core.List.{List, [], _∷_}
 use mathlib.Core.Bool.{Bool, true, false, not, _&&_, _||_}
@@ -132,7 +132,7 @@ token-bytes doc = let h = cut-from doc between 0 (decode-from 0 doc) .bytes in o
 
 -- ---- Room
 
--- What a document of n bytes can need.
+-- The most that a document of n bytes needs.
 abbrev pub room-for : ℕ → Room
 room-for n = record { rows = 2 * n; terms = 2 * n + 9; store = 1025 * n + 386 }
 
@@ -225,7 +225,7 @@ module _ (mode : Mode) (n : ℕ) {most a b : Room} (alike : Alike most a b) wher
           let y = within-step mode s t (tokens-of ls) (tied-to ls) w e h x in
           ap (after a s′) (same-room alike (s′ .memory) (within-fits y)) ∙ same-after s′ (f s′ y) (first-refusal (drop 7 ys))))))))
 
--- Room past what the document can need changes no outcome.
+-- Room past what the document needs at most changes no outcome.
 pub room-past : (mode : Mode) (doc base : Text) {a b : Room} → Alike (room-for (length doc)) a b
     → run mode a (length doc) (lexemes doc) (start-state base) ≡ run mode b (length doc) (lexemes doc) (start-state base)
 room-past mode doc base x = same-run mode (length doc) x (lexemes doc) (start-state base) (within-start doc base)
