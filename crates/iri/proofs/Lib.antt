@@ -7,3 +7,4 @@ pub mod Plans
 pub mod Puts
 pub mod Examples
 pub mod Escaped
+pub mod Lengths

@@ -432,11 +432,11 @@ module _ (mode : Mode) (room : Room) (base : Text) (n : ℕ) where
 -- ---- The whole answer
 
 -- Before the first token.
-start-tracks : (base : Text) → Tracks base [] (start-state base)
+pub start-tracks : (base : Text) → Tracks base [] (start-state base)
 unfolding in-force after-tokens depth-from
 start-tracks base = record { force = refl; depth = refl }
 
-start-fits : (room : Room) (base : Text) → Fits room (start-state base .memory)
+pub start-fits : (room : Room) (base : Text) → Fits room (start-state base .memory)
 unfolding store-size
 start-fits room base = record { rows = zero-le; terms = zero-le; store = zero-le }
 
@@ -450,14 +450,16 @@ module _ (doc : Text) (mode : ℕ) (base : Text) (lent : Lent) where
   read-run u v = ap (λ o. read-checked o doc mode base lent) u ∙ ap (λ o. read-utf8 o doc mode base lent) v
 
   -- What meets the conditions is accepted, with the tables that its derivation makes.
-  pub meets-answer : (x : Meets doc mode base lent) → read doc mode base lent ≡ success (length doc) (tables (mode-of mode) (x .derivation .0) base)
-  meets-answer x =
+  pub meets-run : (room : Room) (x : Meets doc mode base lent) → Fits room (tables (mode-of mode) (x .derivation .0) base)
+      → run (mode-of mode) room (length doc) (lexemes doc) (start-state base) ≡ accepted (tables (mode-of mode) (x .derivation .0) base)
+  meets-run room x f =
       let (d, p) = x .derivation in
       let e : final (mode-of mode) (document-tokens doc) (statement []) (start-memory base) ≡ some (tables (mode-of mode) d base) =
       ap (λ l. final (mode-of mode) l (statement []) (start-memory base)) (sym p) ∙ agreement (mode-of mode) d base in
-      read-run (x .usable) (x .utf8)
-      ∙ ap (reported (length doc))
-      (accept-run (mode-of mode) (room-of lent) base (length doc) (lexemes doc) [] (start-state base) (tables (mode-of mode) d base) (start-tracks base) (x .cuts) (x .fair) e (x .room))
+      accept-run (mode-of mode) room base (length doc) (lexemes doc) [] (start-state base) (tables (mode-of mode) d base) (start-tracks base) (x .cuts) (x .fair) e f
+
+  pub meets-answer : (x : Meets doc mode base lent) → read doc mode base lent ≡ success (length doc) (tables (mode-of mode) (x .derivation .0) base)
+  meets-answer x = read-run (x .usable) (x .utf8) ∙ ap (reported (length doc)) (meets-run (room-of lent) x (x .room))
 
   not-zero : {A : Type 0} (c : ℕ) → T (leb 1 c) → c ≡ 0 → A
   not-zero c h e = absurd (subst (λ x. T (leb 1 x)) e h)

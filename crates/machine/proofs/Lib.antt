@@ -20,6 +20,6 @@ pub mod Made
 pub mod Extends
 pub mod Demands
 pub mod Order
-pub mod Rows
 pub mod Distinct
-pub mod Counted
+pub mod Weights
+pub mod Sizes

@@ -95,12 +95,9 @@ reported n (refused c p) = refusal c p
 abbrev pub mode-of : ℕ → Mode
 mode-of n = cond (eqb n 0) trig turtle
 
--- "the 32-bit counts of rows, terms, store bytes": room past what they, and the next number, can count is not used.
-abbrev pub counted : ℕ → ℕ
-counted n = cond (leb n 4294967294) n 4294967294
-
+-- How many rows, terms and store bytes the slices have room for.
 abbrev pub room-of : Lent → Room
-room-of lent = record { rows = counted (row-room (lent .rows)); terms = counted (term-room (lent .terms)); store = counted (lent .store) }
+room-of lent = record { rows = row-room (lent .rows); terms = term-room (lent .terms); store = lent .store }
 
 abbrev pub start-state : Text → State
 start-state base = record { open-now = statement []; depth = 0; memory = start-memory base }

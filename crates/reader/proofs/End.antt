@@ -18,6 +18,7 @@ use Rattle.machine.specs.Frame.{statement}
 use Rattle.machine.specs.Step.{Outcome, accepted, refused}
 use Rattle.machine.specs.Read.{Answer, refusal, success, reported, mode-of, read-tokens}
 use Rattle.state.specs.Words.{at-word}
+use Rattle.state.proofs.Counted.{counted-run}
 use Rattle.reading.specs.Reading.{Held, tables-of, Holding, goes}
 use Rattle.reader.specs.declared.Reading.{Reading}
 use Rattle.statements.specs.Statements.{ReadsAll}
@@ -47,10 +48,12 @@ module _ (doc base work : Text) (mode : ℕ) (a b : Held) (n : ℕ) (K : Checked
   abbrev before : LentSlices
   before = lent-slices work (a .rows .now) (a .terms .now) (a .store .now)
 
-  -- The answer is the machine's outcome from the cursor.
+  -- The answer is the machine's outcome from the cursor, where room is counted.
   by-outcome : (o : Outcome) → goes (mode-of mode) doc a (statement []) (start-memory base) ≡ o → read-tokens doc mode base (lengths before) ≡ reported (length doc) o
   unfolding read-tokens goes
-  by-outcome o e = rw (S .tokens) (rw (S .depth) at (ap (reported (length doc)) e))
+  by-outcome o e =
+      ap (reported (length doc)) (sym (counted-run (mode-of mode) doc base (length work) (tables-of a) (K .size)))
+      ∙ rw (S .tokens) (rw (S .depth) at (ap (reported (length doc)) e))
 
   zeros-for : (x : List ℕ) (i j : ℕ) → x ≡ zeros i → i ≡ j → x ≡ zeros j
   zeros-for x i j e f = e ∙ ap zeros f

@@ -3,21 +3,21 @@ use mathlib.Core.Path.{_≡_, sym, ap, _∙_}
 use mathlib.Core.List.{List}
 use Prim.Native.Nat.{ℕ, _+_, _/_, _≤_}
 use native.Mathlib.Omega.{arith}
-use lib.Dec.{ltb, leb}
+use lib.Dec.{ltb}
 use lib.ListN.{length}
-use borrow.Author.Tests.{ltb-false, le-ltb, leb-true}
+use borrow.Author.Tests.{ltb-false, le-ltb}
 use Rattle.text.specs.Text.{Text}
 use Rattle.text.proofs.Compare.{by}
 use Rattle.dataset.specs.Terms.{Term}
 use Rattle.table.specs.Tables.{store-size}
 use Rattle.terms.specs.declared.Counts.{Counts}
 use Rattle.machine.specs.Memory.{Memory, Write}
-use Rattle.machine.specs.Read.{counted as at-most}
 use Rattle.machine.specs.Step.{Room}
 use Rattle.state.specs.declared.Spot.{Spot}
 use Rattle.state.specs.declared.Node.{Node}
 use Rattle.state.specs.Words.{counts-of}
 use Rattle.state.specs.Represents.{Tables, room-in, Represents, Represented, room-refusal}
+use Rattle.state.proofs.Counted.{counted-room}
 use Rattle.state.specs.Writes.{node-iri, node-write, placed, opened-at, closed}
 use Rattle.room.specs.declared.Tally.{Tally}
 use Rattle.room.specs.Asks.{Ask, asked, before-node, before-rows, behind-rows, to-place, to-close, close-rows}
@@ -42,9 +42,6 @@ counted-refusal : (room : Room) (n : ℕ) (c : Tally) (m : Memory) → n ≡ len
 unfolding refusal-of room-refusal
 counted-refusal room n c m e C = rw (e, C .terms, C .bytes)
 
-most : (n : ℕ) → at-most n ≤ 4294967294
-most n = by (leb n 4294967294) (λ e. rw e (leb-true n 4294967294 e)) (λ e. rw e (omega arith))
-
 module _ (work : Text) (t : Tables) (st : List ℕ) where
   module _ (old : Tables) (m : Memory) (R : Represents old m work t st) where
     start : Counted (tally-in st) (m .terms)
@@ -60,14 +57,14 @@ module _ (work : Text) (t : Tables) (st : List ℕ) where
   held q e (old, (m, R)) = rw e (R .usable .room, (m .terms, R .terms-held))
 
   pub rows-small : Represented work t st → rows-in st ≤ 4294967294
-  rows-small (old, (m, R)) = omega (arith, R .rows-held .size, R .fits .rows, most (length (t .rows) / 5))
+  rows-small (old, (m, R)) = omega (arith, R .rows-held .size, R .fits .rows, counted-room (length (t .rows) / 5) .1)
 
   pub tally-small : (u : Tally) → u ≡ tally-in st → Represented work t st → Small u 4294967294
   tally-small u e (old, (m, R)) =
       rw e
       (record {
-        terms = omega (arith, R .terms-held .keeps .count, R .fits .terms, most (length (t .terms) / 5));
-        bytes = omega (arith, R .terms-held .keeps .used, R .fits .store, most (length (t .store)));
+        terms = omega (arith, R .terms-held .keeps .count, R .fits .terms, counted-room (length (t .terms) / 5) .1);
+        bytes = omega (arith, R .terms-held .keeps .used, R .fits .store, counted-room (length (t .store)) .1);
       })
 
   -- A write whose terms are counted, from the tally u on: a bound fits, or what is new was counted.

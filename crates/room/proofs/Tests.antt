@@ -15,11 +15,11 @@ use Rattle.dataset.specs.Terms.{Term, iri, blank, literal, tagged, label}
 use Rattle.table.specs.Tables.{number, or-zero, term-bytes}
 use Rattle.terms.specs.declared.Counts.{Counts}
 use Rattle.terms.specs.Keeps.{findable}
-use Rattle.machine.specs.Read.{counted as at-most}
 use Rattle.machine.specs.Frame.{Place, top, subject-before, object-of, element-of, Cells, no-cell, cells}
 use Rattle.machine.specs.Step.{Room}
 use Rattle.state.specs.declared.Spot.{Spot}
 use Rattle.state.specs.declared.Node.{Node}
+use Rattle.state.specs.Represents.{counted as at-most}
 use Rattle.state.specs.Writes.{place-of, cells-of, node-iri}
 use Rattle.room.specs.declared.Tally.{Tally}
 use Rattle.room.specs.Asks.{supplied, place-iri, place-rows, cell-iri, cell-rows, end-iri, last-iri, spot-place, before-iri, before-rows, behind-iri, behind-rows, close-rows}

@@ -3,19 +3,18 @@ use mathlib.Core.Path.{_≡_}
 use mathlib.Core.List.{List, [], _∷_}
 use mathlib.Core.Bool.{true, _||_}
 use Prim.Native.Nat.{ℕ, _*_, _<_}
-use lib.Dec.{ltb}
+use lib.Dec.{leb, ltb}
 use lib.ListN.{length, getD, drop}
-use Rattle.text.specs.Text.{Text, empty}
+use Rattle.text.specs.Text.{Text, cond, empty}
 use Rattle.limits.specs.Limits.{work-size}
 use Rattle.iri.specs.Iri.{has-scheme}
 use Rattle.scope.specs.Code.{in-force, Usable}
-use Rattle.table.specs.Layout.{row-size, term-size}
+use Rattle.table.specs.Layout.{row-size, term-size, row-room, term-room}
 use Rattle.table.specs.Tables.{or-zero, store-size}
 use Rattle.terms.specs.Keeps.{KeepsRows}
 use Rattle.index.specs.Holds.{Holds}
 use Rattle.machine.specs.Memory.{Memory, Write}
 use Rattle.machine.specs.Step.{Room, _when_, first-refusal}
-use Rattle.machine.specs.Read.{Lent, room-of}
 use Rattle.machine.specs.Demand.{Fits}
 use Rattle.state.specs.Words.{rows-word, terms-word, used-word, node-word, graph-word, counts-of, Stays}
 
@@ -28,9 +27,16 @@ pub record Tables : Type 0 where
 abbrev pub tables : List ℕ → List ℕ → Text → Tables
 tables rows terms store = record { rows = rows; terms = terms; store = store }
 
--- How much room they have.
+-- The code counts rows, terms and store bytes in 32 bits, and looks at the next number before it uses it: room past that is not used.
+abbrev pub most-counted : ℕ
+most-counted = 4294967294
+
+abbrev pub counted : ℕ → ℕ
+counted n = cond (leb n most-counted) n most-counted
+
+-- How much room they have, as far as it is counted. No document within the limit needs more (proofs/Counted).
 abbrev pub room-in : Tables → Room
-room-in t = room-of (record { work = 0; rows = length (t .rows); terms = length (t .terms); store = length (t .store) })
+room-in t = record { rows = counted (row-room (length (t .rows))); terms = counted (term-room (length (t .terms))); store = counted (length (t .store)) }
 
 -- They hold the memory m, and past their used part what they held before.
 pub record Represents (old : Tables) (m : Memory) (work : Text) (t : Tables) (st : List ℕ) : Type 0 where

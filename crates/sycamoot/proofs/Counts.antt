@@ -1,17 +1,21 @@
--- "the 32-bit counts of rows, terms, store bytes": every count fits.
+-- "the 32-bit counts of rows, terms, store bytes": every count fits, since a document within the limit needs no more.
 use mathlib.Core.Path.{_≡_, refl, sym, subst}
 use mathlib.Core.Option.{Option, none, some}
 use Prim.Native.Nat.{ℕ, _≤_}
 use native.Mathlib.Omega.{arith}
+use borrow.Author.Tests.{ltb-false}
+use lib.Dec.{ltb}
 use lib.ListN.{length}
 use Rattle.text.specs.Text.{Text}
+use Rattle.text.proofs.Compare.{by}
+use Rattle.limits.specs.Limits.{document-limit}
 use Rattle.token.specs.Tokens.{lexemes}
 use Rattle.utf8.specs.Utf8.{first-bad}
-use Rattle.table.specs.Layout.{row-room, term-room}
+use Rattle.table.proofs.Numbers.{not-none}
 use Rattle.machine.specs.Step.{Outcome, accepted, refused, run, first-refusal}
 use Rattle.machine.specs.Read.{Lent, Answer, reported, room-of, mode-of, start-state, first-checks, read, read-checked, read-utf8, read-tokens}
-use Rattle.machine.proofs.Counted.{most-counted}
 use Rattle.machine.proofs.Demands.{zero-meets, meets-answer}
+use Rattle.machine.proofs.Sizes.{rows-at-most, terms-at-most, store-at-most}
 use Rattle.reader.specs.Reader.{LentSlices, lengths, Contract}
 use Rattle.reader.specs.declared.Reading.{Reading}
 
@@ -21,14 +25,18 @@ pub record Small (a : Answer) : Type 0 where
   pub store : a .store-count ≤ 4294967295
 
 module _ (doc : Text) (mode : ℕ) (base : Text) (lent : Lent) where
+  within-limit : first-refusal (first-checks doc mode base lent) ≡ none → length doc ≤ document-limit
+  within-limit e = by (ltb document-limit (length doc)) (λ h. not-none (sym (rw h at e))) (λ h. ltb-false document-limit (length doc) h)
+
   accepted-small : read doc mode base lent .number ≡ 0 → Small (read doc mode base lent)
   accepted-small e =
       let x = zero-meets doc mode base lent e in
+      let n = within-limit (x .usable) in
       subst Small (sym (meets-answer doc mode base lent x))
       (record {
-        rows = omega (arith, x .room .rows, most-counted (row-room (lent .rows)));
-        terms = omega (arith, x .room .terms, most-counted (term-room (lent .terms)));
-        store = omega (arith, x .room .store, most-counted (lent .store));
+        rows = omega (arith, rows-at-most doc mode base lent x);
+        terms = omega (arith, terms-at-most doc mode base lent x);
+        store = omega (arith, store-at-most doc mode base lent x);
       })
 
   none-small : (a : Answer) → a .row-count ≡ 0 → a .term-count ≡ 0 → a .store-count ≡ 0 → Small a

@@ -4,7 +4,6 @@ use mathlib.Core.List.{List, [], _∷_, _++_}
 use Prim.Native.Nat.{ℕ, _+_, _*_, _/_, _≤_, _<_}
 use native.Mathlib.Omega.{arith}
 use lib.Dec.{leb}
-use borrow.Author.Tests.{leb-true, leb-false}
 use lib.ListN.{length, getD, take, drop, set, length-append, length-set}
 use lib.Seq.{getD-set-same, getD-set-other}
 use Rattle.text.specs.Text.{Text}
@@ -25,16 +24,13 @@ use Rattle.terms.proofs.Slices.{past-over-at}
 use Rattle.terms.proofs.Growth.{five-words}
 use Rattle.index.specs.Holds.{Holds}
 use Rattle.machine.specs.Memory.{Memory, new-term, row}
-use Rattle.machine.specs.Read.{counted}
 use Rattle.machine.specs.Demand.{Fits}
 use Rattle.state.specs.Words.{rows-word, terms-word, used-word, blanks-word, node-word, graph-word, counts-of}
-use Rattle.state.specs.Represents.{Tables, tables, room-in, Represents}
+use Rattle.state.specs.Represents.{Tables, tables, counted, room-in, Represents}
+use Rattle.state.proofs.Counted.{counted-room}
 use Rattle.writes.specs.Steps.{CountsSet}
 
 -- ---- Room
-
-pub counted-room : (n : ℕ) → (counted n ≤ n) × (counted n ≤ 4294967294)
-counted-room n = by (leb n 4294967294) (λ e. rw e (omega arith, leb-true n 4294967294 e)) (λ e. rw e (omega (arith, leb-false n 4294967294 e), omega arith))
 
 room-counted : (k n : ℕ) → k ≤ n → k ≤ 4294967294 → k ≤ counted n
 room-counted k n h l = by (leb n 4294967294) (λ e. rw e h) (λ e. rw e l)

@@ -25,14 +25,14 @@ use Rattle.terms.proofs.Kept.{bytes-room}
 use Rattle.index.specs.Holds.{Finds, Searchable, iri-sort}
 use Rattle.index.proofs.Indexes.{searchable, holds-blank, holds-added, end-part}
 use Rattle.machine.specs.Memory.{Memory, term, term-by, new-term, typed}
-use Rattle.machine.specs.Read.{counted}
 use Rattle.machine.specs.Demand.{Fits}
 use Rattle.machine.proofs.Extends.{adds-term}
 use Rattle.state.specs.Words.{terms-word, used-word, blanks-word, counts-of}
-use Rattle.state.specs.Represents.{Tables, tables, room-in, Represents}
+use Rattle.state.specs.Represents.{Tables, tables, counted, room-in, Represents}
+use Rattle.state.proofs.Counted.{counted-room}
 use Rattle.writes.specs.Steps.{CountsSet, Asks, ShareReady, Number, Shares, TermAdded, TermReady, TermWrites, FreshReady, FreshWrites}
 use Rattle.writes.proofs.Compose.{ready-first, kept-both, kept-same}
-use Rattle.writes.proofs.Held.{counted-room, term-room, held-term}
+use Rattle.writes.proofs.Held.{term-room, held-term}
 
 -- ---- What a search answers
 
