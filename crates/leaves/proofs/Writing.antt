@@ -1,13 +1,15 @@
 -- The nodes that the tokens of terms write, as the code gives them.
 use mathlib.Core.Path.{_≡_, refl, sym, ap, _∙_, subst}
-use mathlib.Core.List.{List}
+use mathlib.Core.List.{List, [], _∷_, _++_}
 use mathlib.Core.Bool.{true, false}
 use Prim.Native.Nat.{ℕ, _-_, _≤_, _<_}
 use native.Mathlib.Omega.{arith}
+use lib.Dec.{eqb}
 use borrow.Author.Tests.{ne-eqb}
 use lib.ListN.{length, getD, take, drop, length-drop}
 use lib.Seq.{take-all}
 use Rattle.text.specs.Text.{Text}
+use Rattle.text.proofs.Compare.{by}
 use Rattle.limits.specs.Limits.{document-limit, iri-limit}
 use Rattle.token.specs.Tokens.{Token}
 use Rattle.form.specs.Form.{undo, bad, joined}
@@ -109,22 +111,35 @@ pub put-behind : (s : Spot) (work work' back : Text) (t t' : Tables) (st st' : L
 put-behind s work work' back t t' st st' at r token p =
     subst (λ (x : Text). Puts (placed s (term (blank (label x)))) work work' t t' st st' r) (behind 2 token) (put-label s work work' back (take (length token - 2) (drop 2 token)) t t' st st' at r p)
 
--- Datatypes by the kind.
-module _ (s : Spot) (text work work' : Text) (t t' : Tables) (st st' : List ℕ) (r k : ℕ) where
-  typed-as : (d : Text) → datatype-of k ≡ d → Puts (placed s (typed text d)) work work' t t' st st' r → Puts (placed s (typed text (datatype-of k))) work work' t t' st st' r
-  typed-as d e p = subst (λ (x : Text). Puts (placed s (typed text x)) work work' t t' st st' r) (sym e) p
+-- The datatypes by the kind, as bytes: what stands behind them is left out.
+abbrev Named : ℕ → Text → Type 0
+Named k r = take (length (datatype-of k)) r ≡ datatype-of k
 
-  pub typed-8 : k ≡ 8 → Puts (placed s (typed text xsd-integer)) work work' t t' st st' r → Puts (placed s (typed text (datatype-of k))) work work' t t' st st' r
-  typed-8 e p = typed-as xsd-integer (ap datatype-of e) p
+module _ (k : ℕ) where
+  pub named-8 : k ≡ 8 → Named k xsd-integer
+  named-8 e = subst (λ (n : ℕ). Named n xsd-integer) (sym e) refl
 
-  pub typed-9 : k ≡ 9 → Puts (placed s (typed text xsd-decimal)) work work' t t' st st' r → Puts (placed s (typed text (datatype-of k))) work work' t t' st st' r
-  typed-9 e p = typed-as xsd-decimal (ap datatype-of e) p
+  pub named-9 : k ≡ 9 → Named k xsd-decimal
+  named-9 e = subst (λ (n : ℕ). Named n xsd-decimal) (sym e) refl
 
-  pub typed-10 : k ≡ 10 → Puts (placed s (typed text xsd-double)) work work' t t' st st' r → Puts (placed s (typed text (datatype-of k))) work work' t t' st st' r
-  typed-10 e p = typed-as xsd-double (ap datatype-of e) p
+  pub named-10 : k ≡ 10 → Named k (xsd-double ++ 0 ∷ [])
+  named-10 e = subst (λ (n : ℕ). Named n (xsd-double ++ 0 ∷ [])) (sym e) refl
 
-  pub typed-other : (k ≡ 8 → ⊥) → (k ≡ 9 → ⊥) → (k ≡ 10 → ⊥) → Puts (placed s (typed text xsd-boolean)) work work' t t' st st' r → Puts (placed s (typed text (datatype-of k))) work work' t t' st st' r
-  typed-other a b c p = typed-as xsd-boolean (rw (ne-eqb k 8 a, ne-eqb k 9 b, ne-eqb k 10 c)) p
+  pub named-other : (k ≡ 8 → ⊥) → (k ≡ 9 → ⊥) → (k ≡ 10 → ⊥) → Named k xsd-boolean
+  named-other a b c = rw (ne-eqb k 8 a, ne-eqb k 9 b, ne-eqb k 10 c) refl
+
+  pub sized-10 : k ≡ 10 → (39 ≡ length (datatype-of k)) × (39 ≤ 40)
+  sized-10 e = (subst (λ (n : ℕ). 39 ≡ length (datatype-of n)) (sym e) refl, omega arith)
+
+  pub sized-other : (k ≡ 10 → ⊥) → (40 ≡ length (datatype-of k)) × (40 ≤ 40)
+  sized-other c = (by (eqb k 8) (λ e. rw e refl) (λ e. by (eqb k 9) (λ f. rw (e, f) refl) (λ f. rw (e, f, ne-eqb k 10 c) refl)), omega arith)
+
+  pub name-part : (r : Text) (n : ℕ) → Named k r → n ≡ length (datatype-of k) → take n r ≡ datatype-of k
+  name-part r n p e = ap (λ (m : ℕ). take m r) e ∙ p
+
+pub typed-as : (s : Spot) (text work work' : Text) (t t' : Tables) (st st' : List ℕ) (r : ℕ) (d e : Text) → d ≡ e → Puts (placed s (typed text d)) work work' t t' st st' r
+    → Puts (placed s (typed text e)) work work' t t' st st' r
+typed-as s text work work' t t' st st' r d e q p = subst (λ (x : Text). Puts (placed s (typed text x)) work work' t t' st st' r) q p
 
 -- ---- IRIs
 

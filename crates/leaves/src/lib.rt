@@ -4,11 +4,11 @@ ghost use mathlib.Core.Path.{_≡_};
 ghost use mathlib.Core.List.{_∷_};
 ghost use mathlib.Core.Bool.{true};
 ghost use Prim.Native.Nat.{_+_, _≤_, _<_};
-ghost use lib.ListN.{length, getD, drop};
+ghost use lib.ListN.{length, getD, take, drop};
 ghost use Rattle.limits.specs.Limits.{document-limit, iri-limit, depth-limit};
 ghost use Rattle.token.specs.Kind.{kw-a};
 ghost use Rattle.scope.specs.Code.{words-size};
-ghost use Rattle.dataset.specs.Terms.{iri, blank, label, bracket, rdf-type, xsd-integer, xsd-decimal, xsd-double, xsd-boolean};
+ghost use Rattle.dataset.specs.Terms.{iri, blank, label, bracket, rdf-type};
 ghost use Rattle.machine.specs.Memory.{term, new-term, typed, iri-term};
 ghost use Rattle.address.specs.Tests.{token-as};
 ghost use Rattle.state.specs.Words.{kind-word, at-word, depth-word, graph-word};
@@ -157,120 +157,29 @@ fn place_label(
     )
 }
 
-fn place_integer(
-    work: &mut [u8],
-    rows: &mut [u32],
-    terms: &mut [u32],
-    store: &mut [u8],
-    st: &mut [usize; Layout::WORDS],
-    token: &[u8],
-) -> u8
-    requires { ⌜ PutReady (now work) (tables (now rows) (now terms) (now store)) (now st) × (length (now token) ≤ document-limit) ⌝ }
-    ensures { λ r. ⌜ Puts (placed (spot-in (now (st .entry))) (typed (now (token .entry)) xsd-integer)) (now (work .entry)) (now (work .exit)) (tables (now (rows .entry)) (now (terms .entry)) (now (store .entry))) (tables (now (rows .exit)) (now (terms .exit)) (now (store .exit))) (now (st .entry)) (now (st .exit)) r ⌝ }
+// The datatype of a literal that is no string, by the kind of its token, with zeros behind it; and its length.
+fn datatype(kind: usize) -> [u8; 40]
+    ensures { λ r. ⌜ take (length (datatype-of kind)) r ≡ datatype-of kind ⌝ }
 {
-    place_node(
-        work,
-        rows,
-        terms,
-        store,
-        st,
-        Node {
-            kind: 3,
-            start: 0,
-            end: 0,
-            form: Form::Plain,
-            text: Form::Plain,
-        },
-        b"http://www.w3.org/2001/XMLSchema#integer",
-        token,
-    )
+    if kind == 8 {
+        return *b"http://www.w3.org/2001/XMLSchema#integer";
+    }
+    if kind == 9 {
+        return *b"http://www.w3.org/2001/XMLSchema#decimal";
+    }
+    if kind == 10 {
+        return *b"http://www.w3.org/2001/XMLSchema#double\0";
+    }
+    *b"http://www.w3.org/2001/XMLSchema#boolean"
 }
 
-fn place_decimal(
-    work: &mut [u8],
-    rows: &mut [u32],
-    terms: &mut [u32],
-    store: &mut [u8],
-    st: &mut [usize; Layout::WORDS],
-    token: &[u8],
-) -> u8
-    requires { ⌜ PutReady (now work) (tables (now rows) (now terms) (now store)) (now st) × (length (now token) ≤ document-limit) ⌝ }
-    ensures { λ r. ⌜ Puts (placed (spot-in (now (st .entry))) (typed (now (token .entry)) xsd-decimal)) (now (work .entry)) (now (work .exit)) (tables (now (rows .entry)) (now (terms .entry)) (now (store .entry))) (tables (now (rows .exit)) (now (terms .exit)) (now (store .exit))) (now (st .entry)) (now (st .exit)) r ⌝ }
+fn datatype_size(kind: usize) -> usize
+    ensures { λ r. ⌜ (r ≡ length (datatype-of kind)) × (r ≤ 40) ⌝ }
 {
-    place_node(
-        work,
-        rows,
-        terms,
-        store,
-        st,
-        Node {
-            kind: 3,
-            start: 0,
-            end: 0,
-            form: Form::Plain,
-            text: Form::Plain,
-        },
-        b"http://www.w3.org/2001/XMLSchema#decimal",
-        token,
-    )
-}
-
-fn place_double(
-    work: &mut [u8],
-    rows: &mut [u32],
-    terms: &mut [u32],
-    store: &mut [u8],
-    st: &mut [usize; Layout::WORDS],
-    token: &[u8],
-) -> u8
-    requires { ⌜ PutReady (now work) (tables (now rows) (now terms) (now store)) (now st) × (length (now token) ≤ document-limit) ⌝ }
-    ensures { λ r. ⌜ Puts (placed (spot-in (now (st .entry))) (typed (now (token .entry)) xsd-double)) (now (work .entry)) (now (work .exit)) (tables (now (rows .entry)) (now (terms .entry)) (now (store .entry))) (tables (now (rows .exit)) (now (terms .exit)) (now (store .exit))) (now (st .entry)) (now (st .exit)) r ⌝ }
-{
-    place_node(
-        work,
-        rows,
-        terms,
-        store,
-        st,
-        Node {
-            kind: 3,
-            start: 0,
-            end: 0,
-            form: Form::Plain,
-            text: Form::Plain,
-        },
-        b"http://www.w3.org/2001/XMLSchema#double",
-        token,
-    )
-}
-
-fn place_boolean(
-    work: &mut [u8],
-    rows: &mut [u32],
-    terms: &mut [u32],
-    store: &mut [u8],
-    st: &mut [usize; Layout::WORDS],
-    token: &[u8],
-) -> u8
-    requires { ⌜ PutReady (now work) (tables (now rows) (now terms) (now store)) (now st) × (length (now token) ≤ document-limit) ⌝ }
-    ensures { λ r. ⌜ Puts (placed (spot-in (now (st .entry))) (typed (now (token .entry)) xsd-boolean)) (now (work .entry)) (now (work .exit)) (tables (now (rows .entry)) (now (terms .entry)) (now (store .entry))) (tables (now (rows .exit)) (now (terms .exit)) (now (store .exit))) (now (st .entry)) (now (st .exit)) r ⌝ }
-{
-    place_node(
-        work,
-        rows,
-        terms,
-        store,
-        st,
-        Node {
-            kind: 3,
-            start: 0,
-            end: 0,
-            form: Form::Plain,
-            text: Form::Plain,
-        },
-        b"http://www.w3.org/2001/XMLSchema#boolean",
-        token,
-    )
+    if kind == 10 {
+        return 39;
+    }
+    40
 }
 
 // A literal that is no string.
@@ -286,16 +195,24 @@ fn place_literal(
     requires { ⌜ PutReady (now work) (tables (now rows) (now terms) (now store)) (now st) × (length (now token) ≤ document-limit) ⌝ }
     ensures { λ r. ⌜ Puts (placed (spot-in (now (st .entry))) (typed (now (token .entry)) (datatype-of kind))) (now (work .entry)) (now (work .exit)) (tables (now (rows .entry)) (now (terms .entry)) (now (store .entry))) (tables (now (rows .exit)) (now (terms .exit)) (now (store .exit))) (now (st .entry)) (now (st .exit)) r ⌝ }
 {
-    if kind == 8 {
-        return place_integer(work, rows, terms, store, st, token);
-    }
-    if kind == 9 {
-        return place_decimal(work, rows, terms, store, st, token);
-    }
-    if kind == 10 {
-        return place_double(work, rows, terms, store, st, token);
-    }
-    place_boolean(work, rows, terms, store, st, token)
+    let name = datatype(kind);
+    let n = datatype_size(kind);
+    place_node(
+        work,
+        rows,
+        terms,
+        store,
+        st,
+        Node {
+            kind: 3,
+            start: 0,
+            end: 0,
+            form: Form::Plain,
+            text: Form::Plain,
+        },
+        &name[..n],
+        token,
+    )
 }
 
 // An IRI, where the buffer holds one that is written nowhere else.

@@ -1,129 +1,69 @@
-use Rattle.leaves.proofs.Writing.{typed-8, typed-9, typed-10, typed-other}
+use mathlib.Core.Path.{ap, sym, _∙_}
+use native.Mathlib.Omega.{arith}
+use lib.ListN.{length}
+use lib.Seq.{length-take-le}
+use Rattle.leaves.specs.Leaves.{datatype-of}
+use Rattle.leaves.proofs.Writing.{plain-fits, put-typed, typed-as, name-part}
 use borrow.Author.Needs.{needs}
 use Rattle.leaves.proofs.place_literal.Statement.{statement}
 use Rattle.leaves.proofs.place_literal.Tie as tie
+use Rattle.leaves.proofs.place_literal.Reads as reads
+use Rattle.leaves.proofs.place_literal.Lts as lts
+use Rattle.leaves.proofs.datatype.Reads as datatype-reads
+use Rattle.leaves.proofs.datatype_size.Reads as datatype-size-reads
+use Rattle.leaves.proofs.place_node.Reads as place-node-reads
 
--- src/lib.rt:290:9
-place-integer-requires : tie.Need-place-integer-requires
-place-integer-requires c κs = search needs
+-- src/lib.rt:198:16
+datatype-requires : tie.Need-datatype-requires
+datatype-requires c κs = search needs
 
--- src/lib.rt:290:9
+-- src/lib.rt:199:9
+datatype-size-requires : tie.Need-datatype-size-requires
+datatype-size-requires c κs = search needs
+
+-- src/lib.rt:213:9
+array-share-prefix-name : tie.Need-array-share-prefix-name
+array-share-prefix-name c = search needs
+
+-- src/lib.rt:213:9
+slice-aggregate-place-node : tie.Need-slice-aggregate-place-node
+slice-aggregate-place-node c = sym (length-take-le (c .before .before .before .before .before .before .datatype-size .result) (c .before .before .before .before .before .before .before .datatype .result) (omega (arith, c .before .before .before .before .before .before .datatype-size .ensures .1)))
+
+-- src/lib.rt:200:5
+place-node-requires : tie.Need-place-node-requires
+place-node-requires c κs = (c .before .before .before .before .before .before .before .before .before .before .before .before .before .pre .0, plain-fits 3 _ _ _ (omega arith) (omega arith) (omega (arith, c .before .before .before .before .before .before .datatype-size .ensures .1, length-take-le (c .before .before .before .before .before .before .datatype-size .result) (c .before .before .before .before .before .before .before .datatype .result) (omega arith))) (c .before .before .before .before .before .before .before .before .before .before .before .before .before .pre .1) (λ e. absurd (omega arith)))
+
+-- src/lib.rt:186:1
 same-length : tie.Need-same-length
 same-length c = search needs
 
--- src/lib.rt:290:9
+-- src/lib.rt:186:1
 same-length-2 : tie.Need-same-length-2
 same-length-2 c = search needs
 
--- src/lib.rt:290:9
+-- src/lib.rt:186:1
 same-length-3 : tie.Need-same-length-3
 same-length-3 c = search needs
 
--- src/lib.rt:290:9
+-- src/lib.rt:186:1
 same-length-4 : tie.Need-same-length-4
 same-length-4 c = search needs
 
--- src/lib.rt:290:9
+-- src/lib.rt:186:1
 returns : tie.Need-returns
-returns c = typed-8 _ _ _ _ _ _ _ _ _ _ (c .before .before .before .before .before .before .before .before .before .before .before .before .before .before .if1 .taken) (c .before .before .before .before .before .before .before .before .place-integer .ensures)
-
--- src/lib.rt:293:9
-place-decimal-requires : tie.Need-place-decimal-requires
-place-decimal-requires c κs = search needs
-
--- src/lib.rt:293:9
-same-length-5 : tie.Need-same-length-5
-same-length-5 c = search needs
-
--- src/lib.rt:293:9
-same-length-6 : tie.Need-same-length-6
-same-length-6 c = search needs
-
--- src/lib.rt:293:9
-same-length-7 : tie.Need-same-length-7
-same-length-7 c = search needs
-
--- src/lib.rt:293:9
-same-length-8 : tie.Need-same-length-8
-same-length-8 c = search needs
-
--- src/lib.rt:293:9
-returns-2 : tie.Need-returns-2
-returns-2 c = typed-9 _ _ _ _ _ _ _ _ _ _ (c .before .before .before .before .before .before .before .before .before .before .before .before .before .before .if2 .taken) (c .before .before .before .before .before .before .before .before .place-decimal .ensures)
-
--- src/lib.rt:296:9
-place-double-requires : tie.Need-place-double-requires
-place-double-requires c κs = search needs
-
--- src/lib.rt:296:9
-same-length-9 : tie.Need-same-length-9
-same-length-9 c = search needs
-
--- src/lib.rt:296:9
-same-length-10 : tie.Need-same-length-10
-same-length-10 c = search needs
-
--- src/lib.rt:296:9
-same-length-11 : tie.Need-same-length-11
-same-length-11 c = search needs
-
--- src/lib.rt:296:9
-same-length-12 : tie.Need-same-length-12
-same-length-12 c = search needs
-
--- src/lib.rt:296:9
-returns-3 : tie.Need-returns-3
-returns-3 c = typed-10 _ _ _ _ _ _ _ _ _ _ (c .before .before .before .before .before .before .before .before .before .before .before .before .before .before .if3 .taken) (c .before .before .before .before .before .before .before .before .place-double .ensures)
-
--- src/lib.rt:298:5
-place-boolean-requires : tie.Need-place-boolean-requires
-place-boolean-requires c κs = search needs
-
--- src/lib.rt:277:1
-same-length-13 : tie.Need-same-length-13
-same-length-13 c = search needs
-
--- src/lib.rt:277:1
-same-length-14 : tie.Need-same-length-14
-same-length-14 c = search needs
-
--- src/lib.rt:277:1
-same-length-15 : tie.Need-same-length-15
-same-length-15 c = search needs
-
--- src/lib.rt:277:1
-same-length-16 : tie.Need-same-length-16
-same-length-16 c = search needs
-
--- src/lib.rt:277:1
-returns-4 : tie.Need-returns-4
-returns-4 c = typed-other _ _ _ _ _ _ _ _ _ _ (c .before .before .before .before .before .before .before .before .before .before .before .before .before .before .before .before .if1 .left) (c .before .before .before .before .before .before .before .before .before .before .before .before .before .before .before .if2 .left) (c .before .before .before .before .before .before .before .before .before .before .before .before .before .before .if3 .left) (c .before .before .before .before .before .before .before .before .place-boolean .ensures)
+returns c = typed-as _ _ _ _ _ _ _ _ _ _ (datatype-of (c .before .before .before .before .before .before .before .before .before .before .before .before .before .before .before .before .before .before .before .before .before .before .args .kind)) (name-part (c .before .before .before .before .before .before .before .before .before .before .before .before .before .before .before .before .before .before .before .before .before .before .args .kind) (c .before .before .before .before .before .before .before .before .before .before .before .before .before .before .before .before .datatype .result) (c .before .before .before .before .before .before .before .before .before .before .before .before .before .before .before .datatype-size .result) (c .before .before .before .before .before .before .before .before .before .before .before .before .before .before .before .before .datatype .ensures) (c .before .before .before .before .before .before .before .before .before .before .before .before .before .before .before .datatype-size .ensures .0)) (put-typed _ _ _ _ _ _ _ _ _ _ _ (c .before .before .before .before .before .before .before .before .place-node .ensures))
 
 pub place-literal-spec : {M : Type 1} → statement M
 place-literal-spec =
     tie.close
     (tie.spec
-    place-integer-requires
+    datatype-requires
+    datatype-size-requires
+    array-share-prefix-name
+    slice-aggregate-place-node
+    place-node-requires
     same-length
     same-length-2
     same-length-3
     same-length-4
-    returns
-    place-decimal-requires
-    same-length-5
-    same-length-6
-    same-length-7
-    same-length-8
-    returns-2
-    place-double-requires
-    same-length-9
-    same-length-10
-    same-length-11
-    same-length-12
-    returns-3
-    place-boolean-requires
-    same-length-13
-    same-length-14
-    same-length-15
-    same-length-16
-    returns-4)
+    returns)
