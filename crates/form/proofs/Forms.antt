@@ -7,13 +7,16 @@ use native.Mathlib.Omega.{arith}
 use lib.ListN.{length, take, drop, length-append, length-drop, drop-of-length-le}
 use lib.Seq.{take-all, length-take-le}
 use lib.Dec.{eqb}
-use Rattle.text.specs.Text.{Text, same-text, begins}
+use Rattle.text.specs.Text.{Text, is, same-text, begins, some-byte}
 use Rattle.text.specs.Slice.{over, over-at}
 use Rattle.text.proofs.Compare.{by, begins-short, same-append}
 use Rattle.text.proofs.Over.{over-length, over-append}
 use Rattle.escape.specs.Code.{Written}
+use Rattle.escape.specs.declared.Scan.{Scan}
+use Rattle.escape.proofs.Walk.{text-starts, name-starts, text-start, name-start, plain-good}
 use Rattle.form.specs.Form.{undo, bad, joined}
 use Rattle.form.specs.declared.Form.{Form}
+use Rattle.form.specs.declared.Form.the-variants.{Plain, Escaped, Reserved}
 
 -- A text begins with another if its front of that length is the same.
 begins-take : (s t : Text) → begins s t ≡ same-text s (take (length s) t)
@@ -30,6 +33,17 @@ and-false false = refl
 and-true : (b : Bool) → (b && true) ≡ b
 and-true true = refl
 and-true false = refl
+
+-- Without a backslash every form is the plain one.
+pub plain-form : (form : Form) (s : Text) → some-byte (is "\\") s ≡ false → (s ≡ undo form s) × (false ≡ bad form s)
+unfolding undo bad
+plain-form Plain s e = (refl, refl)
+plain-form Escaped s e =
+    let at : Scan = record { left = 0; value = 0; n = 0 } in
+    (sym (text-starts at (refl, (refl, refl)) .plain s e) ∙ text-start at (refl, (refl, refl)) s, plain-good s e)
+plain-form Reserved s e =
+    let at : Scan = record { left = 10; value = 0; n = 0 } in
+    (sym (name-starts at (refl, (refl, refl)) .plain s e) ∙ name-start at (refl, (refl, refl)) s, refl)
 
 -- The rest of a slice from a place on.
 pub rest-all : (x : Text) (n : ℕ) → take (length x - n) (drop n x) ≡ drop n x

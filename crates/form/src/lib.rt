@@ -17,6 +17,16 @@ pub enum Form {
     Reserved,
 }
 
+// The form in which the back is cheapest to read: without a backslash it stands for itself.
+pub fn simplest(form: Form, back: &[u8]) -> Form
+    ensures { λ r. ⌜ (undo r (now (back .entry)) ≡ undo form (now (back .entry))) × (bad r (now (back .entry)) ≡ bad form (now (back .entry))) ⌝ }
+{
+    if escape::has_backslash(back) {
+        return form;
+    }
+    Form::Plain
+}
+
 // How long the back is with its escapes undone.
 pub fn undone_length(form: Form, back: &[u8]) -> usize
     ensures { λ r. ⌜ r ≡ length (undo form (now (back .entry))) ⌝ }

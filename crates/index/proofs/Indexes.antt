@@ -5,6 +5,7 @@ use mathlib.Core.List.{List, [], _∷_, _++_}
 use mathlib.Core.Option.{none, some}
 use Prim.Native.Nat.{ℕ, zero, suc, _+_, _-_, _*_, _/_, _%_, _<_, _≤_}
 use native.Mathlib.Nat.{mod-lt}
+use native.Mathlib.Decide.{decLe}
 use native.Mathlib.Omega.{arith}
 use lib.Dec.{T, eqb, ltb}
 use borrow.Author.Tests.{ltb-true, ltb-false}
@@ -26,7 +27,7 @@ use Rattle.terms.specs.Keeps.{blank-count, findable, Typed, Keeps, Means, Added
 use Rattle.terms.specs.Code.{matches, first}
 use Rattle.terms.proofs.Kept.{bytes-room, readable, test-same, found-first}
 use Rattle.index.specs.Slots.{slot-at, put-slot}
-use Rattle.index.specs.Keys.{key-at, turn-at, type-in, type-of}
+use Rattle.index.specs.Keys.{key-at, turn-of, turn-at, type-in, type-of}
 use Rattle.index.specs.Tree.{Leads, buckets, least, bucket-in, turn-in, Trees, Indexed, Linked, Followed, Follows, Vacant, InSlots, Links}
 use Rattle.index.specs.Holds.{Holds, Searchable}
 use Rattle.index.proofs.Slots.{put-length, slot-same, slot-other}
@@ -44,6 +45,21 @@ means-text ts sort x g (iri s) M = (M .1 .0, (sym (M .1 .1), rw (M .0)))
 means-text ts sort x g (blank b) M = (M .1 .0, (sym (M .1 .1), rw (M .0)))
 means-text ts sort x g (literal s d) M = (M .1 .0, (sym (M .1 .1 .0), rw (M .0) (M .1 .1 .1)))
 means-text ts sort x g (tagged s h) M = (M .1 .0, (M .1 .1, rw (M .0)))
+
+-- The hash that serves a level.
+module _ (x g : Text) (n key level : ℕ) where
+  pub turned : (t : ℕ) → key ≡ key-at (level / 16) x g n → t ≡ turn-of key level → t ≡ turn-at x g n level
+  unfolding turn-at
+  turned t e q = q ∙ ap (λ (k : ℕ). turn-of k level) e
+
+  pub served-before : key ≡ key-at (level / 16) x g n → key ≡ key-at ((level + 1 - 1) / 16) x g n
+  served-before e = e ∙ ap (λ (l : ℕ). key-at (l / 16) x g n) (let z : level ≡ level + 1 - 1 = omega arith in z)
+
+  pub served-same : key ≡ key-at ((level - 1) / 16) x g n → 0 < level → (level % 16 ≡ 0 → ⊥) → key ≡ key-at (level / 16) x g n
+  served-same e h ne = e ∙ ap (λ (k : ℕ). key-at k x g n) (let z : (level - 1) / 16 ≡ level / 16 = omega (arith, away) in z)
+    where
+      away : 0 < level % 16
+      away = elim (decLe 1 (level % 16)) [ yes p ↦ p | no p ↦ absurd (ne (omega (arith, p))) ]
 
 same-is : (t u : Term) → same-term t u ≡ true → t ≡ u
 same-is t u e = same-term-eq t u (subst T (sym e) tt)
@@ -168,7 +184,7 @@ module _ (ts : List Term) (t : Term) (typed : (i : ℕ) → i < length ts → Ty
 
     turn-small : (u : Text) (g : Text) (k d : ℕ) → turn-at u g k d < 2
     unfolding turn-at
-    turn-small u g k d = by (ltb d 8) (λ e. rw e (mod-lt _ (omega arith))) (λ e. rw e (mod-lt _ (omega arith)))
+    turn-small u g k d = mod-lt _ (omega arith)
 
     in-tree' : Trees m ts' (put-slot x s (length ts + 1))
     in-tree' =

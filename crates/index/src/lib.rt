@@ -9,7 +9,7 @@ ghost use Rattle.form.specs.Form.{joined};
 ghost use Rattle.table.specs.Layout.{entry-at};
 ghost use Rattle.terms.specs.Code.{matches, Readable};
 ghost use Rattle.index.specs.Slots.{slot-at, put-slot};
-ghost use Rattle.index.specs.Keys.{key-at, turn-at, type-of};
+ghost use Rattle.index.specs.Keys.{key-at, turn-of, turn-at, type-of};
 ghost use Rattle.index.specs.Tree.{buckets, least, Linked, Follows, Vacant, InSlots, Links};
 ghost use Rattle.index.specs.Holds.{Searchable, iri-sort, PartOf, Finds};
 use form::Form;
@@ -62,18 +62,25 @@ fn type_number(sort: Sort) -> usize
     0
 }
 
-// The hash of a level of the trees.
-fn key_at(level: usize, sort: Sort, front: &[u8], form: Form, back: &[u8], tag: &[u8]) -> usize
-    ensures { λ r. ⌜ (r ≡ key-at level (joined (now (front .entry)) form (now (back .entry))) (now (tag .entry)) (type-of sort)) × (r < 4294967296) ⌝ }
+// A hash of what a term is known by; the first of them chooses its bucket.
+fn key_at(k: usize, sort: Sort, front: &[u8], form: Form, back: &[u8], tag: &[u8]) -> usize
+    ensures { λ r. ⌜ (r ≡ key-at k (joined (now (front .entry)) form (now (back .entry))) (now (tag .entry)) (type-of sort)) × (r < 4294967296) ⌝ }
 {
-    let m = 16777619 + 2 * (level % 65536);
+    let m = 16777619 + 2 * (k % 65536);
     let text = form::hash_joined(m, front, form, back);
     let whole = form::hash_bytes(m, text, tag);
     form::stir(m, whole, type_number(sort) % 4294967296)
 }
 
-// Which way the search goes at a level. The key is the first level's hash.
-fn turn(
+// Which way the search goes at a level.
+fn turn(key: usize, level: usize) -> usize
+    ensures { λ r. ⌜ (r ≡ turn-of key level) × (r < 2) ⌝ }
+{
+    key / (2 * (level % 16) + 3) % 2
+}
+
+// The hash that serves a level, where the key serves the one before.
+fn next_key(
     key: usize,
     level: usize,
     sort: Sort,
@@ -82,13 +89,13 @@ fn turn(
     back: &[u8],
     tag: &[u8],
 ) -> usize
-    requires { ⌜ key ≡ key-at 0 (joined (now front) form (now back)) (now tag) (type-of sort) ⌝ }
-    ensures { λ r. ⌜ (r ≡ turn-at (joined (now (front .entry)) form (now (back .entry))) (now (tag .entry)) (type-of sort) level) × (r < 2) ⌝ }
+    requires { ⌜ (key ≡ key-at ((level - 1) / 16) (joined (now front) form (now back)) (now tag) (type-of sort)) × (0 < level) ⌝ }
+    ensures { λ r. ⌜ r ≡ key-at (level / 16) (joined (now (front .entry)) form (now (back .entry))) (now (tag .entry)) (type-of sort) ⌝ }
 {
-    if level < 8 {
-        return key / (2 * level + 3) % 2;
+    if level % 16 == 0 {
+        return key_at(level / 16, sort, front, form, back, tag);
     }
-    key_at(level, sort, front, form, back, tag) % 2
+    key
 }
 
 // The equal term in the tree of its bucket.
@@ -107,8 +114,9 @@ fn follow(
     ensures { λ r. ⌜ Follows (now (index .entry)) (key-at 0 (joined (now (front .entry)) form (now (back .entry))) (now (tag .entry)) (type-of sort) % buckets (now (index .entry))) (turn-at (joined (now (front .entry)) form (now (back .entry))) (now (tag .entry)) (type-of sort)) (least count (buckets (now (index .entry)))) (λ i. matches (now (store .entry)) (entry-at (now (terms .entry)) (suc i)) sort (joined (now (front .entry)) form (now (back .entry))) (now (tag .entry))) (r .number) × ((r .number ≡ 0 → Vacant (now (index .entry)) (joined (now (front .entry)) form (now (back .entry))) (now (tag .entry)) (type-of sort) (r .slot)) × InSlots (now (index .entry)) (r .slot)) ⌝ }
 {
     let m = index.len() / 12;
-    let key = key_at(0, sort, front, form, back, tag);
-    let mut place = key % m;
+    let first = key_at(0, sort, front, form, back, tag);
+    let mut key = first;
+    let mut place = first % m;
     let mut level: usize = 0;
     let mut k = slot(index, place);
     while 0 < k {
@@ -119,8 +127,9 @@ fn follow(
                 slot: place,
             };
         }
-        place = m + (2 * i + turn(key, level, sort, front, form, back, tag));
+        place = m + (2 * i + turn(key, level));
         level += 1;
+        key = next_key(key, level, sort, front, form, back, tag);
         k = slot(index, place);
     }
     Found {
