@@ -13,6 +13,7 @@ use Rattle.text.specs.Text.{Text, cond, is}
 use Rattle.limits.specs.Limits.{iri-limit, work-size}
 use Rattle.escape.specs.Escape.{bad-escape, unescape, unreserve}
 use Rattle.form.specs.Form.{undo, bad, joined}
+use Rattle.form.specs.declared.Form.{Form}
 use Rattle.form.specs.declared.Form.the-variants.{Plain, Escaped, Reserved}
 use Rattle.form.proofs.Forms.{rest-all}
 use Rattle.iri.specs.Iri.{has-scheme}
@@ -26,7 +27,7 @@ use Rattle.scope.specs.declared.Found.{Found}
 use Rattle.scope.specs.declared.Found.the-variants.{At, Missing}
 use Rattle.dataset.specs.Constructors.{inner, iri-of, nothing, awaiting}
 use Rattle.address.specs.Tests.{token-as, Sound, iri-refusal, outcome}
-use Rattle.address.specs.Addresses.{refused-address, Addresses, WritesReference, LocalFrom}
+use Rattle.address.specs.Addresses.{refused-address, front-of, Addresses, Lightened, WritesReference, LocalFrom}
 use Rattle.address.specs.declared.Address.{Address}
 use Rattle.address.proofs.Between.{inside-good, inside-read, scheme-inside}
 use Rattle.address.proofs.Bases.{outcome-written}
@@ -205,3 +206,40 @@ module _ (kind : ℕ) (token work : Text) (st : List ℕ) (buffer : Text) where
 
 pub as-kind : (kind : ℕ) (token work : Text) (st : List ℕ) (buffer : Text) (r : Address) → kind ≡ 1 → Addresses 1 token work st buffer r → Addresses kind token work st buffer r
 as-kind kind token work st buffer r e a = subst (λ (k : ℕ). Addresses k token work st buffer r) (sym e) a
+
+-- An address whose back is in another form that reads the same.
+pub still-stands : (kind : ℕ) (token work : Text) (st : List ℕ) (buffer : Text) (a r : Address) → Addresses kind token work st buffer a → Lightened token a r → Addresses kind token work st buffer r
+unfolding joined
+still-stands kind token work st buffer a r A L =
+    subst (Addresses kind token work st buffer) (sym (L .is))
+    (record {
+      order = A .order;
+      inside = A .inside;
+      back-order = A .back-order;
+      back-inside = A .back-inside;
+      stands = λ u s b at.
+          let S = A .stands u s b at in
+          record {
+            refusal = S .refusal;
+            iri = λ z. S .iri z ∙ ap (λ (t : Text). front-of a work ++ t) (sym (L .reads buffer));
+            right = λ z. L .right buffer ∙ S .right z;
+            short = S .short;
+          };
+    })
+
+-- What the code that finds the form answers: the same address, or one with that form.
+pub lightened-not : (token : Text) (a : Address) → Lightened token a a
+lightened-not token a = record { form = a .form; is = refl; reads = λ b. refl; right = λ b. refl }
+
+pub lightened-so : (token : Text) (a : Address) (f : Form) → a .buffered ≡ false
+    → (undo f (take (a .to - a .from) (drop (a .from) token)) ≡ undo (a .form) (take (a .to - a .from) (drop (a .from) token))) × (bad f (take (a .to - a .from) (drop (a .from) token)) ≡ bad (a .form) (take (a .to - a .from) (drop (a .from) token)))
+    → Lightened token a (record { refused = a .refused; start = a .start; end = a .end; form = f; from = a .from; to = a .to; buffered = false })
+lightened-so token a f e q = record {
+  form = f;
+  is = ap (λ (b : Bool). record { refused = a .refused; start = a .start; end = a .end; form = f; from = a .from; to = a .to; buffered = b }) (sym e);
+  reads = λ b. rw e (q .0);
+  right = λ b. rw e (q .1);
+}
+
+pub within-token : (kind : ℕ) (token work : Text) (st : List ℕ) (buffer : Text) (a : Address) → Addresses kind token work st buffer a → a .buffered ≡ false → (a .from ≤ a .to) × (a .to ≤ length token)
+within-token kind token work st buffer a A e = (A .back-order, rw e at (A .back-inside))

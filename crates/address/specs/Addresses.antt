@@ -8,7 +8,8 @@ use Rattle.text.specs.Text.{Text, cond}
 use Rattle.limits.specs.Limits.{iri-limit, work-size}
 use Rattle.token.specs.Tokens.{Token}
 use Rattle.escape.specs.Escape.{bad-escape, unescape}
-use Rattle.form.specs.Form.{bad, joined}
+use Rattle.form.specs.Form.{undo, bad, joined}
+use Rattle.form.specs.declared.Form.{Form}
 use Rattle.form.specs.declared.Form.the-variants.{Plain}
 use Rattle.iri.specs.Resolve.{resolved}
 use Rattle.iri.specs.declared.Resolution.{Resolution}
@@ -45,6 +46,16 @@ pub record Addresses (kind : ℕ) (token work : Text) (st : List ℕ) (buffer : 
   pub back-inside : r .to ≤ length (cond (r .buffered) buffer token)
   pub stands : Usable work st → Sound (in-force work st) → (kind ≡ 1 → getD token 0 0 ≡ 60) → (at : ℕ)
       → StandsFor (in-force work st) (token-as kind at token) r (front-of r work) (back-of r token buffer)
+
+-- The same address with its back in a form that reads the same.
+abbrev pub with-form : Address → Form → Address
+with-form a f = record { refused = a .refused; start = a .start; end = a .end; form = f; from = a .from; to = a .to; buffered = a .buffered }
+
+pub record Lightened (token : Text) (a r : Address) : Type 0 where
+  pub form : Form
+  pub is : r ≡ with-form a form
+  pub reads : (buffer : Text) → undo form (back-of a token buffer) ≡ undo (a .form) (back-of a token buffer)
+  pub right : (buffer : Text) → bad form (back-of a token buffer) ≡ bad (a .form) (back-of a token buffer)
 
 -- The reference s, without bad escapes, is resolved into the front of the buffer.
 pub record Resolves (base s buffer : Text) (a : Resolution) : Type 0 where

@@ -12,7 +12,7 @@ ghost use Rattle.iri.specs.Code.{before};
 ghost use Rattle.scope.specs.Code.{in-force, Usable};
 ghost use Rattle.dataset.specs.Constructors.{inner};
 ghost use Rattle.address.specs.Tests.{Sound};
-ghost use Rattle.address.specs.Addresses.{refused-address, Addresses, WritesReference, LocalFrom, GoodReference, DeclaresNamespace, DeclaresBase};
+ghost use Rattle.address.specs.Addresses.{refused-address, Addresses, Lightened, WritesReference, LocalFrom, GoodReference, DeclaresNamespace, DeclaresBase};
 use form::Form;
 use iri::Resolution;
 use limits::Limits;
@@ -187,6 +187,28 @@ fn name_address(token: &[u8], kind: usize, work: &[u8], st: &[usize; Layout::WOR
     }
 }
 
+// The same, its back in the form that is cheapest to read: whoever looks at the IRI later need not look for escapes again.
+fn lightened(a: Address, token: &[u8]) -> Address
+    requires { ⌜ (a .buffered ≡ false → (a .from ≤ a .to) × (a .to ≤ length (now token))) ⌝ }
+    ensures { λ r. ⌜ Lightened (now (token .entry)) a r ⌝ }
+{
+    if a.buffered {
+        return a;
+    }
+    let from = a.from;
+    let to = a.to;
+    let form = a.form;
+    Address {
+        refused: a.refused,
+        start: a.start,
+        end: a.end,
+        form: form::simplest(form, &token[from..to]),
+        from: from,
+        to: to,
+        buffered: false,
+    }
+}
+
 // The IRI of an IRIREF (kind 1) or of a prefixed name (2 and 3), or the first of the refusals 7, 9, 10 and 11.
 pub fn address_of(
     token: &[u8],
@@ -199,9 +221,11 @@ pub fn address_of(
     ensures { λ r. ⌜ Addresses kind (now (token .entry)) (now (work .entry)) (now (st .entry)) (now (buffer .exit)) r ⌝ }
 {
     if kind == 1 {
-        return reference_address(token, work, st, buffer);
+        let a = reference_address(token, work, st, buffer);
+        return lightened(a, token);
     }
-    name_address(token, kind, work, st)
+    let a = name_address(token, kind, work, st);
+    lightened(a, token)
 }
 
 // Declares the prefix for the IRI of a reference without bad escapes; it is written into the buffer.
