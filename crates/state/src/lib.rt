@@ -1,8 +1,10 @@
 // The reader's state: one array of numbers beside the lent slices. Its first words are the environment's, the rest
 // say how far the tables are filled, which token stands at the cursor, and where the next node belongs.
 ghost use mathlib.Core.Path.{_≡_};
+ghost use Rattle.state.specs.Words.{counts-of};
 use form::Form;
 use scope::Layout;
+use terms::Counts;
 
 pub struct Words {}
 
@@ -45,10 +47,16 @@ impl Words {
     pub const END: usize = 0;
 
     pub const UNREADABLE: usize = 31;
+}
 
-    // Nothing is read, and nothing is declared.
-    pub fn fresh() -> [usize; Layout::WORDS] {
-        Layout::fresh()
+// How many terms, bytes of the store and blank nodes there are.
+pub fn counts(st: &[usize; Layout::WORDS]) -> Counts
+    ensures { λ r. ⌜ r ≡ counts-of (now (st .entry)) ⌝ }
+{
+    Counts {
+        terms: st[Words::TERMS],
+        used: st[Words::USED],
+        blanks: st[Words::BLANKS],
     }
 }
 

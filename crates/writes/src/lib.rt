@@ -28,17 +28,6 @@ use state::Words;
 use terms::Counts;
 use terms::Sort;
 
-// How many terms, bytes of the store and blank nodes there are.
-fn counts(st: &[usize; Layout::WORDS]) -> Counts
-    ensures { λ r. ⌜ r ≡ counts-of (now (st .entry)) ⌝ }
-{
-    Counts {
-        terms: st[Words::TERMS],
-        used: st[Words::USED],
-        blanks: st[Words::BLANKS],
-    }
-}
-
 fn set_counts(st: &mut [usize; Layout::WORDS], c: Counts)
     requires { ⌜ length (now st) ≡ words-size ⌝ }
     ensures { λ _. ⌜ CountsSet (now (st .entry)) (now (st .exit)) c ⌝ }
@@ -65,7 +54,7 @@ fn add(
     requires { ⌜ Room (now terms) (now store) (counts-of (now st)) sort (joined (take (end - start) (drop start (now work))) form (now back)) (now tag) × ((Part start end form (now back) × Usable (now work) (now st)) × InSlots (drop work-size (now work)) slot) ⌝ }
     ensures { λ r. ⌜ (r ≡ getD (now (st .entry)) terms-word 0 + 1) × TermAdded sort (joined (take (end - start) (drop start (now (work .entry)))) form (now (back .entry))) (now (tag .entry)) slot (now (work .entry)) (now (work .exit)) (now (terms .entry)) (now (terms .exit)) (now (store .entry)) (now (store .exit)) (now (st .entry)) (now (st .exit)) ⌝ }
 {
-    let c = counts(st);
+    let c = state::counts(st);
     let count = c.terms;
     let d = terms::add(terms, store, c, sort, &work[start..end], form, back, tag);
     index::enter(work, count, slot);
@@ -90,7 +79,7 @@ fn share(
     ensures { λ r. ⌜ Number r × ((rows : List ℕ) → Shares sort (joined (take (end - start) (drop start (now (work .entry)))) form (now (back .entry))) (now (tag .entry)) r (now (work .entry)) (now (work .exit)) (tables rows (now (terms .entry)) (now (store .entry))) (tables rows (now (terms .exit)) (now (store .exit))) (now (st .entry)) (now (st .exit))) ⌝ }
 {
     let n = Limits::work_size();
-    let c = counts(st);
+    let c = state::counts(st);
     let found = index::find(
         &work[n..],
         &terms[0..],
@@ -295,7 +284,7 @@ fn fresh(terms: &mut [u32], st: &mut [usize; Layout::WORDS]) -> usize
     requires { ⌜ FreshReady (now terms) (now st) ⌝ }
     ensures { λ r. ⌜ FreshWrites r (now (terms .entry)) (now (terms .exit)) (now (st .entry)) (now (st .exit)) ⌝ }
 {
-    let c = counts(st);
+    let c = state::counts(st);
     let count = c.terms;
     let d = terms::add_blank(terms, c);
     set_counts(st, d);
