@@ -11,4 +11,6 @@ pub mod Lines
 pub mod Tables
 pub mod ReadBack
 pub mod Renaming
+pub mod Texts
+pub mod Kept
 pub mod Examples
