@@ -478,7 +478,7 @@ pub record Told (e : Environment) (t : Token) : Type 0 where
   pub label : among («BLANK_NODE_LABEL» ∷ []) (t .kind) ≡ true → first-bad (node-label t) ≡ none
   pub tag : among (LANGTAG ∷ []) (t .kind) ≡ true → is-tag (tag t) ≡ true
 
-data Safes (t : Token) (e : Environment) (ts : List Term) : List (Rule (List Frame)) → Type 0 where
+pub data Safes (t : Token) (e : Environment) (ts : List Term) : List (Rule (List Frame)) → Type 0 where
   no-rule : Safes t e ts []
   rule : {ks : List Kind} {w : Write (List Frame)} {rs : List (Rule (List Frame))} → (among ks (t .kind) ≡ true → Safe e ts FramesFine w) → Safes t e ts rs → Safes t e ts ((ks ⇒ w) ∷ rs)
 
@@ -559,7 +559,7 @@ module _ (t : Token) (tied : Bool) (e : Environment) (ts : List Term) (told : To
         (rule (λ k.
         safe-bind b (λ us o p h. safe-return (list (o .place) (t .start) no-cell ∷ o .after) (λ vs q. ((place-more (o .place) q (h .0), tt), frames-more (o .after) q (h .1))))) no-rule))))))))
 
-  safe-frame : (f : Frame) → FrameFine ts f → Safes t e ts (frame-rules t tied f)
+  pub safe-frame : (f : Frame) → FrameFine ts f → Safes t e ts (frame-rules t tied f)
   safe-frame graph-label h =
       rule (λ k. one (λ g. graph-body g ∷ []) (safe-iri-term t (told .iri k)) (λ us n o r. (has-resource r, tt)))
       (rule (λ k. one (λ g. graph-body g ∷ []) (safe-label (node-label t) (told .label k)) (λ us n o r. (r, tt)))
@@ -591,7 +591,7 @@ module _ (t : Token) (tied : Bool) (e : Environment) (ts : List Term) (told : To
   safe-frame (datatype q at s) h =
       rule (λ k. safe-bind (safe-typed-by s t (h .1) (told .iri k)) (λ us n o r. safe-then (safe-hold q n at (place-more q o (h .0)) r) (λ vs p. safe-return [] (λ ws x. tt)))) no-rule
 
-  safe-statement : (mode : Mode) → Safes t e ts (statement-rules t tied mode)
+  pub safe-statement : (mode : Mode) → Safes t e ts (statement-rules t tied mode)
   safe-statement trig = enters 0 (triples-or-end ∷ []) (inl refl) (tt, tt) (opens (graph-label ∷ []) (tt, tt) (safe-subject top tt))
   safe-statement turtle = safe-subject (subject-before full-stop) tt
 
@@ -601,7 +601,7 @@ abbrev pub OpenFine : List Term → Open → Type 0
 OpenFine ts (directive d) = Unit {0}
 OpenFine ts (statement fs) = FramesFine ts fs
 
-found-safe : (t : Token) (tied : Bool) {e : Environment} {ts : List Term} {rs : List (Rule (List Frame))} (K : List Frame) → FramesFine ts K → Safes t e ts rs → (w : Write Open)
+pub found-safe : (t : Token) (tied : Bool) {e : Environment} {ts : List Term} {rs : List (Rule (List Frame))} (K : List Frame) → FramesFine ts K → Safes t e ts rs → (w : Write Open)
     → find-rule (t .kind) (above t tied K rs) ≡ some w → Safe e ts OpenFine w
 found-safe t tied K h no-rule w x = not-none x
 found-safe t tied {e} {ts} K h (rule {ks = ks} f r) w x =

@@ -13,4 +13,6 @@ pub mod ReadBack
 pub mod Renaming
 pub mod Texts
 pub mod Kept
+pub mod Iris
+pub mod Runs
 pub mod Examples

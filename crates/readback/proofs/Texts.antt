@@ -96,7 +96,7 @@ utf8-tail c t l u = utf8-cut [] t c l u .1
 abbrev pub Low : (ℕ → Bool) → Type 0
 Low p = (c : ℕ) → p c ≡ true → c < 128
 
-is-low : (k : ℕ) → k < 128 → Low (λ c. eqb c k)
+pub is-low : (k : ℕ) → k < 128 → Low (λ c. eqb c k)
 is-low k l c e = let q = eqb-true c k e in omega arith
 
 member-low : (cs : List ℕ) → T (lows cs) → Low (λ c. member c cs)
