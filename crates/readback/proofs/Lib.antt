@@ -15,4 +15,6 @@ pub mod Texts
 pub mod Kept
 pub mod Iris
 pub mod Runs
+pub mod Escapes
+pub mod Lexed
 pub mod Examples

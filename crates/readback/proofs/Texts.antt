@@ -99,7 +99,7 @@ Low p = (c : ℕ) → p c ≡ true → c < 128
 pub is-low : (k : ℕ) → k < 128 → Low (λ c. eqb c k)
 is-low k l c e = let q = eqb-true c k e in omega arith
 
-member-low : (cs : List ℕ) → T (lows cs) → Low (λ c. member c cs)
+pub member-low : (cs : List ℕ) → T (lows cs) → Low (λ c. member c cs)
 member-low [] t c e = contrary (sym e)
 member-low (d ∷ cs) t c e =
     let v = and-true (ltb d 128) (lows cs) t in
