@@ -17,4 +17,5 @@ pub mod Iris
 pub mod Runs
 pub mod Escapes
 pub mod Lexed
+pub mod Laid
 pub mod Examples
