@@ -28,7 +28,7 @@ use Rattle.readback.proofs.Kept.{Has, any, is-iri, is-resource, Fine, A
 five : (a b c d e : ℕ) (w : List ℕ) (n m : ℕ) → n ≡ suc (suc (suc (suc (suc m)))) → getD (a ∷ b ∷ c ∷ d ∷ e ∷ w) n 0 ≡ getD w m 0
 five a b c d e w n m h = ap (λ (k : ℕ). getD (a ∷ b ∷ c ∷ d ∷ e ∷ w) k 0) h
 
-abbrev no-row : Row
+abbrev pub no-row : Row
 no-row = record { graph = 0; subject = 0; predicate = 0; object = 0; position = 0 }
 
 row-first : (r : Row) (w : List ℕ) → row-at (row-words r ++ w) 0 ≡ r
@@ -63,7 +63,7 @@ entry-later t w i =
     λ j. record { kind = g j; start = f 1 j; size = f 2 j; fourth = f 3 j; fifth = f 4 j }
 
 -- How many blank nodes there are.
-pub blank-count : List Term → ℕ
+unfoldable pub blank-count : List Term → ℕ
 blank-count [] = 0
 blank-count (t ∷ ts) = cond (is-blank t) 1 0 + blank-count ts
 
@@ -89,7 +89,7 @@ entry-here all used blanks (t ∷ ts) w (suc i) h =
 
 -- ---- Places of terms
 
-known-place : (ts : List Term) (n : ℕ) (u : Term) → Known ts n u → (i : ℕ) × (n ≡ suc i) × (i < length ts) × (getD ts i (iri []) ≡ u)
+pub known-place : (ts : List Term) (n : ℕ) (u : Term) → Known ts n u → (i : ℕ) × (n ≡ suc i) × (i < length ts) × (getD ts i (iri []) ≡ u)
 unfolding term-at
 known-place [] n u e = not-none e
 known-place (t ∷ ts) zero u e = not-none e
@@ -102,7 +102,7 @@ place-known [] i h = absurd (omega arith)
 place-known (t ∷ ts) zero h = refl
 place-known (t ∷ ts) (suc i) h = place-known ts i (omega arith)
 
-fine-at : (all : List Term) (n : ℕ) (ts : List Term) (i : ℕ) → AllFine all n ts → i < length ts → Fine all (n + i) (getD ts i (iri []))
+pub fine-at : (all : List Term) (n : ℕ) (ts : List Term) (i : ℕ) → AllFine all n ts → i < length ts → Fine all (n + i) (getD ts i (iri []))
 fine-at all n [] i h l = absurd (omega arith)
 fine-at all n (t ∷ ts) zero h l = subst (λ (k : ℕ). Fine all k t) (omega arith) (h .0)
 fine-at all n (t ∷ ts) (suc i) h l = subst (λ (k : ℕ). Fine all k (getD ts i (iri []))) (omega arith) (fine-at all (suc n) ts i (h .1) (omega arith))
@@ -164,7 +164,7 @@ module _ (ts : List Term) (rs : List Row) (x y : List ℕ) (z : Text) where
 
   -- ---- A term's kind and text
 
-  abbrev kind-of : Term → ℕ
+  abbrev pub kind-of : Term → ℕ
   kind-of (iri t) = iri-kind
   kind-of (blank b) = blank-kind
   kind-of (literal t d) = literal-kind
@@ -198,7 +198,7 @@ module _ (ts : List Term) (rs : List Row) (x y : List ℕ) (z : Text) where
     text-fits : inside s (the s n .start) (the s n .size) ≡ true
     text-fits = ap₂ (λ (a b : ℕ). inside s a b) start-is size-is ∙ le-leb (l .start + length (text-of u)) (store-size ts) (omega (arith, l .ends))
 
-    kind-test : (j : ℕ) → has-kind s j n ≡ eqb (kind-of u) j
+    pub kind-test : (j : ℕ) → has-kind s j n ≡ eqb (kind-of u) j
     kind-test j = ap (λ (i : ℕ). eqb i j) kind-is
 
   -- ---- Good terms

@@ -18,4 +18,6 @@ pub mod Runs
 pub mod Escapes
 pub mod Lexed
 pub mod Laid
+pub mod Numbering
+pub mod RoundTrip
 pub mod Examples

@@ -96,7 +96,7 @@ refused-not : {X : Type 0} {c p : ℕ} {M : Memory} → refused c p ≡ accepted
 refused-not e = let z : _≡_ {A = ℕ} 0 1 = cc in absurd (omega arith)
 
 -- No test before the last tests holds, where none does.
-past : (c : ℕ) (b : Bool) (ts : List Test) → first-refusal (c when b ∷ ts) ≡ none → (b ≡ false) × (first-refusal ts ≡ none)
+pub past : (c : ℕ) (b : Bool) (ts : List Test) → first-refusal (c when b ∷ ts) ≡ none → (b ≡ false) × (first-refusal ts ≡ none)
 past c true ts e = not-none (sym e)
 past c false ts e = (refl, e)
 
