@@ -263,12 +263,14 @@ module _ {e : Environment} where
       (λ us n o q.
       safe-as
       (safe-term (literal s d)
-      (λ vs p.
-      (u, record {
-        place = n;
-        found = number-more (iri d) vs (literal s d ∷ []) n (number-stays p (iri d) n q);
-        before = omega (arith, number-within (iri d) vs n (number-stays p (iri d) n q));
-      })))
+      (λ vs p. (
+        u,
+        record {
+          place = n;
+          found = number-more (iri d) vs (literal s d ∷ []) n (number-stays p (iri d) n q);
+          before = omega (arith, number-within (iri d) vs n (number-stays p (iri d) n q));
+        },
+      )))
       (λ vs k p r. has-found (literal s d) tt r))
 
   -- The same of a token.

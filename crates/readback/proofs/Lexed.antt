@@ -191,24 +191,46 @@ behind (alt p q) = eps
 behind (star p) = eps
 
 each-terminal : Each terminals Shaped
-each-terminal =
-    (λ z m. shaped-iri z (quoted-one 60 62 tt refl steps-reference z m),
-    (λ z m. unsaid-shaped 2 tt z,
-    (λ z m. unsaid-shaped 3 tt z,
-    (λ z m. shaped-label z (labelled 95 58 (behind (behind (first-of (drop 3 terminals)))) tt z m),
-    (λ z m. unsaid-shaped 5 tt z,
-    (λ z m. unsaid-shaped 6 tt z,
-    (λ z m. shaped-tag z (tagged (behind (first-of (drop 6 terminals))) tt z m),
-    (λ z m. unsaid-shaped 8 tt z,
-    (λ z m. unsaid-shaped 9 tt z,
-    (λ z m. unsaid-shaped 10 tt z,
-    (λ z m. shaped-string 11 z refl (quoted-one 34 34 tt refl (steps-string 34 refl) z m),
-    (λ z m. shaped-string 12 z refl (quoted-one 39 39 tt refl (steps-string 39 refl) z m), each-unsaid (drop 12 terminals) tt))))))))))))
+each-terminal = (
+  λ z m. shaped-iri z (quoted-one 60 62 tt refl steps-reference z m),
+  (
+    λ z m. unsaid-shaped 2 tt z,
+    (
+      λ z m. unsaid-shaped 3 tt z,
+      (
+        λ z m. shaped-label z (labelled 95 58 (behind (behind (first-of (drop 3 terminals)))) tt z m),
+        (
+          λ z m. unsaid-shaped 5 tt z,
+          (
+            λ z m. unsaid-shaped 6 tt z,
+            (
+              λ z m. shaped-tag z (tagged (behind (first-of (drop 6 terminals))) tt z m),
+              (
+                λ z m. unsaid-shaped 8 tt z,
+                (
+                  λ z m. unsaid-shaped 9 tt z,
+                  (
+                    λ z m. unsaid-shaped 10 tt z,
+                    (
+                      λ z m. shaped-string 11 z refl (quoted-one 34 34 tt refl (steps-string 34 refl) z m),
+                      (λ z m. shaped-string 12 z refl (quoted-one 39 39 tt refl (steps-string 39 refl) z m), each-unsaid (drop 12 terminals) tt),
+                    ),
+                  ),
+                ),
+              ),
+            ),
+          ),
+        ),
+      ),
+    ),
+  ),
+)
 
 each-long : Each long-terminals Shaped
-each-long =
-    (λ z m. shaped-string 29 z refl (quoted-three 34 tt refl (steps-long 34 refl refl) z m),
-    (λ z m. shaped-string 30 z refl (quoted-three 39 tt refl (steps-long 39 refl refl) z m), tt))
+each-long = (
+  λ z m. shaped-string 29 z refl (quoted-three 34 tt refl (steps-long 34 refl refl) z m),
+  (λ z m. shaped-string 30 z refl (quoted-three 39 tt refl (steps-long 39 refl refl) z m), tt),
+)
 
 shaped : (cs : List ℕ) (k : ℕ) (z : List ℕ) → Some (terminals-at cs) k z → Shaped k z
 shaped cs k z m = go (tripled cs) m
