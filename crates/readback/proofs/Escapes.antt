@@ -1,27 +1,26 @@
 -- Escapes in strings and references: undone, they leave UTF-8, where they name characters.
-use mathlib.Core.Path.{_≡_, refl, sym, ap, ap₂, _∙_, subst}
+use mathlib.Core.Path.{_≡_, refl, sym, ap, _∙_, subst}
 use mathlib.Core.Logic.{_⊎_, inl, inr, ⊎-elim}
-use mathlib.Core.Bool.{Bool, true, false, not, _&&_, _||_}
-use mathlib.Core.List.{List, [], _∷_, _++_, append-assoc, append-nil}
-use Prim.Native.Nat.{ℕ, zero, suc, _+_, _*_, _≤_, _<_}
+use mathlib.Core.Bool.{Bool, true, false, _&&_}
+use mathlib.Core.List.{List, [], _∷_, _++_, append-assoc}
+use Prim.Native.Nat.{ℕ, zero, suc, _+_, _*_, _<_}
 use native.Mathlib.Omega.{arith}
-use borrow.Author.Tests.{eqb-true, ne-eqb, lt-ltb, ltb-false, leb-false, le-leb}
-use lib.Dec.{T, eqb, leb, ltb, ltb→lt, leb→le}
+use borrow.Author.Tests.{eqb-true, ne-eqb, lt-ltb, ltb-false, leb-false}
+use lib.Dec.{T, eqb, leb, ltb, leb→le}
 use lib.ListN.{length, length-append}
-use Rattle.text.specs.Text.{Text, ascii, cond, between}
+use Rattle.text.specs.Text.{Text, ascii, between}
 use Rattle.text.proofs.Booleans.{and-in, or-cases}
-use Rattle.text.proofs.Compare.{contrary}
 use Rattle.utf8.specs.Utf8.{Range, _–_, encode, encodes}
 use Rattle.utf8.specs.Scalar.{Scalar, Scalars, Highs}
 use Rattle.utf8.proofs.Tests.{by, split, and-true, or-false}
 use Rattle.utf8.proofs.Encoding.{highs-encode}
-use Rattle.utf8.proofs.Decoding.{encodes-append}
+use Rattle.utf8.proofs.Decoding.{encodes-append, scalars-right}
 use Rattle.token.specs.Regular.{Re, eps, set, seq, alt, star, in-ranges, in-set, Star, stop, more, Matches}
-use Rattle.escape.specs.Escape.{Piece, plain, numeric, letter, outside, behind, digits, hex-value, pieces-from, letter-value, unescape-piece, unescape-pieces, no-character, bad-pieces}
+use Rattle.escape.specs.Escape.{numeric, letter, outside, digits, hex-value, pieces-from, letter-value, unescape-piece, unescape-pieces, no-character, bad-pieces}
 use Rattle.escape.proofs.Steps.{at-backslash, at-plain, at-short, at-long, at-letter}
-use Rattle.readback.proofs.Undone.{lows, lows-encodes}
+use Rattle.readback.proofs.Undone.{lows, ascii-encode, lows-encodes}
 use Rattle.readback.proofs.Tags.{confined-ranges, confined, out-ranges}
-use Rattle.readback.proofs.Texts.{Utf8, utf8-none, utf8-append, low-encode, utf8-encode, utf8-cons}
+use Rattle.readback.proofs.Texts.{Utf8, utf8-none, utf8-append, utf8-encode, utf8-cons}
 
 -- ---- Texts that hold whole escapes
 
@@ -45,7 +44,7 @@ unslashed-highs (b ∷ s) h = (ne-eqb b 92 (λ e. let k = h .0 in absurd (omega 
 
 unslashed-encode : (c : ℕ) → eqb c 92 ≡ false → Unslashed (encode c)
 unslashed-encode c e =
-    ⊎-elim (λ h. subst Unslashed (sym (low-encode c h)) (e, tt)) (λ h. unslashed-highs (encode c) (highs-encode c h)) (split c 128)
+    ⊎-elim (λ h. subst Unslashed (sym (ascii-encode c h)) (e, tt)) (λ h. unslashed-highs (encode c) (highs-encode c h)) (split c 128)
 
 pub bad-plain : (x t : Text) → Unslashed x → bad-pieces (pieces-from outside (x ++ t)) ≡ bad-pieces (pieces-from outside t)
 unfolding bad-pieces
@@ -123,10 +122,6 @@ read-plain x s h u r =
 pub low-front : (hs cs : List ℕ) → T (lows hs) → encodes (hs ++ cs) ≡ hs ++ encodes cs
 low-front hs cs t = encodes-append hs cs ∙ ap (λ (x : Text). x ++ encodes cs) (lows-encodes hs t)
 
-scalars-behind : (hs cs : List ℕ) → Scalars (hs ++ cs) → Scalars cs
-scalars-behind [] cs h = h
-scalars-behind (x ∷ hs) cs h = scalars-behind hs cs (h .1)
-
 reads : {cs : List ℕ} → Escaped cs → Scalars cs → Read (encodes cs)
 unfolding encodes pieces-from unescape-pieces
 reads none h = record { good = λ y e. utf8-none }
@@ -137,12 +132,12 @@ reads (short hs cs l t x e) h =
     let (v, r) = hexes-read 3 0 hs l in
     let k = subst Scalars e h in
     subst Read (sym (ap encodes e ∙ low-front (92 ∷ 117 ∷ hs) cs t))
-    (read-numeric (92 ∷ 117 ∷ hs) (encodes cs) v (λ u. at-backslash 92 (117 ∷ (hs ++ u)) refl ∙ at-short 117 (hs ++ u) refl ∙ r u) (reads x (scalars-behind (92 ∷ 117 ∷ hs) cs k)))
+    (read-numeric (92 ∷ 117 ∷ hs) (encodes cs) v (λ u. at-backslash 92 (117 ∷ (hs ++ u)) refl ∙ at-short 117 (hs ++ u) refl ∙ r u) (reads x (scalars-right (92 ∷ 117 ∷ hs) cs k)))
 reads (long hs cs l t x e) h =
     let (v, r) = hexes-read 7 0 hs l in
     let k = subst Scalars e h in
     subst Read (sym (ap encodes e ∙ low-front (92 ∷ 85 ∷ hs) cs t))
-    (read-numeric (92 ∷ 85 ∷ hs) (encodes cs) v (λ u. at-backslash 92 (85 ∷ (hs ++ u)) refl ∙ at-long 85 (hs ++ u) refl refl ∙ r u) (reads x (scalars-behind (92 ∷ 85 ∷ hs) cs k)))
+    (read-numeric (92 ∷ 85 ∷ hs) (encodes cs) v (λ u. at-backslash 92 (85 ∷ (hs ++ u)) refl ∙ at-long 85 (hs ++ u) refl refl ∙ r u) (reads x (scalars-right (92 ∷ 85 ∷ hs) cs k)))
 
 -- Such a text undone, where no escape of it and of what follows names no character.
 pub utf8-unescape : {cs : List ℕ} → Escaped cs → Scalars cs → (y : Text) → bad-pieces (pieces-from outside (encodes cs ++ y)) ≡ false → Utf8 (unescape-pieces (pieces-from outside (encodes cs)))

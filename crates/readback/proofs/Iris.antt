@@ -1,15 +1,14 @@
 -- The IRIs that tokens stand for have a scheme, are short and UTF-8: so are namespaces and bases, which are resolved when declared.
 use mathlib.Core.Path.{_≡_, refl, sym, ap, _∙_}
-use mathlib.Core.Logic.{_⊎_, inl, inr, ⊎-elim}
-use mathlib.Core.Bool.{Bool, true, false, not, _&&_, _||_}
+use mathlib.Core.Logic.{_⊎_, ⊎-elim}
+use mathlib.Core.Bool.{Bool, true, false, not, _||_}
 use mathlib.Core.List.{List, [], _∷_, _++_}
-use mathlib.Core.Option.{Option, none, some}
 use Prim.Native.Nat.{ℕ, _≤_}
 use native.Mathlib.Omega.{arith}
 use borrow.Author.Tests.{eqb-true, ltb-false}
 use lib.Dec.{eqb, ltb}
 use lib.ListN.{length}
-use Rattle.text.specs.Text.{Text, ascii, cond, is, empty, is-none, same-text, until, from}
+use Rattle.text.specs.Text.{Text, ascii, is, empty, is-none, same-text, until, from}
 use Rattle.text.proofs.Compare.{and-left, and-right, contrary}
 use Rattle.limits.specs.Limits.{iri-limit}
 use Rattle.utf8.proofs.Tests.{by}
@@ -22,10 +21,9 @@ use Rattle.iri.proofs.Lengths.{resolve-short}
 use Rattle.scope.specs.Environment.{Binding, Environment, lookup, bound}
 use Rattle.dataset.specs.Constructors.{string-text, tag, node-label, reference, prefix, local, or-empty, resolved-reference, joined-name, iri-of, Awaited, nothing, awaiting}
 use Rattle.table.specs.Usable.{is-tag}
-use Rattle.table.proofs.Numbers.{not-none}
 use Rattle.machine.specs.Refusals.{no-character, undeclared, no-base, too-long}
 use Rattle.readback.proofs.Forms.{GoodIri}
-use Rattle.readback.proofs.Texts.{Utf8, utf8-none, utf8-append, utf8-behind, utf8-unreserve, utf8-resolve, is-low}
+use Rattle.readback.proofs.Texts.{Utf8, utf8-append, utf8-behind, utf8-unreserve, utf8-resolve, is-low}
 use Rattle.readback.proofs.Kept.{Told}
 
 -- ---- Schemes

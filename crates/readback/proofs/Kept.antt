@@ -4,15 +4,15 @@ use mathlib.Core.Logic.{_⊎_, inl, inr}
 use mathlib.Core.Bool.{Bool, true, false, _&&_}
 use mathlib.Core.List.{List, [], _∷_, _++_, append-nil, append-assoc}
 use mathlib.Core.Option.{Option, none, some}
-use Prim.Native.Nat.{ℕ, zero, suc, _+_, _≤_, _<_}
+use Prim.Native.Nat.{ℕ, suc, _+_, _<_}
 use native.Mathlib.Omega.{arith}
 use lib.Dec.{T, leb, leb→le}
-use lib.ListN.{length, length-append}
-use Rattle.text.specs.Text.{Text, cond, is-none}
+use lib.ListN.{length}
+use Rattle.text.specs.Text.{Text, is-none}
 use Rattle.text.proofs.Booleans.{and-0, and-1, is-true}
 use Rattle.limits.specs.Limits.{iri-limit}
 use Rattle.utf8.specs.Utf8.{first-bad}
-use Rattle.token.specs.Kind.{Kind, among, iris, strings, at-prefix, at-base, PREFIX, BASE, LANGTAG, IRIREF, «PNAME_NS», «BLANK_NODE_LABEL», dot}
+use Rattle.token.specs.Kind.{Kind, among, iris, strings, LANGTAG, «BLANK_NODE_LABEL»}
 use Rattle.token.specs.Tokens.{Token}
 use Rattle.iri.specs.Iri.{has-scheme}
 use Rattle.grammar.specs.Productions.{Mode, trig, turtle}
@@ -25,11 +25,12 @@ use Rattle.table.specs.Usable.{is-tag}
 use Rattle.table.specs.LongForm.{computing}
 use Rattle.table.proofs.Numbers.{Known, known-more, known-last, found-known, not-none}
 use Rattle.table.proofs.Finding.{number-more, number-last, number-within}
-use Rattle.machine.specs.Memory.{Memory, Write, return, _>>=_, _>>_, Done, done, term, term-by, new-term, typed, typed-by, iri-term, row, enter}
+use Rattle.machine.specs.Memory.{Memory, Write, return, _>>=_, _>>_, done, term, term-by, new-term, typed, typed-by, iri-term, row, enter}
 use Rattle.machine.specs.Frame.{Ending, full-stop, brace, bracket-end, Place, top, subject-before, object-of, element-of, Cells, no-cell, cells, Frame, graph-label, closing-label, graph-body, label-or-subject, triples-or-end, verb, verb-or-end, object, after-object, after-semicolon, bracket, list, suffix, datatype, Open, directive, statement}
 use Rattle.machine.specs.Rules.{Rule, _⇒_, find-rule, hold, new-cell, extended, end-list, after-node, after-properties, list-place, Opening, end-rules, verb-rules, subject-rules, simple, string, object-rules, frame-rules, above, statement-rules}
 use Rattle.machine.proofs.Made.{first-or-later}
 use Rattle.readback.proofs.Forms.{GoodIri}
+use Rattle.readback.proofs.Tables.{none-bad}
 
 -- ---- Terms that are added
 
@@ -288,17 +289,13 @@ module _ {e : Environment} where
 abbrev supplied : Text → Bool
 supplied s = has-scheme s && leb (length s) iri-limit && is-none (first-bad s)
 
-none-bad : (o : Option ℕ) → T (is-none o) → o ≡ none
-none-bad none h = refl
-none-bad (some n) h = absurd h
-
 supplied-good : (s : Text) → T (supplied s) → GoodIri s
 supplied-good s h =
     let a = and-0 (has-scheme s && leb (length s) iri-limit) (is-none (first-bad s)) h in
     record {
       scheme = is-true (has-scheme s) (and-0 (has-scheme s) (leb (length s) iri-limit) a);
       short = leb→le (length s) iri-limit (and-1 (has-scheme s) (leb (length s) iri-limit) a);
-      utf8 = none-bad (first-bad s) (and-1 (has-scheme s && leb (length s) iri-limit) (is-none (first-bad s)) h);
+      utf8 = none-bad (first-bad s) (is-true (is-none (first-bad s)) (and-1 (has-scheme s && leb (length s) iri-limit) (is-none (first-bad s)) h));
     }
 
 type-good : GoodIri rdf-type

@@ -1,27 +1,28 @@
 -- Terms and rows as they lie in slices: tables that were kept as the writer takes them are usable, whatever stood in the slices before.
 use mathlib.Core.Path.{_≡_, refl, sym, ap, ap₂, _∙_, subst}
-use mathlib.Core.Logic.{_⊎_, inl, inr, ⊎-elim}
+use mathlib.Core.Logic.{_⊎_, inl, inr}
 use mathlib.Core.Bool.{Bool, true, false, _&&_, _||_}
 use mathlib.Core.List.{List, [], _∷_, _++_, append-assoc}
-use mathlib.Core.Option.{Option, none, some}
-use Prim.Native.Nat.{ℕ, zero, suc, pred, _+_, _*_, _≤_, _<_}
+use mathlib.Core.Option.{Option, none}
+use Prim.Native.Nat.{ℕ, zero, suc, _+_, _*_, _≤_, _<_}
 use native.Mathlib.Omega.{arith}
-use borrow.Author.Tests.{eq-eqb, le-leb, lt-ltb}
-use lib.Dec.{T, eqb, leb, ltb}
-use lib.ListN.{length, getD, take, drop, length-append}
+use borrow.Author.Tests.{le-leb, lt-ltb}
+use lib.Dec.{T, eqb, leb}
+use lib.ListN.{length, getD, take, length-append}
 use lib.Seq.{take-at}
 use Rattle.text.specs.Text.{Text, cond, is-none}
 use Rattle.limits.specs.Limits.{iri-limit}
 use Rattle.utf8.specs.Utf8.{first-bad}
+use Rattle.utf8.proofs.Tests.{by}
 use Rattle.iri.specs.Iri.{has-scheme}
 use Rattle.dataset.specs.Terms.{Term, iri, blank, literal, tagged}
 use Rattle.table.specs.Layout.{Row, row-words, row-at, Entry, entry-words, entry-at, iri-kind, blank-kind, literal-kind, tagged-kind, Slices, span}
-use Rattle.table.specs.Tables.{number, or-zero, term-at, is-blank, text-of, tag-of, term-bytes, entry-of, words-from, terms-words, store-bytes, store-size, rows-words}
-use Rattle.table.specs.Usable.{each, is-tag, the, text, tag, inside, counts-fit, has-kind, good-iri, good-datatype, good-tag, good-term, present, resource, good-row, usable}
+use Rattle.table.specs.Tables.{or-zero, term-at, is-blank, text-of, tag-of, term-bytes, entry-of, words-from, terms-words, store-bytes, store-size, rows-words}
+use Rattle.table.specs.Usable.{each, the, text, tag, inside, counts-fit, has-kind, good-iri, good-datatype, good-tag, good-term, present, resource, good-row, usable}
 use Rattle.table.proofs.Numbers.{Known, not-none, found-known}
 use Rattle.table.proofs.Finding.{number-positive}
 use Rattle.table.proofs.Store.{bytes-length, text-span, tag-span, inside as spans-inside}
-use Rattle.readback.proofs.Kept.{Has, any, is-iri, is-resource, Fine, AllFine, RowFine, RowsFine}
+use Rattle.readback.proofs.Kept.{Has, is-iri, is-resource, Fine, AllFine, RowFine, RowsFine}
 
 -- ---- Words, five at a time
 
@@ -266,11 +267,7 @@ module _ (ts : List Term) (rs : List Row) (x y : List ℕ) (z : Text) where
 
   graph-fine : (g : ℕ) → (g ≡ 0) ⊎ Has is-resource ts g → (eqb g 0 || resource s g) ≡ true
   graph-fine g (inl e) = rw e
-  graph-fine g (inr h) = rw (resource-fine g h) (either (eqb g 0))
-    where
-      either : (b : Bool) → (b || true) ≡ true
-      either true = refl
-      either false = refl
+  graph-fine g (inr h) = by (eqb g 0) (λ e. rw e) (λ e. rw e (resource-fine g h))
 
   row-fine : (r : Row) → RowFine ts r → good-row s r ≡ true
   unfolding good-row

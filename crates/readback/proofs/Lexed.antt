@@ -1,9 +1,9 @@
 -- The tokens of a document that is UTF-8: their texts are cut at token ends, and their values are UTF-8.
 use mathlib.Core.Path.{_≡_, refl, sym, ap, ap₂, _∙_, subst}
-use mathlib.Core.Logic.{_⊎_, inl, inr, ⊎-elim}
+use mathlib.Core.Logic.{_⊎_, ⊎-elim}
 use mathlib.Core.Bool.{Bool, true, false, not, _&&_, _||_}
 use mathlib.Core.List.{List, [], _∷_, _++_, append-assoc, append-nil}
-use Prim.Native.Nat.{ℕ, zero, suc, _+_, _-_, _≤_, _<_}
+use Prim.Native.Nat.{ℕ, suc, _+_, _-_, _≤_}
 use native.Mathlib.Omega.{arith}
 use borrow.Author.Tests.{eq-eqb, lt-ltb}
 use lib.Dec.{T, eqb, ltb, ltb→lt}
@@ -11,17 +11,17 @@ use lib.ListN.{length, take, drop, length-append}
 use lib.Seq.{take-at, drop-at}
 use Rattle.text.specs.Text.{Text, ascii, cond, is}
 use Rattle.text.proofs.Compare.{contrary}
-use Rattle.utf8.specs.Utf8.{Range, _–_, width, encode, encodes, decode, first-bad}
+use Rattle.utf8.specs.Utf8.{width, encode, encodes, decode, first-bad}
 use Rattle.utf8.specs.Scalar.{Scalars}
-use Rattle.utf8.proofs.Tests.{by, and-true, or-true, or-false}
+use Rattle.utf8.proofs.Tests.{and-true, or-true}
 use Rattle.utf8.proofs.Encoding.{length-encode}
 use Rattle.utf8.proofs.Decoding.{valid-encodes, valid-encoded, encodes-append, scalars-right}
-use Rattle.token.specs.Kind.{Kind, kind-code, kind-of-code, among, strings, long-strings, IRIREF, LANGTAG, «BLANK_NODE_LABEL»}
+use Rattle.token.specs.Kind.{kind-code, kind-of-code, among, strings, long-strings, IRIREF, LANGTAG, «BLANK_NODE_LABEL»}
 use Rattle.token.specs.Regular.{Re, set, seq, alt, star, eps, Matches, Item, item, Some, Match, nothing, hit, size, Hit, Longest}
 use Rattle.token.specs.Terminals.{terminals, long-terminals, tripled, terminals-at, token-at}
 use Rattle.token.specs.Tokens.{Token, has-kind, token, unreadable, Cutting, between, comment, inside, white-space, in-comment, passed, lexemes-from, lexemes, tokens-of}
 use Rattle.token.proofs.Longest.{token-longest}
-use Rattle.token.proofs.Sizes.{length-encodes, size-append}
+use Rattle.token.proofs.Sizes.{length-encodes}
 use Rattle.escape.specs.Escape.{outside, pieces-from, pieces, unescape-pieces, unescape, bad-pieces, bad-escape}
 use Rattle.dataset.specs.Constructors.{inner, string-text, reference, tag, node-label}
 use Rattle.table.specs.Usable.{is-match, is-tag}
@@ -29,7 +29,7 @@ use Rattle.machine.specs.Refusals.{no-character}
 use Rattle.readback.proofs.Undone.{lows, lows-encodes}
 use Rattle.readback.proofs.Printed.{no-quote}
 use Rattle.readback.proofs.Tags.{confined}
-use Rattle.readback.proofs.Texts.{Utf8, utf8-none, utf8-tail, is-low, member-low}
+use Rattle.readback.proofs.Texts.{Utf8, is-low, member-low}
 use Rattle.readback.proofs.Escapes.{Escaped, none, Unslashed, bad-plain, low-front, utf8-unescape, Steps, steps-star, confined-lows, char, char-is, char-then, steps-reference, steps-string, steps-long}
 use Rattle.readback.proofs.Iris.{Lexed}
 use Rattle.readback.proofs.Runs.{AllLexed}

@@ -6,19 +6,20 @@ use mathlib.Core.List.{List, [], _∷_, _++_, map}
 use mathlib.Core.Option.{Option, none, some}
 use Prim.Native.Nat.{ℕ, zero, suc, pred, _+_, _≤_, _<_}
 use native.Mathlib.Omega.{arith}
-use lib.Dec.{T, eqb}
+use lib.Dec.{T}
 use lib.ListN.{length, getD, take}
 use Rattle.text.specs.Text.{Text, ascii, cond}
+use Rattle.text.proofs.Booleans.{is-true}
 use Rattle.utf8.proofs.Tests.{split}
 use Rattle.dataset.specs.Terms.{Blank, label, bracket, cell, numbered, Term, iri, blank, literal, tagged, Quad}
 use Rattle.table.specs.Layout.{Row, row-at, Entry, iri-kind, blank-kind, literal-kind, Slices, span}
 use Rattle.table.specs.Tables.{number, or-zero, or-nil, is-blank, term-of, graph-of, quad-of, quads}
 use Rattle.table.specs.Usable.{the, text, tag, term, graph, quad, quads-from, held}
-use Rattle.table.proofs.Numbers.{Known, not-none, found-known, known-zero}
+use Rattle.table.proofs.Numbers.{Known, found-known}
 use Rattle.readback.specs.ReadBack.{label-of-number, renamed-term, renamed-graph, renamed, word-limit, with-blanks-term, with-blanks-graph, with-blanks}
 use Rattle.readback.proofs.Renaming.{labels-apart}
 use Rattle.readback.proofs.Kept.{Has, is-resource, Fine, AllFine, RowFine, RowsFine}
-use Rattle.readback.proofs.Laid.{no-row, row-here, blank-count, known-place, fine-at, laid, Lies, lies, kind-test, text-is}
+use Rattle.readback.proofs.Laid.{no-row, row-here, blank-count, known-place, fine-at, laid, lies, kind-test, text-is}
 
 -- ---- The label of a node
 
@@ -42,11 +43,7 @@ count-less : (ts : List Term) (i j : ℕ) → i < j → i < length ts → T (is-
 unfolding blank-count
 count-less [] i j l h b = absurd (omega arith)
 count-less (t ∷ ts) i zero l h b = absurd (omega arith)
-count-less (t ∷ ts) zero (suc j) l h b = subst (λ (x : Bool). 0 < cond x 1 0 + blank-count (take j ts)) (sym (true-of (is-blank t) b)) (omega arith)
-  where
-    true-of : (x : Bool) → T x → x ≡ true
-    true-of true h = refl
-    true-of false h = absurd h
+count-less (t ∷ ts) zero (suc j) l h b = subst (λ (x : Bool). 0 < cond x 1 0 + blank-count (take j ts)) (sym (is-true (is-blank t) b)) (omega arith)
 count-less (t ∷ ts) (suc i) (suc j) l h b = let r = count-less ts i j (omega arith) (omega arith) b in omega arith
 
 count-most : (ts : List Term) (i : ℕ) → blank-count (take i ts) ≤ length ts

@@ -1,37 +1,36 @@
 -- What the reader leaves of an accepted document the writer takes, and its long form, read again, gives the document's statements.
 use mathlib.Core.Path.{_≡_, refl, sym, ap, _∙_, subst}
 use mathlib.Core.Logic.{_⊎_, inl, inr}
-use mathlib.Core.Bool.{Bool, true, false, not, _&&_, _||_}
+use mathlib.Core.Bool.{Bool, true, false, not, _||_}
 use mathlib.Core.List.{List, [], _∷_, map}
-use mathlib.Core.Option.{Option, none, some}
-use Prim.Native.Nat.{ℕ, zero, suc, _+_, _*_, _≤_, _<_}
+use Prim.Native.Nat.{ℕ, _≤_, _<_}
 use native.Mathlib.Omega.{arith}
 use borrow.Author.Tests.{le-ltb, ltb-false}
 use lib.Dec.{ltb, leb}
 use lib.ListN.{length, take, drop}
-use Rattle.text.specs.Text.{Text, empty, is-none, some-byte}
+use Rattle.text.specs.Text.{Text, is-none, some-byte}
 use Rattle.text.proofs.Compare.{contrary}
-use Rattle.limits.specs.Limits.{document-limit, iri-limit, work-size}
+use Rattle.limits.specs.Limits.{document-limit, iri-limit}
 use Rattle.utf8.specs.Utf8.{first-bad}
 use Rattle.utf8.proofs.Tests.{by, or-false}
 use Rattle.token.specs.Tokens.{lexemes}
 use Rattle.iri.specs.Iri.{has-scheme, forbidden}
-use Rattle.dataset.specs.Terms.{Term, Quad}
+use Rattle.dataset.specs.Terms.{Quad}
 use Rattle.table.specs.Layout.{Slices}
 use Rattle.table.specs.Usable.{usable}
 use Rattle.table.specs.LongForm.{long-form, write}
 use Rattle.machine.specs.Memory.{Memory, start-memory}
 use Rattle.machine.specs.Frame.{statement}
-use Rattle.machine.specs.Step.{first-refusal}
 use Rattle.machine.specs.Read.{Lent, Answer, bad-base, first-checks, success, mode-of, room-of, start-state, read}
 use Rattle.machine.specs.Construction.{tables}
-use Rattle.machine.specs.Demand.{Fits, Meets}
+use Rattle.machine.specs.Demand.{Meets}
 use Rattle.machine.proofs.Constructed.{tables-hold}
 use Rattle.machine.proofs.Demands.{meets-run, meets-answer, zero-meets}
 use Rattle.machine.proofs.Distinct.{one-number}
 use Rattle.machine.proofs.Sizes.{sizes}
-use Rattle.readback.specs.ReadBack.{long-form-mode, renamed, ReadAgain, word-limit, left, with-blanks, SameStatements, RoundTrip}
-use Rattle.readback.proofs.ReadBack.{WrittenForm, written-form, read-again}
+use Rattle.readback.specs.ReadBack.{long-form-mode, word-limit, left, with-blanks, SameStatements, RoundTrip}
+use Rattle.readback.proofs.Tables.{none-bad}
+use Rattle.readback.proofs.ReadBack.{written-form, read-again}
 use Rattle.readback.proofs.Kept.{Kept}
 use Rattle.readback.proofs.Iris.{Absolute}
 use Rattle.readback.proofs.Runs.{Stays, past, stays-run}
@@ -48,15 +47,11 @@ base-absolute (c ∷ b) e =
     let (f, g) = or-false (ltb iri-limit (length s) || not (is-none (first-bad s)) || not (has-scheme s)) (some-byte forbidden s) e in
     let (h, i) = or-false (ltb iri-limit (length s) || not (is-none (first-bad s))) (not (has-scheme s)) f in
     let (j, k) = or-false (ltb iri-limit (length s)) (not (is-none (first-bad s))) h in
-    inr (record { scheme = is-so (has-scheme s) i; utf8 = none-bad (first-bad s) k })
+    inr (record { scheme = is-so (has-scheme s) i; utf8 = none-bad (first-bad s) (is-so (is-none (first-bad s)) k) })
   where
     is-so : (x : Bool) → not x ≡ false → x ≡ true
     is-so true e = refl
     is-so false e = contrary e
-
-    none-bad : (o : Option ℕ) → not (is-none o) ≡ false → o ≡ none
-    none-bad none e = refl
-    none-bad (some n) e = contrary e
 
 module _ (doc : Text) (mode : ℕ) (base : Text) (lent : Lent) (x : Meets doc mode base lent) where
   abbrev made : Memory

@@ -1,25 +1,24 @@
 -- The tables of an accepted document are such as the writer takes: a run keeps them so.
 use mathlib.Core.Path.{_≡_, refl, sym, ap, _∙_, subst}
-use mathlib.Core.Logic.{_⊎_, inl, inr}
+use mathlib.Core.Logic.{inr}
 use mathlib.Core.Bool.{Bool, true, false}
 use mathlib.Core.List.{List, [], _∷_}
 use mathlib.Core.Option.{Option, none, some}
 use Prim.Native.Nat.{ℕ}
 use native.Mathlib.Omega.{arith}
 use lib.ListN.{drop}
-use Rattle.text.specs.Text.{Text, cond}
+use Rattle.text.specs.Text.{cond}
 use Rattle.token.specs.Kind.{among, IRIREF, «PNAME_NS», at-prefix, at-base, PREFIX, BASE, dot}
 use Rattle.token.specs.Tokens.{Token, Lexeme, token, unreadable, tokens-of}
 use Rattle.grammar.specs.Productions.{Mode}
 use Rattle.scope.specs.Environment.{Environment}
-use Rattle.dataset.specs.Terms.{Term}
 use Rattle.dataset.specs.Constructors.{iri-of, nothing, awaiting}
 use Rattle.table.proofs.Numbers.{not-none}
 use Rattle.machine.specs.Memory.{Memory, Write}
 use Rattle.machine.specs.Frame.{Directive, prefix-name, namespace-of, new-base, last-dot, Open, directive, statement}
 use Rattle.machine.specs.Refusals.{no-character, undeclared, no-base, too-long}
 use Rattle.machine.specs.Rules.{find-rule, directive-rules, rules}
-use Rattle.machine.specs.Step.{Room, State, Test, _when_, first-refusal, awaited-by, in-force-now, Next, go, stop, obeyed, tests, answer, step, tied-to, Outcome, accepted, refused, at-end, onward, run}
+use Rattle.machine.specs.Step.{Room, State, Test, _when_, first-refusal, awaited-by, in-force-now, obeyed, tests, answer, step, tied-to, Outcome, accepted, refused, at-end, onward, run}
 use Rattle.machine.proofs.Made.{first-or-later}
 use Rattle.readback.proofs.Kept.{more-same, Kept, Safe, Told, safe-frame, safe-statement, OpenFine, found-safe}
 use Rattle.readback.proofs.Iris.{Absolute, Declared, bound-absolute, Lexed, iriref-absolute, told}

@@ -1,26 +1,26 @@
 -- What keeps a text UTF-8: joining, cutting at ASCII bytes, undoing escapes, and resolving a reference, which cuts at ASCII bytes alone.
-use mathlib.Core.Path.{_≡_, refl, sym, ap, ap₂, _∙_, subst}
+use mathlib.Core.Path.{_≡_, refl, sym, ap, ap₂, _∙_}
 use mathlib.Core.Logic.{_⊎_, inl, inr, ⊎-elim}
 use mathlib.Core.Bool.{Bool, true, false, _&&_, _||_}
-use mathlib.Core.List.{List, [], _∷_, _++_, append-assoc}
+use mathlib.Core.List.{List, [], _∷_, _++_, append-nil}
 use mathlib.Core.Option.{none}
-use Prim.Native.Nat.{ℕ, zero, suc, _+_, _*_, _≤_, _<_}
+use Prim.Native.Nat.{ℕ, zero, suc, _+_, _≤_, _<_}
 use native.Mathlib.Omega.{arith}
-use borrow.Author.Tests.{eqb-true, lt-ltb}
+use borrow.Author.Tests.{eqb-true}
 use lib.Dec.{T, eqb, ltb, ltb→lt}
-use lib.ListN.{length, drop, length-append}
+use lib.ListN.{length, drop}
 use Rattle.text.specs.Text.{Text, ascii, cond, is, one-of, member, empty, begins, same-text, until, from, some-byte}
 use Rattle.text.proofs.Compare.{and-left, and-right, contrary}
 use Rattle.utf8.specs.Utf8.{encode, encodes, decode, first-bad}
 use Rattle.utf8.specs.Scalar.{Scalar, Scalars, Highs}
 use Rattle.utf8.proofs.Tests.{by, split, and-true, or-true, or-false}
-use Rattle.utf8.proofs.Encoding.{highs-encode, length-encode, width-pos}
+use Rattle.utf8.proofs.Encoding.{highs-encode}
 use Rattle.utf8.proofs.Decoding.{valid-encodes, valid-encoded, encodes-append}
 use Rattle.escape.specs.Escape.{unreserve}
 use Rattle.iri.specs.Iri.{scheme, after-scheme}
 use Rattle.iri.specs.Dots.{Buffers, buffers, without-last-segment, first-segment, after-first-segment, turn, turns, remove-dot-segments}
 use Rattle.iri.specs.Resolve.{Parts, authority-of, after-authority, parts, defined, up-to-last-slash, merge, transform, recompose, resolve-by, resolve}
-use Rattle.readback.proofs.Undone.{lows, scalars-append}
+use Rattle.readback.proofs.Undone.{lows, ascii-encode, scalars-append}
 
 abbrev pub Utf8 : Text → Type 0
 Utf8 s = first-bad s ≡ none
@@ -36,19 +36,12 @@ utf8-append s t u v =
     ap first-bad (ap₂ (λ (x y : Text). x ++ y) (a .bytes) (b .bytes) ∙ sym (encodes-append (decode s) (decode t)))
     ∙ valid-encodes (decode s ++ decode t) (scalars-append (decode s) (decode t) (a .scalars) (b .scalars))
 
-pub low-encode : (c : ℕ) → c < 128 → encode c ≡ c ∷ []
-low-encode c h = simp (lt-ltb c 128 h)
-
 pub utf8-encode : (c : ℕ) → Scalar c → Utf8 (encode c)
 unfolding encodes
-utf8-encode c h = ap first-bad (sym (append-nil-of (encode c))) ∙ valid-encodes (c ∷ []) (h, tt)
-  where
-    append-nil-of : (s : Text) → s ++ [] ≡ s
-    append-nil-of [] = refl
-    append-nil-of (b ∷ s) = ap (λ (t : Text). b ∷ t) (append-nil-of s)
+utf8-encode c h = ap first-bad (sym (append-nil (encode c))) ∙ valid-encodes (c ∷ []) (h, tt)
 
 pub utf8-low : (c : ℕ) → c < 128 → Utf8 (c ∷ [])
-utf8-low c h = ap first-bad (sym (low-encode c h)) ∙ utf8-encode c (omega arith, inl (omega arith))
+utf8-low c h = ap first-bad (sym (ascii-encode c h)) ∙ utf8-encode c (omega arith, inl (omega arith))
 
 pub utf8-cons : (c : ℕ) (s : Text) → c < 128 → Utf8 s → Utf8 (c ∷ s)
 utf8-cons c s h u = utf8-append (c ∷ []) s (utf8-low c h) u
@@ -70,7 +63,7 @@ unfolding encodes
 cut [] h [] t c l e = let z : _≡_ {A = ℕ} 0 1 = cc in absurd (omega arith)
 cut [] h (a ∷ s) t c l e = let z : _≡_ {A = ℕ} 0 1 = cc in absurd (omega arith)
 cut (d ∷ ds) h s t c l e =
-    ⊎-elim (λ k. low k s (ap (λ (x : Text). x ++ encodes ds) (sym (low-encode d k)) ∙ e) (λ v f. cut ds (h .1) v t c l f))
+    ⊎-elim (λ k. low k s (ap (λ (x : Text). x ++ encodes ds) (sym (ascii-encode d k)) ∙ e) (λ v f. cut ds (h .1) v t c l f))
     (λ k.
     let (v, i, j) = highs-front (encode d) (highs-encode d k) (encodes ds) s t c l e in
     let (u, w) = cut ds (h .1) v t c l j in
@@ -166,7 +159,7 @@ unreserve-points [] h = utf8-none
 unreserve-points (c ∷ cs) h =
     ⊎-elim
     (λ k.
-    ap (λ (x : Text). first-bad (unreserve (x ++ encodes cs))) (low-encode c k)
+    ap (λ (x : Text). first-bad (unreserve (x ++ encodes cs))) (ascii-encode c k)
     ∙ by (eqb c 92) (λ e. rw e (unreserve-points cs (h .1))) (λ e. rw e (utf8-cons c (unreserve (encodes cs)) k (unreserve-points cs (h .1)))))
     (λ k.
     ap first-bad (unreserve-highs (encode c) (highs-encode c k) (encodes cs))
