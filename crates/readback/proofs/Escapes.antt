@@ -84,13 +84,13 @@ letter-low c h =
     by (eqb c 110) (λ e. rw (a, b, e) (omega arith))
     (λ d. by (eqb c 114) (λ e. rw (a, b, d, e) (omega arith)) (λ f. by (eqb c 102) (λ e. rw (a, b, d, f, e) (omega arith)) (λ e. rw (a, b, d, f, e) h)))))
 
--- What a text is, and what becomes of it before any other.
-record Read (s : Text) : Type 0 where
+-- Undone, the text leaves UTF-8, if no escape of it and of what follows names no character.
+record Clean (s : Text) : Type 0 where
   good : (y : Text) → bad-pieces (pieces-from outside (s ++ y)) ≡ false → Utf8 (unescape-pieces (pieces-from outside s))
 
-read-numeric : (front s : Text) (v : ℕ) → ((t : Text) → pieces-from outside (front ++ t) ≡ numeric v ∷ pieces-from outside t) → Read s → Read (front ++ s)
+clean-numeric : (front s : Text) (v : ℕ) → ((t : Text) → pieces-from outside (front ++ t) ≡ numeric v ∷ pieces-from outside t) → Clean s → Clean (front ++ s)
 unfolding bad-pieces unescape-pieces unescape-piece
-read-numeric front s v r x =
+clean-numeric front s v r x =
     record {
       good =
           λ y e.
@@ -98,9 +98,9 @@ read-numeric front s v r x =
           subst (λ us. Utf8 (unescape-pieces us)) (sym (r s)) (utf8-append (encode v) (unescape-pieces (pieces-from outside s)) (utf8-encode v (named-scalar v a)) (x .good y b));
     }
 
-read-letter : (c : ℕ) (s : Text) → c < 128 → eqb c 117 ≡ false → eqb c 85 ≡ false → Read s → Read (92 ∷ c ∷ s)
+clean-letter : (c : ℕ) (s : Text) → c < 128 → eqb c 117 ≡ false → eqb c 85 ≡ false → Clean s → Clean (92 ∷ c ∷ s)
 unfolding bad-pieces unescape-pieces unescape-piece
-read-letter c s h m n x =
+clean-letter c s h m n x =
     let r : (t : Text) → pieces-from outside (92 ∷ c ∷ t) ≡ letter c ∷ pieces-from outside t = λ t. at-backslash 92 (c ∷ t) refl ∙ at-letter c t m n in
     record {
       good =
@@ -109,8 +109,8 @@ read-letter c s h m n x =
           (utf8-cons (letter-value c) (unescape-pieces (pieces-from outside s)) (letter-low c h) (x .good y (ap bad-pieces (sym (r (s ++ y))) ∙ e)));
     }
 
-read-plain : (x s : Text) → Unslashed x → Utf8 x → Read s → Read (x ++ s)
-read-plain x s h u r =
+clean-plain : (x s : Text) → Unslashed x → Utf8 x → Clean s → Clean (x ++ s)
+clean-plain x s h u r =
     record {
       good =
           λ y e.
@@ -122,26 +122,26 @@ read-plain x s h u r =
 pub low-front : (hs cs : List ℕ) → T (lows hs) → encodes (hs ++ cs) ≡ hs ++ encodes cs
 low-front hs cs t = encodes-append hs cs ∙ ap (λ (x : Text). x ++ encodes cs) (lows-encodes hs t)
 
-reads : {cs : List ℕ} → Escaped cs → Scalars cs → Read (encodes cs)
+clean : {cs : List ℕ} → Escaped cs → Scalars cs → Clean (encodes cs)
 unfolding encodes pieces-from unescape-pieces
-reads none h = record { good = λ y e. utf8-none }
-reads (one c {cs} e x) h = read-plain (encode c) (encodes cs) (unslashed-encode c e) (utf8-encode c (h .0)) (reads x (h .1))
-reads (coded c {cs} k m n x) h =
-    subst Read (sym (low-front (92 ∷ c ∷ []) cs (rw (lt-ltb c 128 k) tt))) (read-letter c (encodes cs) k m n (reads x (h .1 .1)))
-reads (short hs cs l t x e) h =
+clean none h = record { good = λ y e. utf8-none }
+clean (one c {cs} e x) h = clean-plain (encode c) (encodes cs) (unslashed-encode c e) (utf8-encode c (h .0)) (clean x (h .1))
+clean (coded c {cs} k m n x) h =
+    subst Clean (sym (low-front (92 ∷ c ∷ []) cs (rw (lt-ltb c 128 k) tt))) (clean-letter c (encodes cs) k m n (clean x (h .1 .1)))
+clean (short hs cs l t x e) h =
     let (v, r) = hexes-read 3 0 hs l in
     let k = subst Scalars e h in
-    subst Read (sym (ap encodes e ∙ low-front (92 ∷ 117 ∷ hs) cs t))
-    (read-numeric (92 ∷ 117 ∷ hs) (encodes cs) v (λ u. at-backslash 92 (117 ∷ (hs ++ u)) refl ∙ at-short 117 (hs ++ u) refl ∙ r u) (reads x (scalars-right (92 ∷ 117 ∷ hs) cs k)))
-reads (long hs cs l t x e) h =
+    subst Clean (sym (ap encodes e ∙ low-front (92 ∷ 117 ∷ hs) cs t))
+    (clean-numeric (92 ∷ 117 ∷ hs) (encodes cs) v (λ u. at-backslash 92 (117 ∷ (hs ++ u)) refl ∙ at-short 117 (hs ++ u) refl ∙ r u) (clean x (scalars-right (92 ∷ 117 ∷ hs) cs k)))
+clean (long hs cs l t x e) h =
     let (v, r) = hexes-read 7 0 hs l in
     let k = subst Scalars e h in
-    subst Read (sym (ap encodes e ∙ low-front (92 ∷ 85 ∷ hs) cs t))
-    (read-numeric (92 ∷ 85 ∷ hs) (encodes cs) v (λ u. at-backslash 92 (85 ∷ (hs ++ u)) refl ∙ at-long 85 (hs ++ u) refl refl ∙ r u) (reads x (scalars-right (92 ∷ 85 ∷ hs) cs k)))
+    subst Clean (sym (ap encodes e ∙ low-front (92 ∷ 85 ∷ hs) cs t))
+    (clean-numeric (92 ∷ 85 ∷ hs) (encodes cs) v (λ u. at-backslash 92 (85 ∷ (hs ++ u)) refl ∙ at-long 85 (hs ++ u) refl refl ∙ r u) (clean x (scalars-right (92 ∷ 85 ∷ hs) cs k)))
 
 -- Such a text undone, where no escape of it and of what follows names no character.
 pub utf8-unescape : {cs : List ℕ} → Escaped cs → Scalars cs → (y : Text) → bad-pieces (pieces-from outside (encodes cs ++ y)) ≡ false → Utf8 (unescape-pieces (pieces-from outside (encodes cs)))
-utf8-unescape x h y e = reads x h .good y e
+utf8-unescape x h y e = clean x h .good y e
 
 -- ---- Expressions that match such texts
 

@@ -106,6 +106,10 @@ pub record Lexed (t : Token) : Type 0 where
   pub label : among («BLANK_NODE_LABEL» ∷ []) (t .kind) ≡ true → Utf8 (node-label t)
   pub tag : among (LANGTAG ∷ []) (t .kind) ≡ true → is-tag (tag t) ≡ true
 
+abbrev pub AllLexed : List Token → Type 0
+AllLexed [] = Unit {0}
+AllLexed (t ∷ ts) = Lexed t × AllLexed ts
+
 module _ (e : Environment) (t : Token) (d : Declared e) (l : Lexed t) (c : no-character t ≡ false) where
   -- 10 does not apply.
   module _ (a : Awaited) (n : no-base (awaiting a e) t ≡ false) (k : has-kind (IRIREF ∷ []) t ≡ true) where

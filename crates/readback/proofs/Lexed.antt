@@ -31,8 +31,7 @@ use Rattle.readback.proofs.Printed.{no-quote}
 use Rattle.readback.proofs.Tags.{confined}
 use Rattle.readback.proofs.Texts.{Utf8, is-low, member-low}
 use Rattle.readback.proofs.Escapes.{Escaped, none, Unslashed, bad-plain, low-front, utf8-unescape, Steps, steps-star, confined-lows, char, char-is, char-then, steps-reference, steps-string, steps-long}
-use Rattle.readback.proofs.Iris.{Lexed}
-use Rattle.readback.proofs.Runs.{AllLexed}
+use Rattle.readback.proofs.Iris.{Lexed, AllLexed}
 
 -- ---- What each kind of token looks like
 

@@ -3,32 +3,33 @@ use mathlib.Core.Path.{_≡_, refl, sym, ap, _∙_, subst}
 use mathlib.Core.Logic.{_⊎_, inl, inr}
 use mathlib.Core.Bool.{Bool, true, false, not, _||_}
 use mathlib.Core.List.{List, [], _∷_, map}
-use Prim.Native.Nat.{ℕ, _≤_, _<_}
+use Prim.Native.Nat.{ℕ, _*_, _≤_, _<_}
 use native.Mathlib.Omega.{arith}
 use borrow.Author.Tests.{le-ltb, ltb-false}
 use lib.Dec.{ltb, leb}
 use lib.ListN.{length, take, drop}
 use Rattle.text.specs.Text.{Text, is-none, some-byte}
 use Rattle.text.proofs.Compare.{contrary}
-use Rattle.limits.specs.Limits.{document-limit, iri-limit}
+use Rattle.limits.specs.Limits.{document-limit, iri-limit, work-size}
 use Rattle.utf8.specs.Utf8.{first-bad}
 use Rattle.utf8.proofs.Tests.{by, or-false}
 use Rattle.token.specs.Tokens.{lexemes}
 use Rattle.iri.specs.Iri.{has-scheme, forbidden}
 use Rattle.dataset.specs.Terms.{Quad}
 use Rattle.table.specs.Layout.{Slices}
+use Rattle.table.specs.Tables.{store-size}
 use Rattle.table.specs.Usable.{usable}
 use Rattle.table.specs.LongForm.{long-form, write}
 use Rattle.machine.specs.Memory.{Memory, start-memory}
 use Rattle.machine.specs.Frame.{statement}
 use Rattle.machine.specs.Read.{Lent, Answer, bad-base, first-checks, success, mode-of, room-of, start-state, read}
 use Rattle.machine.specs.Construction.{tables}
-use Rattle.machine.specs.Demand.{Meets}
+use Rattle.machine.specs.Demand.{Fits, Meets}
 use Rattle.machine.proofs.Constructed.{tables-hold}
 use Rattle.machine.proofs.Demands.{meets-run, meets-answer, zero-meets}
 use Rattle.machine.proofs.Distinct.{one-number}
 use Rattle.machine.proofs.Sizes.{sizes}
-use Rattle.readback.specs.ReadBack.{long-form-mode, word-limit, left, with-blanks, SameStatements, RoundTrip}
+use Rattle.readback.specs.ReadBack.{long-form-mode, ReadAgain, word-limit, left, with-blanks, room-for-text, SameStatements, RoundTrip}
 use Rattle.readback.proofs.Tables.{none-bad}
 use Rattle.readback.proofs.ReadBack.{written-form, read-again}
 use Rattle.readback.proofs.Kept.{Kept}
@@ -52,6 +53,23 @@ base-absolute (c ∷ b) e =
     is-so : (x : Bool) → not x ≡ false → x ≡ true
     is-so true e = refl
     is-so false e = contrary e
+
+-- What is written when the long form is read again is no more than a document of its length makes: lent just that room, it is accepted.
+again-fits : (s : Slices) (r : ReadAgain s) → Fits (room-for-text (long-form s)) (r .memory)
+again-fits s r =
+    let m = r .memory in
+    let text = long-form s in
+    let lent : Lent = record { work = work-size; rows = 5 * length (m .rows); terms = 5 * length (m .terms); store = store-size (m .terms) } in
+    let fits : Fits (room-of lent) m = record { rows = omega arith; terms = omega arith; store = omega arith } in
+    let e = r .answer lent (omega arith) fits in
+    let x = zero-meets text long-form-mode [] lent (ap (λ (a : Answer). a .number) e) in
+    let d = sym e ∙ meets-answer text long-form-mode [] lent x in
+    let f = sizes text long-form-mode [] lent x in
+    record {
+      rows = omega (arith, f .rows, ap (λ (a : Answer). a .row-count) d);
+      terms = omega (arith, f .terms, ap (λ (a : Answer). a .term-count) d);
+      store = omega (arith, f .store, ap (λ (a : Answer). a .store-count) d);
+    }
 
 module _ (doc : Text) (mode : ℕ) (base : Text) (lent : Lent) (x : Meets doc mode base lent) where
   abbrev made : Memory
@@ -94,6 +112,7 @@ module _ (doc : Text) (mode : ℕ) (base : Text) (lent : Lent) (x : Meets doc mo
         tokens = x .derivation .1;
         memory = r .memory;
         answer = λ lent w room. subst (λ (t : Text). read t long-form-mode [] lent ≡ success (length t) (r .memory)) (sym e) (r .answer lent w room);
+        room = subst (λ (t : Text). Fits (room-for-text t) (r .memory)) (sym e) (again-fits s r);
         rename = new-label (made .terms);
         apart = labels-differ (made .terms) few;
         same =

@@ -21,7 +21,7 @@ use Rattle.machine.specs.Rules.{find-rule, directive-rules, rules}
 use Rattle.machine.specs.Step.{Room, State, Test, _when_, first-refusal, awaited-by, in-force-now, obeyed, tests, answer, step, tied-to, Outcome, accepted, refused, at-end, onward, run}
 use Rattle.machine.proofs.Made.{first-or-later}
 use Rattle.readback.proofs.Kept.{more-same, Kept, Safe, Told, safe-frame, safe-statement, OpenFine, found-safe}
-use Rattle.readback.proofs.Iris.{Absolute, Declared, bound-absolute, Lexed, iriref-absolute, told}
+use Rattle.readback.proofs.Iris.{Absolute, Declared, bound-absolute, Lexed, AllLexed, iriref-absolute, told}
 
 -- ---- Every rule
 
@@ -86,10 +86,6 @@ module _ (t : Token) (tied : Bool) (m : Memory) (k : Kept (m .environment) m) (d
       (λ e₄. stays-safe (found-safe t tied [] tt (safe-statement t tied (m .environment) (m .terms) (f refl) mode) w e₄)))))
 
 -- ---- A run
-
-abbrev pub AllLexed : List Token → Type 0
-AllLexed [] = Unit {0}
-AllLexed (t ∷ ts) = Lexed t × AllLexed ts
 
 refused-not : {X : Type 0} {c p : ℕ} {M : Memory} → refused c p ≡ accepted M → X
 refused-not e = let z : _≡_ {A = ℕ} 0 1 = cc in absurd (omega arith)
