@@ -11,4 +11,15 @@ pub mod Lines
 pub mod Tables
 pub mod ReadBack
 pub mod Renaming
+-- What was read, written and read again.
+pub mod Texts
+pub mod Escapes
+pub mod Kept
+pub mod Iris
+pub mod Lexed
+pub mod Runs
+pub mod Laid
+pub mod Numbering
+pub mod RoundTrip
+-- Examples, computed.
 pub mod Examples

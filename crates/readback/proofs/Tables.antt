@@ -88,7 +88,7 @@ module _ (a b c : Bool) where
   kind-tagged : (k : ℕ) → kinds-good k ≡ true → eqb k iri-kind ≡ false → eqb k blank-kind ≡ false → eqb k literal-kind ≡ false → c ≡ true
   kind-tagged k e f g h = and-right (eqb k tagged-kind) c (rw (f, g, h) at e)
 
-none-bad : (o : Option ℕ) → is-none o ≡ true → o ≡ none
+pub none-bad : (o : Option ℕ) → is-none o ≡ true → o ≡ none
 none-bad none e = refl
 none-bad (some n) e = let z : _≡_ {A = ℕ} 0 1 = cc in absurd (omega arith)
 

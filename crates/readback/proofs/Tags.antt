@@ -24,11 +24,11 @@ use Rattle.readback.proofs.Printed.{nothing-left, token-by, no-quote}
 
 -- ---- Expressions that take printable ASCII alone
 
-abbrev confined-ranges : List Range → Bool
+abbrev pub confined-ranges : List Range → Bool
 confined-ranges [] = true
 confined-ranges ((lo – hi) ∷ rs) = leb 33 lo && leb hi 127 && confined-ranges rs
 
-abbrev confined : Re → Bool
+abbrev pub confined : Re → Bool
 confined eps = true
 confined (set true rs) = confined-ranges rs
 confined (set false rs) = false
@@ -45,14 +45,14 @@ confined-state [] = true
 confined-state (item k r ∷ xs) = confined r && confined-state xs
 
 -- No printable ASCII.
-abbrev Outside : ℕ → Type 0
+abbrev pub Outside : ℕ → Type 0
 Outside c = (c ≤ 32) ⊎ (128 ≤ c)
 
 out-range : (c lo hi : ℕ) → Outside c → 33 ≤ lo → hi ≤ 127 → (leb lo c && leb c hi) ≡ false
 out-range c lo hi (inl h) l u = simp (lt-leb lo c (omega arith))
 out-range c lo hi (inr h) l u = simp (lt-leb c hi (omega arith), and-false)
 
-out-ranges : (c : ℕ) (rs : List Range) → Outside c → T (confined-ranges rs) → in-ranges c rs ≡ false
+pub out-ranges : (c : ℕ) (rs : List Range) → Outside c → T (confined-ranges rs) → in-ranges c rs ≡ false
 out-ranges c [] o t = refl
 out-ranges c ((lo – hi) ∷ rs) o t =
     let v = and-true (leb 33 lo && leb hi 127) (confined-ranges rs) t in

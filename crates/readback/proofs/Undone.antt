@@ -25,7 +25,7 @@ lows [] = true
 lows (c ∷ cs) = ltb c 128 && lows cs
 
 -- Code points below 128 are their own bytes.
-ascii-encode : (c : ℕ) → c < 128 → encode c ≡ c ∷ []
+pub ascii-encode : (c : ℕ) → c < 128 → encode c ≡ c ∷ []
 ascii-encode c h = simp (lt-ltb c 128 h)
 
 pub lows-encodes : (cs : List ℕ) → T (lows cs) → encodes cs ≡ cs
