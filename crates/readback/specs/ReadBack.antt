@@ -27,6 +27,28 @@ long-form-mode = 0
 
 -- ---- The renaming
 
+-- Terms, and statements, with another name for each blank node.
+abbrev pub with-blanks-term : (Blank → Blank) → Term → Term
+with-blanks-term f (iri s) = iri s
+with-blanks-term f (blank b) = blank (f b)
+with-blanks-term f (literal s d) = literal s d
+with-blanks-term f (tagged s g) = tagged s g
+
+abbrev pub with-blanks-graph : (Blank → Blank) → Option Term → Option Term
+with-blanks-graph f none = none
+with-blanks-graph f (some g) = some (with-blanks-term f g)
+
+abbrev pub with-blanks : (Blank → Blank) → Quad → Quad
+with-blanks f q =
+    record {
+      graph = with-blanks-graph f (q .graph);
+      triple = record {
+        subject = with-blanks-term f (q .triple .subject);
+        predicate = with-blanks-term f (q .triple .predicate);
+        object = with-blanks-term f (q .triple .object);
+      };
+    }
+
 -- "Blanks as _:b and the blank number": the label under which the node with a number is read again.
 abbrev pub label-of-number : ℕ → Text
 label-of-number n = ascii "b" ++ decimal n
@@ -37,27 +59,15 @@ renamed-blank (bracket p) = bracket p
 renamed-blank (cell p) = cell p
 renamed-blank (numbered n) = label (label-of-number n)
 
--- Terms, and statements, with their blank nodes renamed.
+-- Terms, and statements, renamed so.
 abbrev pub renamed-term : Term → Term
-renamed-term (iri s) = iri s
-renamed-term (blank b) = blank (renamed-blank b)
-renamed-term (literal s d) = literal s d
-renamed-term (tagged s g) = tagged s g
+renamed-term = with-blanks-term renamed-blank
 
 abbrev pub renamed-graph : Option Term → Option Term
-renamed-graph none = none
-renamed-graph (some g) = some (renamed-term g)
+renamed-graph = with-blanks-graph renamed-blank
 
 abbrev pub renamed : Quad → Quad
-renamed q =
-    record {
-      graph = renamed-graph (q .graph);
-      triple = record {
-        subject = renamed-term (q .triple .subject);
-        predicate = renamed-term (q .triple .predicate);
-        object = renamed-term (q .triple .object);
-      };
-    }
+renamed = with-blanks renamed-blank
 
 -- ---- The statements
 
@@ -100,28 +110,6 @@ left a rows terms store =
       term-count = a .term-count;
       store = contents (a .store) store;
       store-count = a .store-count;
-    }
-
--- Terms, and statements, with another name for each blank node.
-abbrev pub with-blanks-term : (Blank → Blank) → Term → Term
-with-blanks-term f (iri s) = iri s
-with-blanks-term f (blank b) = blank (f b)
-with-blanks-term f (literal s d) = literal s d
-with-blanks-term f (tagged s g) = tagged s g
-
-abbrev pub with-blanks-graph : (Blank → Blank) → Option Term → Option Term
-with-blanks-graph f none = none
-with-blanks-graph f (some g) = some (with-blanks-term f g)
-
-abbrev pub with-blanks : (Blank → Blank) → Quad → Quad
-with-blanks f q =
-    record {
-      graph = with-blanks-graph f (q .graph);
-      triple = record {
-        subject = with-blanks-term f (q .triple .subject);
-        predicate = with-blanks-term f (q .triple .predicate);
-        object = with-blanks-term f (q .triple .object);
-      };
     }
 
 -- "A document of n bytes makes at most 2n rows", 2n + 9 terms and 1,025n + 386 bytes of the store.
