@@ -245,7 +245,7 @@ module _ {e : Environment} where
         run = λ m o k. record { more = more-same (m .terms); kept = record { terms = k .terms; rows = k .rows; graph = graph-more o h; same = k .same }; post = tt };
       }
 
-  -- An IRI, and one that the language supplies.
+  -- An IRI.
   pub safe-iri : {ts : List Term} (s : Text) → GoodIri s → Safe e ts (Has is-iri) (term (iri s))
   safe-iri s g = safe-as (safe-term (iri s) (λ us o. g)) (λ us n o q. has-found (iri s) tt q)
 
