@@ -2,7 +2,6 @@
 use mathlib.Core.Path.{_≡_, refl}
 use mathlib.Core.Bool.{true}
 use mathlib.Core.List.{List, [], _∷_, _++_}
-use Prim.Native.Nat.{ℕ}
 use Prim.Native.String.{String}
 use Rattle.text.specs.Text.{Text, ascii}
 use Rattle.utf8.specs.Utf8.{encodes}
@@ -10,8 +9,9 @@ use Rattle.limits.specs.Limits.{work-size}
 use Rattle.table.specs.Layout.{Slices}
 use Rattle.table.specs.Usable.{usable}
 use Rattle.table.specs.LongForm.{long-form}
-use Rattle.machine.specs.Read.{Lent, After, kept, zeroed, written, Answer, read, computing}
-use Rattle.readback.specs.ReadBack.{long-form-mode}
+use Rattle.machine.specs.Read.{Lent, read, computing}
+use Rattle.readback.specs.ReadBack.{long-form-mode, left, RoundTrip}
+use Rattle.readback.proofs.RoundTrip.{written-again}
 
 abbrev utf8 : String → Text
 utf8 s = encodes (ascii s)
@@ -23,18 +23,9 @@ lines (s ∷ ss) = utf8 s ++ 10 ∷ lines ss
 abbrev lent : Lent
 lent = record { work = work-size; rows = 1000; terms = 1000; store = 10000 }
 
-abbrev words : After → List ℕ
-words kept = []
-words zeroed = []
-words (written ws) = ws
-
 -- The tables that a document makes.
-abbrev slices-of : Answer → Slices
-slices-of a =
-    record { rows = words (a .rows); row-count = a .row-count; terms = words (a .terms); term-count = a .term-count; store = words (a .store); store-count = a .store-count }
-
 abbrev tables-of : Text → Slices
-tables-of doc = slices-of (read doc long-form-mode [] lent)
+tables-of doc = left (read doc long-form-mode [] lent) [] [] []
 
 -- Each escape, each kind of term, a named graph; a blank node as subject, object and graph.
 abbrev document : Text
@@ -66,6 +57,11 @@ prints = refl
 again : long-form (tables-of form) ≡ form
 unfolding computing
 again = refl
+
+-- The theorem, of this document.
+document-again : RoundTrip document long-form-mode [] (tables-of document)
+unfolding computing
+document-again = written-again document long-form-mode [] lent refl [] [] []
 
 -- The output of the scope's worked example.
 abbrev worked : Text

@@ -24,7 +24,7 @@ use Rattle.table.specs.Usable.{is-tag}
 use Rattle.machine.specs.Refusals.{no-character, undeclared, no-base, too-long}
 use Rattle.readback.proofs.Forms.{GoodIri}
 use Rattle.readback.proofs.Texts.{Utf8, utf8-append, utf8-behind, utf8-unreserve, utf8-resolve, is-low}
-use Rattle.readback.proofs.Kept.{Told}
+use Rattle.readback.proofs.Rules.{Told}
 
 -- ---- Schemes
 

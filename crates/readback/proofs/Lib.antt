@@ -15,6 +15,7 @@ pub mod Renaming
 pub mod Texts
 pub mod Escapes
 pub mod Kept
+pub mod Rules
 pub mod Iris
 pub mod Lexed
 pub mod Runs

@@ -39,7 +39,7 @@ use Rattle.readback.proofs.Lexed.{all-lexed}
 use Rattle.readback.proofs.Laid.{laid-usable}
 use Rattle.readback.proofs.Numbering.{new-label, labels-differ, held-same}
 
--- A lent base is empty, or 3 does not refuse it.
+-- A lent base that 3 does not refuse is empty, or has a scheme and is UTF-8.
 base-absolute : (b : Text) → bad-base b ≡ false → (b ≡ []) ⊎ Absolute b
 unfolding bad-base
 base-absolute [] e = inl refl

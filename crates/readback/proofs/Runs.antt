@@ -20,7 +20,8 @@ use Rattle.machine.specs.Refusals.{no-character, undeclared, no-base, too-long}
 use Rattle.machine.specs.Rules.{find-rule, directive-rules, rules}
 use Rattle.machine.specs.Step.{Room, State, Test, _when_, first-refusal, awaited-by, in-force-now, obeyed, tests, answer, step, tied-to, Outcome, accepted, refused, at-end, onward, run}
 use Rattle.machine.proofs.Made.{first-or-later}
-use Rattle.readback.proofs.Kept.{more-same, Kept, Safe, Told, safe-frame, safe-statement, OpenFine, found-safe}
+use Rattle.readback.proofs.Kept.{more-same, Kept, Safe}
+use Rattle.readback.proofs.Rules.{Told, safe-frame, safe-statement, OpenFine, found-safe}
 use Rattle.readback.proofs.Iris.{Absolute, Declared, bound-absolute, Lexed, AllLexed, iriref-absolute, told}
 
 -- ---- Every rule
