@@ -7,15 +7,15 @@ use Prim.Native.Nat.{ℕ, zero, suc, _+_, _-_, _*_, _/_, _%_, _<_, _≤_}
 use native.Mathlib.Nat.{mod-lt}
 use native.Mathlib.Decide.{decLe}
 use native.Mathlib.Omega.{arith}
-use lib.Dec.{T, eqb, ltb}
+use lib.Dec.{T, ltb}
 use borrow.Author.Tests.{ltb-true, ltb-false}
 use lib.ListN.{length, getD, take, drop, length-append, List·getD-append}
 use lib.Seq.{getD-append-seam, take-at, drop-at, length-take-le}
-use Rattle.text.specs.Text.{Text, cond}
+use Rattle.text.specs.Text.{Text}
 use Rattle.text.specs.Words.{four-at}
 use Rattle.text.proofs.Compare.{by, contrary}
 use Rattle.dataset.specs.Terms.{Blank, Term, iri, blank, literal, tagged}
-use Rattle.table.specs.Layout.{entry-at, literal-kind}
+use Rattle.table.specs.Layout.{entry-at}
 use Rattle.table.specs.Tables.{same-term, number-from, number, or-zero, label-of, text-of, tag-of, words-from, terms-words, store-bytes, store-size}
 use Rattle.table.proofs.Numbers.{same-term-eq}
 use Rattle.table.proofs.Finding.{number-step, number-start, number-more}

@@ -44,7 +44,7 @@ skip : (n : ℕ) (b : Bool) (ts : List Test) → b ≡ false → first-refusal (
 skip n b ts e = ap (λ x. cond x (some n) (first-refusal ts)) e
 
 -- Where nothing refuses, the first test does not hold, and nothing after it refuses.
-passed : (n : ℕ) (b : Bool) (ts : List Test) → first-refusal (n when b ∷ ts) ≡ none → (b ≡ false) × (first-refusal ts ≡ none)
+pub passed : (n : ℕ) (b : Bool) (ts : List Test) → first-refusal (n when b ∷ ts) ≡ none → (b ≡ false) × (first-refusal ts ≡ none)
 passed n true ts e = not-none (sym e)
 passed n false ts e = (refl, e)
 

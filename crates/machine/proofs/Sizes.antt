@@ -31,7 +31,7 @@ use Rattle.machine.specs.Refusals.{no-character, undeclared, no-base, to
 use Rattle.machine.specs.Step.{Room, State, in-force-now, Test, _when_, first-refusal, answer, obeyed, tests, step, tied-to, Outcome, onward, run}
 use Rattle.machine.specs.Read.{Lent, mode-of, start-state}
 use Rattle.machine.specs.Construction.{tables}
-use Rattle.machine.specs.Demand.{Fits, Meets}
+use Rattle.machine.specs.Demand.{room-for, Fits, Meets}
 use Rattle.machine.proofs.Extends.{two-rows}
 use Rattle.machine.proofs.Demands.{start-tracks, start-fits, accepted-fair, meets-run}
 use Rattle.machine.proofs.Weights.{one, size, weight, take-short, waiting-open, light-rule, count-weight, size-weight, first-count, first-size}
@@ -49,7 +49,7 @@ by-kind true b false p ref dotted res joined l h k =
 by-kind false true s p ref dotted res joined l h k = by (ltb iri-limit (length joined)) (λ e. contrary (rw e at h)) (λ e. ltb-false iri-limit (length joined) e)
 by-kind false false s p ref dotted res joined l h k = contrary (sym k)
 
-iri-short : (e : Environment) (t : Token) → too-long (awaiting nothing e) t ≡ false → among iris (t .kind) ≡ true → length (iri-of e t) ≤ iri-limit
+pub iri-short : (e : Environment) (t : Token) → too-long (awaiting nothing e) t ≡ false → among iris (t .kind) ≡ true → length (iri-of e t) ≤ iri-limit
 unfolding too-long iri-of resolved-reference resolved
 iri-short e t h k =
     by-kind (eqb (kind-code IRIREF) (kind-code (t .kind))) (has-kind names t) (has-scheme (reference t)) (length (prefix t)) (reference t) (resolve-with-dots (e .base) (reference t)) (resolve (e .base) (reference t))
@@ -131,10 +131,6 @@ unfolding lexemes decode left-of
 token-bytes doc = let h = cut-from doc between 0 (decode-from 0 doc) .bytes in omega arith
 
 -- ---- Room
-
--- The most that a document of n bytes needs.
-abbrev pub room-for : ℕ → Room
-room-for n = record { rows = 2 * n; terms = 2 * n + 9; store = 1025 * n + 386 }
 
 -- The room holds what is written and all that the tokens ts can add to it. A text that waits for its tag or datatype is counted at its own token.
 record Within (room : Room) (s : State) (ts : List Token) : Type 0 where

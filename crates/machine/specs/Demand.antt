@@ -3,7 +3,7 @@ use mathlib.Core.Path.{_≡_}
 use mathlib.Core.List.{List, [], _∷_, _++_}
 use mathlib.Core.Bool.{Bool, false}
 use mathlib.Core.Option.{Option, none, some}
-use Prim.Native.Nat.{ℕ, zero, suc, _≤_}
+use Prim.Native.Nat.{ℕ, zero, suc, _+_, _*_, _≤_}
 use lib.Dec.{T}
 use lib.ListN.{length, take, drop}
 use Rattle.text.specs.Text.{Text}
@@ -49,6 +49,10 @@ pub record Fair (base : Text) (before ts : List Token) : Type 0 where
   pub lengths : Nowhere (λ xs t. too-long (in-force base xs) t) before ts
   pub prefixes : Nowhere (λ xs t. one-prefix-more (in-force base xs)) before ts
   pub depth : Nowhere (λ xs t. too-deep (depth-after xs) t) before ts
+
+-- "A document of n bytes makes at most 2n rows": with them 2n + 9 terms, and 1,025n + 386 bytes of the store.
+abbrev pub room-for : ℕ → Room
+room-for n = record { rows = 2 * n; terms = 2 * n + 9; store = 1025 * n + 386 }
 
 -- Each lent table holds what is written there.
 pub record Fits (room : Room) (m : Memory) : Type 0 where

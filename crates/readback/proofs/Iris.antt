@@ -3,25 +3,23 @@ use mathlib.Core.Path.{_≡_, refl, sym, ap, _∙_}
 use mathlib.Core.Logic.{_⊎_, ⊎-elim}
 use mathlib.Core.Bool.{Bool, true, false, not, _||_}
 use mathlib.Core.List.{List, [], _∷_, _++_}
-use Prim.Native.Nat.{ℕ, _≤_}
+use Prim.Native.Nat.{ℕ}
 use native.Mathlib.Omega.{arith}
-use borrow.Author.Tests.{eqb-true, ltb-false}
-use lib.Dec.{eqb, ltb}
-use lib.ListN.{length}
+use borrow.Author.Tests.{eqb-true}
+use lib.Dec.{eqb}
 use Rattle.text.specs.Text.{Text, ascii, is, empty, is-none, same-text, until, from}
 use Rattle.text.proofs.Compare.{and-left, and-right, contrary}
-use Rattle.limits.specs.Limits.{iri-limit}
 use Rattle.utf8.proofs.Tests.{by}
 use Rattle.token.specs.Kind.{kind-code, among, names, iris, strings, IRIREF, LANGTAG, «BLANK_NODE_LABEL»}
 use Rattle.token.specs.Tokens.{Token, has-kind}
 use Rattle.iri.specs.Iri.{letter, scheme-byte, first-is, has-scheme, scheme, after-scheme}
 use Rattle.iri.specs.Dots.{remove-dot-segments}
-use Rattle.iri.specs.Resolve.{parts, transform, recompose, resolve-by, resolve, resolve-with-dots, resolved}
-use Rattle.iri.proofs.Lengths.{resolve-short}
+use Rattle.iri.specs.Resolve.{parts, transform, recompose, resolve-by, resolve, resolved}
 use Rattle.scope.specs.Environment.{Binding, Environment, lookup, bound}
 use Rattle.dataset.specs.Constructors.{string-text, tag, node-label, reference, prefix, local, or-empty, resolved-reference, joined-name, iri-of, Awaited, nothing, awaiting}
 use Rattle.table.specs.Usable.{is-tag}
 use Rattle.machine.specs.Refusals.{no-character, undeclared, no-base, too-long}
+use Rattle.machine.proofs.Sizes.{iri-short}
 use Rattle.readback.proofs.Forms.{GoodIri}
 use Rattle.readback.proofs.Texts.{Utf8, utf8-append, utf8-behind, utf8-unreserve, utf8-resolve, is-low}
 use Rattle.readback.proofs.Rules.{Told}
@@ -137,31 +135,12 @@ module _ (e : Environment) (t : Token) (d : Declared e) (l : Lexed t) (c : no-ch
 
   -- Nor does 11.
   module _ (u : undeclared (awaiting nothing e) t ≡ false) (n : no-base (awaiting nothing e) t ≡ false) (s : too-long (awaiting nothing e) t ≡ false) where
-    good : (x : Text) → Absolute x → length x ≤ iri-limit → GoodIri x
-    good x a h = record { scheme = a .scheme; short = h; utf8 = a .utf8 }
-
-    reference-short : has-kind (IRIREF ∷ []) t ≡ true → length (resolved-reference e t) ≤ iri-limit
-    unfolding too-long resolved-reference resolved
-    reference-short k =
-        by (ltb iri-limit (length (reference t))) (λ f. contrary (rw (k, f) at s))
-        (λ f.
-        by (has-scheme (reference t)) (λ h. rw h (ltb-false iri-limit (length (reference t)) f))
-        (λ h.
-        by (ltb iri-limit (length (resolve-with-dots (e .base) (reference t)))) (λ g. contrary (rw (k, f, h, g) at s))
-        (λ g. rw h (omega (arith, ltb-false iri-limit (length (resolve-with-dots (e .base) (reference t))) g, resolve-short (e .base) (reference t))))))
-
-    name-short : has-kind (IRIREF ∷ []) t ≡ false → has-kind names t ≡ true → length (joined-name e t) ≤ iri-limit
-    unfolding too-long
-    name-short f k =
-        by (ltb iri-limit (length (joined-name e t))) (λ g. contrary (rw (f, k, g) at s)) (λ g. ltb-false iri-limit (length (joined-name e t)) g)
-
     iri-good : among iris (t .kind) ≡ true → GoodIri (iri-of e t)
     unfolding iri-of
     iri-good k =
-        by (has-kind (IRIREF ∷ []) t) (λ f. rw f (good (resolved-reference e t) (reference-absolute nothing n f) (reference-short f)))
-        (λ f.
-        let g = name-of (eqb (kind-code IRIREF) (kind-code (t .kind))) f k in
-        rw f (good (joined-name e t) (name-absolute u g) (name-short f g)))
+        let a : Absolute (iri-of e t) =
+        by (has-kind (IRIREF ∷ []) t) (λ f. rw f (reference-absolute nothing n f)) (λ f. rw f (name-absolute u (name-of (eqb (kind-code IRIREF) (kind-code (t .kind))) f k))) in
+        record { scheme = a .scheme; short = iri-short e t s k; utf8 = a .utf8 }
       where
         name-of : {b : Bool} (a : Bool) → (a || false) ≡ false → (a || b) ≡ true → b ≡ true
         name-of true f k = contrary f

@@ -24,17 +24,17 @@ use Rattle.machine.specs.Memory.{Memory, start-memory}
 use Rattle.machine.specs.Frame.{statement}
 use Rattle.machine.specs.Read.{Lent, Answer, bad-base, first-checks, success, mode-of, room-of, start-state, read}
 use Rattle.machine.specs.Construction.{tables}
-use Rattle.machine.specs.Demand.{Fits, Meets}
+use Rattle.machine.specs.Demand.{room-for, Fits, Meets}
 use Rattle.machine.proofs.Constructed.{tables-hold}
-use Rattle.machine.proofs.Demands.{meets-run, meets-answer, zero-meets}
+use Rattle.machine.proofs.Demands.{passed, meets-run, meets-answer, zero-meets}
 use Rattle.machine.proofs.Distinct.{one-number}
 use Rattle.machine.proofs.Sizes.{sizes}
-use Rattle.readback.specs.ReadBack.{long-form-mode, ReadAgain, word-limit, left, with-blanks, room-for-text, SameStatements, RoundTrip}
+use Rattle.readback.specs.ReadBack.{long-form-mode, ReadAgain, word-limit, left, with-blanks, SameStatements, RoundTrip}
 use Rattle.readback.proofs.Tables.{none-bad}
 use Rattle.readback.proofs.ReadBack.{written-form, read-again}
 use Rattle.readback.proofs.Kept.{Kept}
 use Rattle.readback.proofs.Iris.{Absolute}
-use Rattle.readback.proofs.Runs.{Stays, past, stays-run}
+use Rattle.readback.proofs.Runs.{Stays, stays-run}
 use Rattle.readback.proofs.Lexed.{all-lexed}
 use Rattle.readback.proofs.Laid.{laid-usable}
 use Rattle.readback.proofs.Numbering.{new-label, labels-differ, held-same}
@@ -55,7 +55,7 @@ base-absolute (c ∷ b) e =
     is-so false e = contrary e
 
 -- What is written when the long form is read again is no more than a document of its length makes: lent just that room, it is accepted.
-again-fits : (s : Slices) (r : ReadAgain s) → Fits (room-for-text (long-form s)) (r .memory)
+again-fits : (s : Slices) (r : ReadAgain s) → Fits (room-for (length (long-form s))) (r .memory)
 again-fits s r =
     let m = r .memory in
     let text = long-form s in
@@ -78,9 +78,9 @@ module _ (doc : Text) (mode : ℕ) (base : Text) (lent : Lent) (x : Meets doc mo
   -- 1 and 3 do not apply.
   checked : (length doc ≤ document-limit) × (bad-base base ≡ false)
   checked =
-      let (a, f) = past 1 (ltb document-limit (length doc)) (drop 1 (first-checks doc mode base lent)) (x .usable) in
-      let (b, g) = past 2 (not (leb mode 1)) (drop 2 (first-checks doc mode base lent)) f in
-      let (c, h) = past 3 (bad-base base) (drop 3 (first-checks doc mode base lent)) g in
+      let (a, f) = passed 1 (ltb document-limit (length doc)) (drop 1 (first-checks doc mode base lent)) (x .usable) in
+      let (b, g) = passed 2 (not (leb mode 1)) (drop 2 (first-checks doc mode base lent)) f in
+      let (c, h) = passed 3 (bad-base base) (drop 3 (first-checks doc mode base lent)) g in
       (ltb-false document-limit (length doc) a, c)
 
   start-stays : Stays (statement [], start-memory base)
@@ -112,7 +112,7 @@ module _ (doc : Text) (mode : ℕ) (base : Text) (lent : Lent) (x : Meets doc mo
         tokens = x .derivation .1;
         memory = r .memory;
         answer = λ lent w room. subst (λ (t : Text). read t long-form-mode [] lent ≡ success (length t) (r .memory)) (sym e) (r .answer lent w room);
-        room = subst (λ (t : Text). Fits (room-for-text t) (r .memory)) (sym e) (again-fits s r);
+        room = subst (λ (t : Text). Fits (room-for (length t)) (r .memory)) (sym e) (again-fits s r);
         rename = new-label (made .terms);
         apart = labels-differ (made .terms) few;
         same =

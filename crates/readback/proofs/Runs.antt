@@ -18,8 +18,9 @@ use Rattle.machine.specs.Memory.{Memory, Write}
 use Rattle.machine.specs.Frame.{Directive, prefix-name, namespace-of, new-base, last-dot, Open, directive, statement}
 use Rattle.machine.specs.Refusals.{no-character, undeclared, no-base, too-long}
 use Rattle.machine.specs.Rules.{find-rule, directive-rules, rules}
-use Rattle.machine.specs.Step.{Room, State, Test, _when_, first-refusal, awaited-by, in-force-now, obeyed, tests, answer, step, tied-to, Outcome, accepted, refused, at-end, onward, run}
+use Rattle.machine.specs.Step.{Room, State, first-refusal, awaited-by, in-force-now, obeyed, tests, answer, step, tied-to, Outcome, accepted, refused, at-end, onward, run}
 use Rattle.machine.proofs.Made.{first-or-later}
+use Rattle.machine.proofs.Demands.{passed}
 use Rattle.readback.proofs.Kept.{more-same, Kept, Safe}
 use Rattle.readback.proofs.Rules.{Told, safe-frame, safe-statement, OpenFine, found-safe}
 use Rattle.readback.proofs.Iris.{Absolute, Declared, bound-absolute, Lexed, AllLexed, iriref-absolute, told}
@@ -91,11 +92,6 @@ module _ (t : Token) (tied : Bool) (m : Memory) (k : Kept (m .environment) m) (d
 refused-not : {X : Type 0} {c p : ℕ} {M : Memory} → refused c p ≡ accepted M → X
 refused-not e = let z : _≡_ {A = ℕ} 0 1 = cc in absurd (omega arith)
 
--- No test before the last tests holds, where none does.
-pub past : (c : ℕ) (b : Bool) (ts : List Test) → first-refusal (c when b ∷ ts) ≡ none → (b ≡ false) × (first-refusal ts ≡ none)
-past c true ts e = not-none (sym e)
-past c false ts e = (refl, e)
-
 went-on : (f : State → Outcome) (o : Option ℕ) (at : ℕ) (s : State) (M : Memory) → onward f (answer o at s) ≡ accepted M → (o ≡ none) × (f s ≡ accepted M)
 went-on f none at s M e = (refl, e)
 went-on f (some n) at s M e = refused-not e
@@ -108,14 +104,14 @@ at-last (statement (f ∷ k)) n m M e = refused-not e
 module _ (mode : Mode) (room : Room) (n : ℕ) where
   stays-step : (s : State) (t : Token) (tied : Bool) (r : Option (Write Open)) → find-rule (t .kind) (rules t tied mode (s .open-now)) ≡ r → Lexed t → Stays (s .open-now, s .memory)
       → first-refusal (tests room s t r (obeyed r t s)) ≡ none → Stays (obeyed r t s .open-now, obeyed r t s .memory)
-  stays-step s t tied none e l x f = let y = past 7 (no-character t) (drop 1 (tests room s t none s)) f in not-none (sym (y .1))
+  stays-step s t tied none e l x f = let y = passed 7 (no-character t) (drop 1 (tests room s t none s)) f in not-none (sym (y .1))
   stays-step s t tied (some w) e l x f =
       let m = s .memory in
       let ts = tests room s t (some w) (obeyed (some w) t s) in
-      let (c, f₁) = past 7 (no-character t) (drop 1 ts) f in
-      let (u, f₂) = past 9 (undeclared (in-force-now s) t) (drop 3 ts) f₁ in
-      let (b, f₃) = past 10 (no-base (in-force-now s) t) (drop 4 ts) f₂ in
-      let (i, f₄) = past 11 (too-long (in-force-now s) t) (drop 5 ts) f₃ in
+      let (c, f₁) = passed 7 (no-character t) (drop 1 ts) f in
+      let (u, f₂) = passed 9 (undeclared (in-force-now s) t) (drop 3 ts) f₁ in
+      let (b, f₃) = passed 10 (no-base (in-force-now s) t) (drop 4 ts) f₂ in
+      let (i, f₄) = passed 11 (too-long (in-force-now s) t) (drop 5 ts) f₃ in
       stays-rule t tied m (x .kept) (x .declared) mode (s .open-now) w (x .open-now)
       (λ a.
       told (m .environment) t (x .declared) l c (ap (λ z. undeclared (awaiting z (m .environment)) t) (sym a) ∙ u) (ap (λ z. no-base (awaiting z (m .environment)) t) (sym a) ∙ b)

@@ -3,7 +3,7 @@ use mathlib.Core.Path.{_≡_}
 use mathlib.Core.Bool.{true}
 use mathlib.Core.List.{List, [], _∷_, _++_, map}
 use mathlib.Core.Option.{Option, none, some}
-use Prim.Native.Nat.{ℕ, _+_, _*_, _≤_, _<_}
+use Prim.Native.Nat.{ℕ, _+_, _≤_, _<_}
 use lib.ListN.{length, take}
 use Rattle.text.specs.Text.{Text, ascii}
 use Rattle.limits.specs.Limits.{document-limit, work-size}
@@ -16,10 +16,9 @@ use Rattle.table.specs.Tables.{quads}
 use Rattle.table.specs.Usable.{usable, term, held}
 use Rattle.table.specs.LongForm.{decimal, long-form, write}
 use Rattle.machine.specs.Memory.{Memory}
-use Rattle.machine.specs.Step.{Room}
 use Rattle.machine.specs.Read.{Lent, contents, Answer, mode-of, room-of, success, read}
 use Rattle.machine.specs.Construction.{tables}
-use Rattle.machine.specs.Demand.{document-tokens, Fits, Meets}
+use Rattle.machine.specs.Demand.{document-tokens, room-for, Fits, Meets}
 
 -- "It is read again in mode 0."
 abbrev pub long-form-mode : ℕ
@@ -112,10 +111,6 @@ left a rows terms store =
       store-count = a .store-count;
     }
 
--- "A document of n bytes makes at most 2n rows", 2n + 9 terms and 1,025n + 386 bytes of the store.
-abbrev pub room-for-text : Text → Room
-room-for-text s = record { rows = 2 * length s; terms = 2 * length s + 9; store = 1025 * length s + 386 }
-
 -- A text is accepted in mode 0, where there is room for what it writes, and its tables then hold the statements of the document, in order, with other
 -- names for blank nodes: no two get the same.
 pub record SameStatements (doc : Text) (mode : ℕ) (base : Text) (text : Text) : Type 0 where
@@ -123,7 +118,7 @@ pub record SameStatements (doc : Text) (mode : ℕ) (base : Text) (text : Text) 
   pub tokens : leaves kind-of (production (mode-of mode)) derivation ≡ document-tokens doc
   pub memory : Memory
   pub answer : (lent : Lent) → work-size ≤ lent .work → Fits (room-of lent) memory → read text long-form-mode [] lent ≡ success (length text) memory
-  pub room : Fits (room-for-text text) memory
+  pub room : Fits (room-for (length text)) memory
   pub rename : Blank → Blank
   pub apart : (b c : Blank) → rename b ≡ rename c → b ≡ c
   pub same : quads (memory .terms) (memory .rows) ≡ map (with-blanks rename) (statements (mode-of mode) derivation base)

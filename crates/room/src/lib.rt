@@ -4,11 +4,10 @@
 ghost use mathlib.Core.Path.{_≡_};
 ghost use Prim.Native.Nat.{_+_, _-_, _≤_, _<_};
 ghost use lib.ListN.{length, take, drop};
-ghost use Rattle.limits.specs.Limits.{work-size, iri-limit};
+ghost use Rattle.limits.specs.Limits.{work-size};
 ghost use Rattle.form.specs.Form.{undo, joined};
 ghost use Rattle.dataset.specs.Terms.{iri, blank, label, literal, tagged};
 ghost use Rattle.index.specs.Holds.{Finds};
-ghost use Rattle.state.specs.Words.{counts-of};
 ghost use Rattle.state.specs.Represents.{counted as at-most, tables, room-in, Represented};
 ghost use Rattle.state.specs.Writes.{place-of, node-iri, node-write, placed, opened-at, closed, NodeFits};
 ghost use Rattle.room.specs.Asks.{supplied, place-iri, place-rows, before-iri, before-rows, behind-iri, behind-rows, close-rows};

@@ -13,7 +13,8 @@ use Rattle.grammar.specs.Productions.{Mode}
 use Rattle.table.specs.Layout.{row-room, term-room}
 use Rattle.machine.specs.Step.{run}
 use Rattle.machine.specs.Read.{Lent, room-of, start-state}
-use Rattle.machine.proofs.Sizes.{room-for, Alike, room-past}
+use Rattle.machine.specs.Demand.{room-for}
+use Rattle.machine.proofs.Sizes.{Alike, room-past}
 use Rattle.state.specs.Represents.{Tables, most-counted, counted, room-in}
 
 pub counted-room : (n : ℕ) → (counted n ≤ n) × (counted n ≤ most-counted)

@@ -8,7 +8,7 @@ use lib.ListN.{length, getD, take, drop, set, length-set}
 use lib.Seq.{getD-set-same, getD-set-other}
 use Rattle.scope.specs.Code.{words-size}
 use Rattle.index.specs.Keys.{type-of}
-use Rattle.index.specs.Tree.{Links, Vacant, InSlots}
+use Rattle.index.specs.Tree.{Links, Vacant}
 use Rattle.text.specs.Text.{Text}
 use Rattle.limits.specs.Limits.{work-size}
 use Rattle.scope.proofs.Directives.{whole}

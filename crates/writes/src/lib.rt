@@ -2,7 +2,7 @@
 // row that holds it.
 ghost use mathlib.Core.Path.{_≡_};
 ghost use mathlib.Core.Bool.{false};
-ghost use mathlib.Core.List.{List, []};
+ghost use mathlib.Core.List.{List};
 ghost use Prim.Native.Nat.{ℕ, _+_, _-_, _<_};
 ghost use lib.ListN.{length, getD, take, drop};
 ghost use Rattle.scope.specs.Code.{words-size, Usable};

@@ -2,37 +2,25 @@ use Rattle.address.proofs.Answers.{as-kind, still-stands, within-token}
 use borrow.Author.Needs.{needs}
 use Rattle.address.proofs.address_of.Statement.{statement}
 use Rattle.address.proofs.address_of.Tie as tie
-use Rattle.address.proofs.address_of.Reads as reads
-use Rattle.address.proofs.address_of.Lts as lts
-use Rattle.address.proofs.lightened.Reads as lightened-reads
-use Rattle.address.proofs.name_address.Reads as name-address-reads
-use Rattle.address.proofs.reference_address.Reads as reference-address-reads
 
--- src/lib.rt:224:13
 reference-address-requires : tie.Need-reference-address-requires
 reference-address-requires c κs = search needs
 
--- src/lib.rt:225:9
 lightened-requires : tie.Need-lightened-requires
 lightened-requires c κs = within-token 1 (c .before .before .before .before .before .before .before .before .args .token .now) (c .before .before .before .before .before .before .before .before .args .work .now) (c .before .before .before .before .before .before .before .before .args .st .now) _ (c .before .before .reference-address .result) (c .before .before .reference-address .ensures)
 
--- src/lib.rt:225:9
 same-length : tie.Need-same-length
 same-length c = search needs
 
--- src/lib.rt:225:9
 returns : tie.Need-returns
 returns c = as-kind (c .before .before .before .before .before .before .before .before .before .args .kind) (c .before .before .before .before .before .before .before .before .before .args .token .now) (c .before .before .before .before .before .before .before .before .before .args .work .now) (c .before .before .before .before .before .before .before .before .before .args .st .now) _ (c .lightened .result) (c .before .before .before .before .before .if1 .taken) (still-stands 1 (c .before .before .before .before .before .before .before .before .before .args .token .now) (c .before .before .before .before .before .before .before .before .before .args .work .now) (c .before .before .before .before .before .before .before .before .before .args .st .now) _ (c .before .before .before .reference-address .result) (c .lightened .result) (c .before .before .before .reference-address .ensures) (c .lightened .ensures))
 
--- src/lib.rt:227:9
 name-address-requires : tie.Need-name-address-requires
 name-address-requires c κs = search needs
 
--- src/lib.rt:228:5
 lightened-requires-2 : tie.Need-lightened-requires-2
 lightened-requires-2 c κs = within-token (c .before .before .before .before .before .args .kind) (c .before .before .before .before .before .args .token .now) (c .before .before .before .before .before .args .work .now) (c .before .before .before .before .before .args .st .now) (c .before .before .before .before .before .args .buffer .now) (c .name-address .result) (c .name-address .ensures (c .before .before .before .before .before .args .buffer .now))
 
--- src/lib.rt:213:1
 returns-2 : tie.Need-returns-2
 returns-2 c = still-stands (c .before .before .before .before .before .before .args .kind) (c .before .before .before .before .before .before .args .token .now) (c .before .before .before .before .before .before .args .work .now) (c .before .before .before .before .before .before .args .st .now) _ (c .before .name-address .result) (c .lightened2 .result) (c .before .name-address .ensures _) (c .lightened2 .ensures)
 

@@ -1,35 +1,24 @@
 use Prim.Native.Nat.{_-_}
-use mathlib.Core.Path.{refl}
-use mathlib.Core.Bool.{false}
 use Rattle.address.proofs.Answers.{lightened-not, lightened-so}
 use borrow.Author.Needs.{needs}
 use Rattle.address.proofs.lightened.Statement.{statement}
 use Rattle.address.proofs.lightened.Tie as tie
-use Rattle.address.proofs.lightened.Reads as reads
-use Rattle.address.proofs.lightened.Lts as lts
-use Rattle.form.proofs.simplest.Reads as simplest-reads
 
--- src/lib.rt:196:9
 returns : tie.Need-returns
 returns c = lightened-not (c .before .before .args .token .now) (c .before .before .args .a)
 
--- src/lib.rt:205:36
 sub-simplest : tie.Need-sub-simplest
 sub-simplest c = c .before .before .pre (c .if1 .left) .0
 
--- src/lib.rt:205:36
 part-simplest-start : tie.Need-part-simplest-start
 part-simplest-start c = c .before .before .pre (c .if1 .left) .0
 
--- src/lib.rt:205:36
 part-simplest-end : tie.Need-part-simplest-end
 part-simplest-end c = c .before .before .pre (c .if1 .left) .1
 
--- src/lib.rt:205:15
 simplest-requires : tie.Need-simplest-requires
 simplest-requires c κs = search needs
 
--- src/lib.rt:191:1
 returns-2 : tie.Need-returns-2
 returns-2 c = lightened-so (c .before .before .before .before .args .token .now) (c .before .before .before .before .args .a) _ (c .before .before .if1 .left) (c .simplest .ensures)
 

@@ -5,38 +5,26 @@ use Rattle.escape.specs.Escape.{hex-value}
 use borrow.Author.Needs.{needs}
 use Rattle.escape.proofs.step_escape.Statement.{statement}
 use Rattle.escape.proofs.step_escape.Tie as tie
-use Rattle.escape.proofs.step_escape.Reads as reads
-use Rattle.escape.proofs.step_escape.Lts as lts
-use Rattle.escape.proofs.hex_value.Reads as hex-value-reads
-use Rattle.escape.proofs.step_behind.Reads as step-behind-reads
-use Rattle.escape.proofs.step_digit.Reads as step-digit-reads
 
--- src/lib.rt:170:9
 step-behind-requires : tie.Need-step-behind-requires
 step-behind-requires c κs = search needs
 
--- src/lib.rt:170:9
 returns : tie.Need-returns
 unfolding step-escape
 returns c = simp (eq-eqb _ _ (c .before .if1 .taken)) (c .step-behind .ensures)
 
--- src/lib.rt:172:22
 mul-step-digit : tie.Need-mul-step-digit
 mul-step-digit c = search needs
 
--- src/lib.rt:172:51
 hex-value-requires : tie.Need-hex-value-requires
 hex-value-requires c κs = search needs
 
--- src/lib.rt:172:22
 add-step-digit : tie.Need-add-step-digit
 add-step-digit c = search needs
 
--- src/lib.rt:172:5
 step-digit-requires : tie.Need-step-digit-requires
 step-digit-requires c κs = search needs
 
--- src/lib.rt:165:1
 returns-2 : tie.Need-returns-2
 unfolding step-escape
 returns-2 c = simp (ne-eqb _ _ (c .before .before .if1 .left), sym (c .before .hex-value .ensures .0)) (c .step-digit .ensures)

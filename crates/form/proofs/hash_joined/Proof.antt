@@ -1,24 +1,16 @@
 use mathlib.Core.Path.{sym, _∙_}
-use native.Mathlib.Omega.{arith}
 use Rattle.form.proofs.Hashes.{hash-append}
 use Rattle.form.specs.Form.{joined, undo}
 use borrow.Author.Needs.{needs}
 use Rattle.form.proofs.hash_joined.Statement.{statement}
 use Rattle.form.proofs.hash_joined.Tie as tie
-use Rattle.form.proofs.hash_joined.Reads as reads
-use Rattle.form.proofs.hash_joined.Lts as lts
-use Rattle.form.proofs.hash_bytes.Reads as hash-bytes-reads
-use Rattle.form.proofs.hash_undone.Reads as hash-undone-reads
 
--- src/lib.rt:163:20
 hash-bytes-requires : tie.Need-hash-bytes-requires
 hash-bytes-requires c κs = search needs
 
--- src/lib.rt:163:5
 hash-undone-requires : tie.Need-hash-undone-requires
 hash-undone-requires c κs = (c .before .before .before .pre, c .hash-bytes .ensures .1)
 
--- src/lib.rt:159:1
 returns : tie.Need-returns
 unfolding joined
 returns c = (c .hash-undone .ensures .0 ∙ rw (c .before .hash-bytes .ensures .0) (sym (hash-append (c .before .before .before .before .args .m) 0 (c .before .before .before .before .args .front .now) (undo (c .before .before .before .before .args .form) (c .before .before .before .before .args .back .now)))), c .hash-undone .ensures .1)

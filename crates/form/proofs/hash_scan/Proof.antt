@@ -12,13 +12,6 @@ use Rattle.form.proofs.Hashes.{hash-piece, hash-done}
 use borrow.Author.Needs.{needs}
 use Rattle.form.proofs.hash_scan.Statement.{statement}
 use Rattle.form.proofs.hash_scan.Tie as tie
-use Rattle.form.proofs.hash_scan.Reads as reads
-use Rattle.form.proofs.hash_scan.Lts as lts
-use Rattle.escape.proofs.Scan.bytes.Reads as bytes-reads
-use Rattle.escape.proofs.Scan.step.Reads as step-reads
-use Rattle.escape.proofs.has_backslash.Reads as has-backslash-reads
-use Rattle.form.proofs.hash_bytes.Reads as hash-bytes-reads
-use Rattle.form.proofs.hash_numbers.Reads as hash-numbers-reads
 
 abbrev Inv-loop : tie.InvT-loop
 Inv-loop m h s scan₀ total₀ i₀ scan total i = (((i ≤ length s) × Fair scan) × (total < 4294967296)) × (hash-from m h (undone scan₀ s) ≡ hash-from m total (undone scan (drop i s)))
@@ -26,59 +19,45 @@ Inv-loop m h s scan₀ total₀ i₀ scan total i = (((i ≤ length s) × Fair s
 abbrev μ-loop : tie.MeasureT-loop
 μ-loop m h s scan₀ total₀ i₀ scan total i = length s - i
 
--- src/lib.rt:131:9
 has-backslash-requires : tie.Need-has-backslash-requires Inv-loop μ-loop
 has-backslash-requires c κs = search needs
 
--- src/lib.rt:132:9
 hash-bytes-requires : tie.Need-hash-bytes-requires Inv-loop μ-loop
 hash-bytes-requires c κs = search needs
 
--- src/lib.rt:132:9
 returns : tie.Need-returns Inv-loop μ-loop
 returns c = (c .hash-bytes .ensures .0 ∙ ap (hash-from (c .before .before .before .before .args .m) (c .before .before .before .before .args .h)) (sym (c .before .before .before .before .pre .0 .plain (c .before .before .before .before .args .s .now) (sym (c .before .before .has-backslash .ensures) ∙ not-true _ (c .before .if1 .taken)))), c .hash-bytes .ensures .1)
 
--- src/lib.rt:137:5
 loop-holds : tie.Need-loop-holds Inv-loop μ-loop
 loop-holds c = (((omega arith, c .before .before .before .pre .0 .fair), c .before .before .before .pre .1 .1), refl)
 
--- src/lib.rt:138:26
 shared-slice-read-step : tie.Need-shared-slice-read-step Inv-loop μ-loop
 shared-slice-read-step c = search needs
 
--- src/lib.rt:138:9
 step-requires : tie.Need-step-requires Inv-loop μ-loop
 step-requires c κs = search needs
 
--- src/lib.rt:140:17
 bytes-requires : tie.Need-bytes-requires Inv-loop μ-loop
 bytes-requires c κs = search needs
 
--- src/lib.rt:141:40
 array-share-prefix-b : tie.Need-array-share-prefix-b Inv-loop μ-loop
 array-share-prefix-b c = four-fits (c .before .step .result) (c .bytes .result) (c .bytes .ensures) (fair-more (c .before .before .before .before .loop .scan) (c .before .step .result) (c .before .before .before .before .before .before .before .before .args .s .now) (c .before .before .before .before .loop .i) (omega arith) (c .before .before .before .before .loop .inv .0 .0 .1) (c .before .step .ensures) (c .before .before .shared-slice-known2 .given (c .before .before .before .before .loop .i) .fits) .small)
 
--- src/lib.rt:141:40
 slice-aggregate-hash-numbers : tie.Need-slice-aggregate-hash-numbers Inv-loop μ-loop
 slice-aggregate-hash-numbers c = sym (length-take-le (c .before .before .step .result .n) (c .before .bytes .result) (four-fits (c .before .before .step .result) (c .before .bytes .result) (c .before .bytes .ensures) (fair-more (c .before .before .before .before .before .loop .scan) (c .before .before .step .result) (c .before .before .before .before .before .before .before .before .before .args .s .now) (c .before .before .before .before .before .loop .i) (omega arith) (c .before .before .before .before .before .loop .inv .0 .0 .1) (c .before .before .step .ensures) (c .before .before .before .shared-slice-known2 .given (c .before .before .before .before .before .loop .i) .fits) .small)))
 
--- src/lib.rt:141:9
 hash-numbers-requires : tie.Need-hash-numbers-requires Inv-loop μ-loop
 hash-numbers-requires c κs = (c .before .before .before .before .before .before .before .before .before .pre .1 .0, c .before .before .before .before .before .loop .inv .0 .1)
 
--- src/lib.rt:142:9
 add-i : tie.Need-add-i Inv-loop μ-loop
 add-i c = search needs
 
--- src/lib.rt:137:5
 loop-less : tie.Need-loop-less Inv-loop μ-loop
 loop-less c = search needs
 
--- src/lib.rt:137:5
 loop-again : tie.Need-loop-again Inv-loop μ-loop
 loop-again c = (((omega arith, fair-more (c .before .before .before .before .before .before .loop .scan) (c .before .before .before .step .result) (c .before .before .before .before .before .before .before .before .before .before .args .s .now) (c .before .before .before .before .before .before .loop .i) (omega arith) (c .before .before .before .before .before .before .loop .inv .0 .0 .1) (c .before .before .before .step .ensures) (c .before .before .before .before .shared-slice-known2 .given (c .before .before .before .before .before .before .loop .i) .fits)), c .hash-numbers .ensures .1), c .before .before .before .before .before .before .loop .inv .1 ∙ hash-piece (c .before .before .before .before .before .before .before .before .before .before .args .m) (c .before .before .before .before .before .before .loop .scan) (c .before .before .before .step .result) (c .before .before .before .before .before .before .before .before .before .before .args .s .now) (c .before .before .before .before .before .before .loop .i) (omega arith) (c .before .before .before .before .before .before .loop .inv .0 .0 .1) (c .before .before .before .step .ensures) (c .before .before .before .before .shared-slice-known2 .given (c .before .before .before .before .before .before .loop .i) .fits) (c .before .before .bytes .result) (c .before .before .bytes .ensures) (c .before .before .before .before .before .before .loop .total) (c .hash-numbers .result) (c .hash-numbers .ensures .0))
 
--- src/lib.rt:127:1
 returns-2 : tie.Need-returns-2 Inv-loop μ-loop
 returns-2 c = (sym (c .before .loop .inv .1 ∙ hash-done (c .before .before .before .before .before .args .m) (c .before .loop .scan) (c .before .before .before .before .before .args .s .now) (c .before .loop .i) (c .before .loop .total) (omega arith)), c .before .loop .inv .0 .1)
 

@@ -5,56 +5,39 @@ use Rattle.form.specs.Form.{undo}
 use borrow.Author.Needs.{needs}
 use Rattle.form.proofs.hash_undone.Statement.{statement}
 use Rattle.form.proofs.hash_undone.Tie as tie
-use Rattle.form.proofs.hash_undone.Reads as reads
-use Rattle.form.proofs.hash_undone.Lts as lts
-use Rattle.escape.proofs.Scan.name.Reads as name-reads
-use Rattle.escape.proofs.Scan.text.Reads as text-reads
-use Rattle.form.proofs.hash_bytes.Reads as hash-bytes-reads
-use Rattle.form.proofs.hash_scan.Reads as hash-scan-reads
 
--- src/lib.rt:152:24
 enum-told : tie.Need-enum-told
 enum-told c = search needs
 
--- src/lib.rt:152:24
 hash-bytes-requires : tie.Need-hash-bytes-requires
 hash-bytes-requires c κs = search needs
 
--- src/lib.rt:153:36
 enum-told-2 : tie.Need-enum-told-2
 enum-told-2 c = search needs
 
--- src/lib.rt:153:36
 text-requires : tie.Need-text-requires
 text-requires c κs = search needs
 
--- src/lib.rt:153:26
 hash-scan-requires : tie.Need-hash-scan-requires
 hash-scan-requires c κs = (text-starts (c .text .result) (c .text .ensures), c .before .before .before .before .pre)
 
--- src/lib.rt:154:37
 enum-told-3 : tie.Need-enum-told-3
 enum-told-3 c = search needs
 
--- src/lib.rt:154:37
 name-requires : tie.Need-name-requires
 name-requires c κs = search needs
 
--- src/lib.rt:154:27
 hash-scan-requires-2 : tie.Need-hash-scan-requires-2
 hash-scan-requires-2 c κs = (name-starts (c .name .result) (c .name .ensures), c .before .before .before .before .pre)
 
--- src/lib.rt:147:1
 returns : tie.Need-returns
 unfolding undo
 returns c = rw (c .before .enum-told .given .1) (c .hash-bytes .ensures)
 
--- src/lib.rt:147:1
 returns-2 : tie.Need-returns-2
 unfolding undo
 returns-2 c = rw (c .before .before .enum-told2 .given .1) (c .hash-scan .ensures .0 ∙ ap (hash-from (c .before .before .before .before .before .args .m) (c .before .before .before .before .before .args .h)) (text-start (c .before .text .result) (c .before .text .ensures) (c .before .before .before .before .before .args .back .now)), c .hash-scan .ensures .1)
 
--- src/lib.rt:147:1
 returns-3 : tie.Need-returns-3
 unfolding undo
 returns-3 c = rw (c .before .before .enum-told3 .given .1) (c .hash-scan2 .ensures .0 ∙ ap (hash-from (c .before .before .before .before .before .args .m) (c .before .before .before .before .before .args .h)) (name-start (c .before .name .result) (c .before .name .ensures) (c .before .before .before .before .before .args .back .now)), c .hash-scan2 .ensures .1)

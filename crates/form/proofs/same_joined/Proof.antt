@@ -5,44 +5,31 @@ use Rattle.form.proofs.Forms.{joined-short, joined-not, joined-same}
 use borrow.Author.Needs.{needs}
 use Rattle.form.proofs.same_joined.Statement.{statement}
 use Rattle.form.proofs.same_joined.Tie as tie
-use Rattle.form.proofs.same_joined.Reads as reads
-use Rattle.form.proofs.same_joined.Lts as lts
-use Rattle.form.proofs.same_undone.Reads as same-undone-reads
-use Rattle.text.proofs.same.Reads as same-reads
 
--- src/lib.rt:48:9
 returns : tie.Need-returns
 returns c = joined-short (c .before .before .before .before .args .front .now) (c .before .before .before .before .args .form) (c .before .before .before .before .args .back .now) (c .before .before .before .before .args .t .now) (omega arith)
 
--- src/lib.rt:50:32
 sub-same-undone : tie.Need-sub-same-undone
 sub-same-undone c = search needs
 
--- src/lib.rt:50:32
 part-same-undone-start : tie.Need-part-same-undone-start
 part-same-undone-start c = search needs
 
--- src/lib.rt:50:32
 part-same-undone-end : tie.Need-part-same-undone-end
 part-same-undone-end c = search needs
 
--- src/lib.rt:50:8
 same-undone-requires : tie.Need-same-undone-requires
 same-undone-requires c κs = search needs
 
--- src/lib.rt:51:34
 slice-aggregate-same : tie.Need-slice-aggregate-same
 slice-aggregate-same c = sym (length-take-le _ (c .before .before .before .before .before .before .before .before .args .t .now) (omega arith))
 
--- src/lib.rt:51:9
 same-requires : tie.Need-same-requires
 same-requires c κs = search needs
 
--- src/lib.rt:51:9
 returns-2 : tie.Need-returns-2
 returns-2 c = joined-same (c .before .before .before .before .before .before .before .before .before .args .front .now) (c .before .before .before .before .before .before .before .before .before .args .form) (c .before .before .before .before .before .before .before .before .before .args .back .now) (c .before .before .before .before .before .before .before .before .before .args .t .now) _ (sym (c .before .before .before .same-undone .ensures) ∙ c .before .before .if2 .taken) (c .same .ensures)
 
--- src/lib.rt:43:1
 returns-3 : tie.Need-returns-3
 returns-3 c = joined-not (c .before .before .before .before .before .before .before .args .front .now) (c .before .before .before .before .before .before .before .args .form) (c .before .before .before .before .before .before .before .args .back .now) (c .before .before .before .before .before .before .before .args .t .now) (sym (c .before .same-undone .ensures) ∙ c .if2 .left)
 

@@ -4,38 +4,28 @@ use mathlib.Core.Path.{refl}
 use borrow.Author.Tests.{eq-eqb, ne-eqb}
 use Rattle.form.specs.Hash.{first-multiplier, stir}
 use Rattle.form.proofs.Hashes.{product}
-use borrow.Author.Needs.{needs}
 use Rattle.form.proofs.stir.Statement.{statement}
 use Rattle.form.proofs.stir.Tie as tie
-use Rattle.form.proofs.stir.Reads as reads
-use Rattle.form.proofs.stir.Lts as lts
 
--- src/lib.rt:106:17
 mul-result : tie.Need-mul-result
 mul-result c = omega (arith, product (c .before .args .m) (c .before .args .h) (c .before .pre .0) (c .before .pre .1 .0))
 
--- src/lib.rt:106:17
 add-result : tie.Need-add-result
 add-result c = omega (arith, product (c .before .args .m) (c .before .args .h) (c .before .pre .0) (c .before .pre .1 .0))
 
--- src/lib.rt:106:9
 returns : tie.Need-returns
 unfolding stir
 returns c = (rw (eq-eqb (c .before .args .m) first-multiplier (c .if1 .taken)) refl, mod-lt _ (omega arith))
 
--- src/lib.rt:108:6
 mul-result-2 : tie.Need-mul-result-2
 mul-result-2 c = omega (arith, product (c .before .args .m) (c .before .args .h) (c .before .pre .0) (c .before .pre .1 .0))
 
--- src/lib.rt:108:6
 add-result-2 : tie.Need-add-result-2
 add-result-2 c = omega (arith, product (c .before .args .m) (c .before .args .h) (c .before .pre .0) (c .before .pre .1 .0))
 
--- src/lib.rt:108:6
 add-result-3 : tie.Need-add-result-3
 add-result-3 c = omega (arith, product (c .before .args .m) (c .before .args .h) (c .before .pre .0) (c .before .pre .1 .0))
 
--- src/lib.rt:101:1
 returns-2 : tie.Need-returns-2
 unfolding stir
 returns-2 c = (rw (ne-eqb (c .before .args .m) first-multiplier (c .if1 .left)) refl, mod-lt _ (omega arith))

@@ -1,39 +1,27 @@
-use mathlib.Core.Path.{subst, sym}
 use Rattle.index.proofs.Indexes.{end-part, entered}
 use Rattle.limits.specs.Limits.{work-size}
 use borrow.Author.Needs.{needs}
 use Rattle.index.proofs.enter.Statement.{statement}
 use Rattle.index.proofs.enter.Tie as tie
-use Rattle.index.proofs.enter.Reads as reads
-use Rattle.index.proofs.enter.Lts as lts
-use Rattle.index.proofs.link.Reads as link-reads
-use Rattle.limits.proofs.Limits.work_size.Reads as work-size-reads
 
--- src/lib.rt:235:9
 work-size-requires : tie.Need-work-size-requires
 work-size-requires c κs = search needs
 
--- src/lib.rt:236:10
 sub-link : tie.Need-sub-link
 sub-link c = search needs
 
--- src/lib.rt:236:10
 part-link-start : tie.Need-part-link-start
 part-link-start c = search needs
 
--- src/lib.rt:236:10
 part-link-end : tie.Need-part-link-end
 part-link-end c = search needs
 
--- src/lib.rt:236:5
 link-requires : tie.Need-link-requires
 link-requires c κs = (c .before .before .before .pre .1 .0, rw (end-part (c .before .work-size .result) work-size (c .before .before .before .args .work .now) (c .before .work-size .ensures)) (c .before .before .before .pre .1 .1))
 
--- src/lib.rt:231:1
 same-length : tie.Need-same-length
 same-length c = search needs
 
--- src/lib.rt:231:1
 returns : tie.Need-returns
 returns c = entered (c .before .before .before .before .work-size .result) work-size (c .before .before .before .before .before .before .args .work .now) _ (c .before .before .before .before .before .before .args .count) (c .before .before .before .before .before .before .args .place) (c .before .before .before .before .work-size .ensures) (c .before .before .before .before .before .before .pre .0) (c .before .before .link .ensures)
 

@@ -1,4 +1,3 @@
-use Prim.Native.Nat.{_<_}
 use native.Mathlib.Omega.{arith}
 use Rattle.form.specs.Form.{joined}
 use Rattle.index.specs.Tree.{buckets}
@@ -7,37 +6,25 @@ use Rattle.index.proofs.Indexes.{found-number, rest-number, followed}
 use borrow.Author.Needs.{needs}
 use Rattle.index.proofs.find.Statement.{statement}
 use Rattle.index.proofs.find.Tie as tie
-use Rattle.index.proofs.find.Reads as reads
-use Rattle.index.proofs.find.Lts as lts
-use Rattle.index.proofs.follow.Reads as follow-reads
-use Rattle.index.proofs.smaller.Reads as smaller-reads
-use Rattle.terms.proofs.find_from.Reads as find-from-reads
 
--- src/lib.rt:157:13
 find-from-requires : tie.Need-find-from-requires
 find-from-requires c κs = (c .before .before .before .before .before .before .before .pre .readable, omega arith)
 
--- src/lib.rt:158:9
 returns : tie.Need-returns
 returns c = (λ ts t H M f. rest-number (H .keeps) (c .before .before .before .before .before .before .before .before .args .sort) (joined (c .before .before .before .before .before .before .before .before .args .front .now) (c .before .before .before .before .before .before .before .before .args .form) (c .before .before .before .before .before .before .before .before .args .back .now)) (c .before .before .before .before .before .before .before .before .args .tag .now) t M f 0 _ (omega arith) (λ i l. absurd (omega arith)) (c .find-from .ensures), (λ z q. absurd (omega arith), λ q. absurd (omega arith)))
 
--- src/lib.rt:163:9
 follow-requires : tie.Need-follow-requires
 follow-requires c κs = ((c .before .before .before .before .before .before .before .pre .linked, omega arith), c .before .before .before .before .before .before .before .pre .readable)
 
--- src/lib.rt:165:9
 returns-2 : tie.Need-returns-2
 returns-2 c = (λ ts t H M f. found-number (H .keeps) (c .before .before .before .before .before .before .before .before .before .before .args .sort) (joined (c .before .before .before .before .before .before .before .before .before .before .args .front .now) (c .before .before .before .before .before .before .before .before .before .before .args .form) (c .before .before .before .before .before .before .before .before .before .before .args .back .now)) (c .before .before .before .before .before .before .before .before .before .before .args .tag .now) t M f (c .before .before .follow .result .number) (c .if2 .taken) (omega (arith, followed (H .keeps) (c .before .before .before .before .before .before .before .before .before .before .args .sort) (joined (c .before .before .before .before .before .before .before .before .before .before .args .front .now) (c .before .before .before .before .before .before .before .before .before .before .args .form) (c .before .before .before .before .before .before .before .before .before .before .args .back .now)) (c .before .before .before .before .before .before .before .before .before .before .args .tag .now) t M f (c .before .before .before .before .before .before .before .before .before .before .args .index .now) (c .before .before .follow .result .number) (H .indexed) (c .before .before .follow .ensures .0) .within, least-left (c .before .before .before .before .before .before .before .before .before .before .args .counts .terms) (buckets (c .before .before .before .before .before .before .before .before .before .before .args .index .now)))) (followed (H .keeps) (c .before .before .before .before .before .before .before .before .before .before .args .sort) (joined (c .before .before .before .before .before .before .before .before .before .before .args .front .now) (c .before .before .before .before .before .before .before .before .before .before .args .form) (c .before .before .before .before .before .before .before .before .before .before .args .back .now)) (c .before .before .before .before .before .before .before .before .before .before .args .tag .now) t M f (c .before .before .before .before .before .before .before .before .before .before .args .index .now) (c .before .before .follow .result .number) (H .indexed) (c .before .before .follow .ensures .0) .found (c .if2 .taken)), (λ z. absurd (omega arith), c .before .before .follow .ensures .1 .1))
 
--- src/lib.rt:171:9
 smaller-requires : tie.Need-smaller-requires
 smaller-requires c κs = search needs
 
--- src/lib.rt:168:9
 find-from-requires-2 : tie.Need-find-from-requires-2
 find-from-requires-2 c κs = (c .before .before .before .before .before .before .before .before .before .before .before .pre .readable, omega (arith, c .smaller .ensures, least-left (c .before .before .before .before .before .before .before .before .before .before .before .args .counts .terms) (buckets (c .before .before .before .before .before .before .before .before .before .before .before .args .index .now))))
 
--- src/lib.rt:140:1
 returns-3 : tie.Need-returns-3
 returns-3 c = (λ ts t H M f. rest-number (H .keeps) (c .before .before .before .before .before .before .before .before .before .before .before .before .args .sort) (joined (c .before .before .before .before .before .before .before .before .before .before .before .before .args .front .now) (c .before .before .before .before .before .before .before .before .before .before .before .before .args .form) (c .before .before .before .before .before .before .before .before .before .before .before .before .args .back .now)) (c .before .before .before .before .before .before .before .before .before .before .before .before .args .tag .now) t M f (c .before .smaller .result) _ (omega (arith, c .before .smaller .ensures, least-left (c .before .before .before .before .before .before .before .before .before .before .before .before .args .counts .terms) (buckets (c .before .before .before .before .before .before .before .before .before .before .before .before .args .index .now)))) (λ i l. followed (H .keeps) (c .before .before .before .before .before .before .before .before .before .before .before .before .args .sort) (joined (c .before .before .before .before .before .before .before .before .before .before .before .before .args .front .now) (c .before .before .before .before .before .before .before .before .before .before .before .before .args .form) (c .before .before .before .before .before .before .before .before .before .before .before .before .args .back .now)) (c .before .before .before .before .before .before .before .before .before .before .before .before .args .tag .now) t M f (c .before .before .before .before .before .before .before .before .before .before .before .before .args .index .now) (c .before .before .before .before .follow .result .number) (H .indexed) (c .before .before .before .before .follow .ensures .0) .absent (omega (arith, c .before .before .if2 .left)) i (omega (arith, c .before .smaller .ensures))) (c .find-from2 .ensures), (λ z. c .before .before .before .before .follow .ensures .1 .0 (omega (arith, c .before .before .if2 .left)), c .before .before .before .before .follow .ensures .1 .1))
 

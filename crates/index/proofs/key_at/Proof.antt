@@ -1,42 +1,29 @@
-use mathlib.Core.Path.{refl, _∙_}
+use mathlib.Core.Path.{_∙_}
 use native.Mathlib.Omega.{arith}
 use native.Mathlib.Nat.{mod-lt}
 use Rattle.index.specs.Keys.{key-at}
 use borrow.Author.Needs.{needs}
 use Rattle.index.proofs.key_at.Statement.{statement}
 use Rattle.index.proofs.key_at.Tie as tie
-use Rattle.index.proofs.key_at.Reads as reads
-use Rattle.index.proofs.key_at.Lts as lts
-use Rattle.form.proofs.hash_bytes.Reads as hash-bytes-reads
-use Rattle.form.proofs.hash_joined.Reads as hash-joined-reads
-use Rattle.form.proofs.stir.Reads as stir-reads
-use Rattle.index.proofs.type_number.Reads as type-number-reads
 
--- src/lib.rt:76:24
 mul-m : tie.Need-mul-m
 mul-m c = search needs
 
--- src/lib.rt:76:13
 add-m : tie.Need-add-m
 add-m c = search needs
 
--- src/lib.rt:77:9
 hash-joined-requires : tie.Need-hash-joined-requires
 hash-joined-requires c κs = search needs
 
--- src/lib.rt:78:9
 hash-bytes-requires : tie.Need-hash-bytes-requires
 hash-bytes-requires c κs = (omega arith, c .hash-joined .ensures .1)
 
--- src/lib.rt:79:26
 type-number-requires : tie.Need-type-number-requires
 type-number-requires c κs = search needs
 
--- src/lib.rt:79:5
 stir-requires : tie.Need-stir-requires
 stir-requires c κs = (omega arith, (c .before .hash-bytes .ensures .1, mod-lt _ (omega arith)))
 
--- src/lib.rt:73:1
 returns : tie.Need-returns
 unfolding key-at
 returns c = (c .stir .ensures .0 ∙ rw (c .before .type-number .ensures, c .before .before .hash-bytes .ensures .0, c .before .before .before .hash-joined .ensures .0), c .stir .ensures .1)

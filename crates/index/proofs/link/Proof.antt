@@ -3,27 +3,19 @@ use Rattle.index.proofs.Indexes.{links-full, links-new}
 use borrow.Author.Needs.{needs}
 use Rattle.index.proofs.link.Statement.{statement}
 use Rattle.index.proofs.link.Tie as tie
-use Rattle.index.proofs.link.Reads as reads
-use Rattle.index.proofs.link.Lts as lts
-use Rattle.index.proofs.set_slot.Reads as set-slot-reads
 
--- src/lib.rt:192:9
 returns : tie.Need-returns
 returns c = links-full (c .before .before .args .index .now) (c .before .before .args .count) (c .before .before .args .place) (omega arith)
 
--- src/lib.rt:194:28
 add-set-slot : tie.Need-add-set-slot
 add-set-slot c = search needs
 
--- src/lib.rt:194:5
 set-slot-requires : tie.Need-set-slot-requires
 set-slot-requires c κs = omega (arith, c .before .before .before .pre .1 (omega arith))
 
--- src/lib.rt:186:1
 same-length : tie.Need-same-length
 same-length c = search needs
 
--- src/lib.rt:186:1
 returns-2 : tie.Need-returns-2
 returns-2 c = links-new (c .before .before .before .before .before .before .args .index .now) _ (c .before .before .before .before .before .before .args .count) (c .before .before .before .before .before .before .args .place) (omega arith) (c .before .before .before .before .before .before .pre .0) (c .before .before .before .before .before .before .pre .1) (c .before .before .set-slot .ensures)
 

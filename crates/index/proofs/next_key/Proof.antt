@@ -1,25 +1,17 @@
 use Prim.Native.Nat.{_/_, _-_}
-use mathlib.Core.Path.{_≡_, ap, _∙_}
-use native.Mathlib.Omega.{arith}
 use Rattle.form.specs.Form.{joined}
 use Rattle.index.specs.Keys.{key-at, type-of}
 use Rattle.index.proofs.Indexes.{served-same}
 use borrow.Author.Needs.{needs}
 use Rattle.index.proofs.next_key.Statement.{statement}
 use Rattle.index.proofs.next_key.Tie as tie
-use Rattle.index.proofs.next_key.Reads as reads
-use Rattle.index.proofs.next_key.Lts as lts
-use Rattle.index.proofs.key_at.Reads as key-at-reads
 
--- src/lib.rt:96:9
 key-at-requires : tie.Need-key-at-requires
 key-at-requires c κs = search needs
 
--- src/lib.rt:96:9
 returns : tie.Need-returns
 returns c = c .key-at .ensures .0
 
--- src/lib.rt:83:1
 returns-2 : tie.Need-returns-2
 returns-2 c = served-same (joined (c .before .before .before .before .args .front .now) (c .before .before .before .before .args .form) (c .before .before .before .before .args .back .now)) (c .before .before .before .before .args .tag .now) (type-of (c .before .before .before .before .args .sort)) (c .before .before .before .before .args .key) (c .before .before .before .before .args .level) (c .before .before .before .before .pre .0) (c .before .before .before .before .pre .1) (c .if1 .left)
 

@@ -1,24 +1,16 @@
-use mathlib.Core.Path.{refl, subst, sym}
 use Rattle.leaves.proofs.Writing.{named-8, named-9, named-10, named-other}
-use borrow.Author.Needs.{needs}
 use Rattle.leaves.proofs.datatype.Statement.{statement}
 use Rattle.leaves.proofs.datatype.Tie as tie
-use Rattle.leaves.proofs.datatype.Reads as reads
-use Rattle.leaves.proofs.datatype.Lts as lts
 
--- src/lib.rt:165:9
 returns : tie.Need-returns
 returns c = named-8 (c .before .before .before .args .kind) (c .before .before .if1 .taken)
 
--- src/lib.rt:168:9
 returns-2 : tie.Need-returns-2
 returns-2 c = named-9 (c .before .before .before .before .args .kind) (c .before .before .if2 .taken)
 
--- src/lib.rt:171:9
 returns-3 : tie.Need-returns-3
 returns-3 c = named-10 (c .before .before .before .before .before .args .kind) (c .before .before .if3 .taken)
 
--- src/lib.rt:161:1
 returns-4 : tie.Need-returns-4
 returns-4 c = named-other (c .before .before .before .before .before .args .kind) (c .before .before .before .before .if1 .left) (c .before .before .before .if2 .left) (c .before .before .if3 .left)
 

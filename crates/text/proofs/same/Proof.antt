@@ -9,10 +9,6 @@ use Rattle.text.proofs.Words.{eight-more, eight-not}
 use borrow.Author.Needs.{needs}
 use Rattle.text.proofs.same.Statement.{statement}
 use Rattle.text.proofs.same.Tie as tie
-use Rattle.text.proofs.same.Reads as reads
-use Rattle.text.proofs.same.Lts as lts
-use Rattle.text.proofs.eight.Reads as eight-reads
-use Rattle.text.proofs.same_end.Reads as same-end-reads
 
 abbrev Inv-loop : tie.InvT-loop
 Inv-loop s t i₀ i = (i ≤ length s) × (same-text s t ≡ same-text (drop i s) (drop i t))
@@ -20,47 +16,36 @@ Inv-loop s t i₀ i = (i ≤ length s) × (same-text s t ≡ same-text (drop i s
 abbrev μ-loop : tie.MeasureT-loop
 μ-loop s t i₀ i = length s - i
 
--- src/lib.rt:51:9
 returns : tie.Need-returns Inv-loop μ-loop
 returns c = sym (same-length (c .before .before .before .args .s .now) (c .before .before .before .args .t .now) (c .if1 .taken))
 
--- src/lib.rt:54:5
 loop-holds : tie.Need-loop-holds Inv-loop μ-loop
 loop-holds c = (omega arith, refl)
 
--- src/lib.rt:54:16
 sub-loop : tie.Need-sub-loop Inv-loop μ-loop
 sub-loop c = search needs
 
--- src/lib.rt:55:12
 eight-requires : tie.Need-eight-requires Inv-loop μ-loop
 eight-requires c κs = search needs
 
--- src/lib.rt:55:27
 eight-requires-2 : tie.Need-eight-requires-2 Inv-loop μ-loop
 eight-requires-2 c κs = search needs
 
--- src/lib.rt:56:13
 returns-2 : tie.Need-returns-2 Inv-loop μ-loop
 returns-2 c = sym (c .before .before .before .before .loop .inv .1 ∙ eight-not (c .before .before .before .before .before .before .before .before .args .s .now) (c .before .before .before .before .before .before .before .before .args .t .now) (c .before .before .before .before .loop .i) (λ e. c .if2 .taken (c .before .before .eight .ensures ∙ (e ∙ sym (c .before .eight2 .ensures)))))
 
--- src/lib.rt:58:9
 add-i : tie.Need-add-i Inv-loop μ-loop
 add-i c = search needs
 
--- src/lib.rt:54:5
 loop-less : tie.Need-loop-less Inv-loop μ-loop
 loop-less c = search needs
 
--- src/lib.rt:54:5
 loop-again : tie.Need-loop-again Inv-loop μ-loop
 loop-again c = (omega arith, c .before .before .before .before .loop .inv .1 ∙ eight-more (c .before .before .before .before .before .before .before .before .args .s .now) (c .before .before .before .before .before .before .before .before .args .t .now) (λ k. c .before .before .before .before .before .before .before .shared-slice-known .given k .fits) (λ k. c .before .before .before .before .before .before .shared-slice-known2 .given k .fits) (c .before .before .before .before .loop .i) (omega arith) (omega arith) (sym (c .before .before .eight .ensures) ∙ (c .if2 .left ∙ c .before .eight2 .ensures)))
 
--- src/lib.rt:60:5
 same-end-requires : tie.Need-same-end-requires Inv-loop μ-loop
 same-end-requires c κs = search needs
 
--- src/lib.rt:47:1
 returns-3 : tie.Need-returns-3 Inv-loop μ-loop
 returns-3 c = c .same-end .ensures ∙ sym (c .before .before .loop .inv .1)
 

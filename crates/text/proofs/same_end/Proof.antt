@@ -8,8 +8,6 @@ use Rattle.text.proofs.Compare.{same-more, same-not, same-ends}
 use borrow.Author.Needs.{needs}
 use Rattle.text.proofs.same_end.Statement.{statement}
 use Rattle.text.proofs.same_end.Tie as tie
-use Rattle.text.proofs.same_end.Reads as reads
-use Rattle.text.proofs.same_end.Lts as lts
 
 abbrev Inv-loop : tie.InvT-loop
 Inv-loop s t from i₀ i = (i ≤ length s) × (same-text (drop from s) (drop from t) ≡ same-text (drop i s) (drop i t))
@@ -17,35 +15,27 @@ Inv-loop s t from i₀ i = (i ≤ length s) × (same-text (drop from s) (drop fr
 abbrev μ-loop : tie.MeasureT-loop
 μ-loop s t from i₀ i = length s - i
 
--- src/lib.rt:37:5
 loop-holds : tie.Need-loop-holds Inv-loop μ-loop
 loop-holds c = (c .pre .0, refl)
 
--- src/lib.rt:38:12
 shared-slice-read-if1 : tie.Need-shared-slice-read-if1 Inv-loop μ-loop
 shared-slice-read-if1 c = search needs
 
--- src/lib.rt:38:20
 shared-slice-read-if1-2 : tie.Need-shared-slice-read-if1-2 Inv-loop μ-loop
 shared-slice-read-if1-2 c = search needs
 
--- src/lib.rt:39:13
 returns : tie.Need-returns Inv-loop μ-loop
 returns c = sym (c .before .before .before .before .loop .inv .1 ∙ same-not (c .before .before .before .before .before .args .s .now) (c .before .before .before .before .before .args .t .now) (c .before .before .before .before .loop .i) (c .before .before .before .before .loop .i) (omega arith) (omega (arith, c .before .before .before .before .before .pre .1)) (c .if1 .taken))
 
--- src/lib.rt:41:9
 add-i : tie.Need-add-i Inv-loop μ-loop
 add-i c = search needs
 
--- src/lib.rt:37:5
 loop-less : tie.Need-loop-less Inv-loop μ-loop
 loop-less c = search needs
 
--- src/lib.rt:37:5
 loop-again : tie.Need-loop-again Inv-loop μ-loop
 loop-again c = (omega arith, c .before .before .before .before .loop .inv .1 ∙ same-more (c .before .before .before .before .before .args .s .now) (c .before .before .before .before .before .args .t .now) (c .before .before .before .before .loop .i) (c .before .before .before .before .loop .i) (omega arith) (omega (arith, c .before .before .before .before .before .pre .1)) (c .if1 .left))
 
--- src/lib.rt:32:1
 returns-2 : tie.Need-returns-2 Inv-loop μ-loop
 returns-2 c = sym (c .before .loop .inv .1 ∙ same-ends (c .before .before .args .s .now) (c .before .before .args .t .now) (c .before .loop .i) (omega arith) (omega (arith, c .before .before .pre .1)))
 
