@@ -63,9 +63,9 @@ def nested(i, levels=64):
 
 
 def mixed_in(h, text):
-    """The hash h with a text, as the index of the terms makes it for its first level."""
+    """The hash h with a text: the first hash of the index of the terms."""
     for c in text:
-        h = (h * 16777619 + (h >> 15) + ord(c)) % 2**32
+        h = (h * 16777619 + ord(c)) % 2**32
     return h
 
 
@@ -87,6 +87,13 @@ def blocks(namespace):
 
 def colliding(i):
     return ''.join(pair[i >> k & 1] for k, pair in enumerate(blocks('http://motors.example/terms#')))
+
+
+def morse(i):
+    """Texts of one length that no hash of this kind tells apart, whatever odd number it multiplies by."""
+    block = ['ab'[n.bit_count() % 2] for n in range(128)]
+    other = ['ba'[n.bit_count() % 2] for n in range(128)]
+    return ''.join(''.join([block, other][i >> k & 1]) for k in range(10))
 
 
 def prefixes(name):
@@ -160,6 +167,7 @@ worst = {
     'tags.ttl': (one, lambda i: '"a"@a-%d,\n' % i, '1 .'),
     'types.ttl': (one, lambda i: '"a"^^m:%d,\n' % i, '1 .'),
     'colliding.ttl': (one, lambda i: 'm:%s,\n' % colliding(i), '1 .'),
+    'morse.ttl': (one, lambda i: '"%s",\n' % morse(i), '1 .'),
     # Opened and closed, and refused at the end.
     'graphs.trig': (line, lambda i: 'm:g%d{}{}GRAPH m:h{}\n' % (i % 9), ''),
     'brackets.ttl': (one + '(', lambda i: '[][]()()' * 8, ') .'),
