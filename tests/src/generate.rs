@@ -71,23 +71,25 @@ pub fn subject(random: &mut Random) -> Subject {
 
 fn document(random: &mut Random, mode: u8, base: bool) -> Vec<u8> {
     let mut generator = Generator { random, out: Vec::new(), prefixes: Vec::new(), base, depth: 0 };
-    if generator.random.once_in(100) {
-        generator.many_prefixes();
-    }
-    if generator.random.once_in(100) {
-        generator.many_terms();
-    }
-    for _ in 0..generator.random.below(7) {
-        match generator.random.below(6) {
-            0 | 1 => generator.directive(),
-            2 | 3 if mode == 0 => generator.graph(),
-            _ => generator.triples(true),
-        }
-    }
-    if generator.random.once_in(4) {
-        generator.out.extend(b" # the end");
-    }
+    generator.statements(mode);
     generator.out
+}
+
+/// A document, and text to be put behind it, which uses what the document declares; one text in four is damaged.
+pub fn pair(random: &mut Random) -> (Subject, Vec<u8>) {
+    let mode = u8::from(random.once_in(2));
+    let base = if random.once_in(2) { random.pick(BASES).as_bytes().to_vec() } else { Vec::new() };
+    let mut generator = Generator { random, out: Vec::new(), prefixes: Vec::new(), base: !base.is_empty(), depth: 0 };
+    generator.statements(mode);
+    let document = std::mem::take(&mut generator.out);
+    generator.statements(mode);
+    let mut more = generator.out;
+    match random.below(8) {
+        0 => damage_tokens(random, &mut more),
+        1 => damage_bytes(random, &mut more),
+        _ => {}
+    }
+    (Subject { document, base, mode }, more)
 }
 
 struct Generator<'r> {
@@ -99,6 +101,26 @@ struct Generator<'r> {
 }
 
 impl Generator<'_> {
+    /// Directives, triples and graphs, and sometimes a comment without a line end.
+    fn statements(&mut self, mode: u8) {
+        if self.random.once_in(100) {
+            self.many_prefixes();
+        }
+        if self.random.once_in(100) {
+            self.many_terms();
+        }
+        for _ in 0..self.random.below(7) {
+            match self.random.below(6) {
+                0 | 1 => self.directive(),
+                2 | 3 if mode == 0 => self.graph(),
+                _ => self.triples(true),
+            }
+        }
+        if self.random.once_in(4) {
+            self.out.extend(b" # the end");
+        }
+    }
+
     /// A token, after blanks, a comment or nothing. Without blanks two tokens may become another one.
     fn token(&mut self, text: &str) {
         match self.random.below(40) {

@@ -1,5 +1,6 @@
 //! Evidence from outside: see USAGE.
 
+mod appended;
 mod boundaries;
 mod call;
 mod cases;
@@ -24,6 +25,8 @@ evidence cases PATH                                calls with answers (base.json
 evidence compare --seed N --count N --seconds S    random documents, and documents at the limits
 evidence exhaustive                                all small documents of several kinds, every character
 evidence boundaries                                limits, room, RFC 3986 5.4, readings, bench table, writer
+evidence appended --seed N --count N               random documents with text added behind a line feed (C-22)
+evidence appended PATH                             the pairs of C-22.jsonl
 evidence w3c PATH                                  the W3C suites (the directory with index.tsv)";
 
 fn main() -> std::process::ExitCode {
@@ -39,6 +42,8 @@ fn main() -> std::process::ExitCode {
         }
         ["exhaustive"] => Ok(exhaustive::run()),
         ["boundaries"] => Ok(boundaries::run()),
+        ["appended", "--seed", seed, "--count", count] => number(seed).and_then(|seed| Ok(appended::run(seed, number(count)?))),
+        ["appended", path] => appended::run_cases(path),
         ["w3c", path] => w3c::run(path),
         _ => Err(USAGE.to_string()),
     };

@@ -18,15 +18,12 @@ use Rattle.utf8.proofs.Encoding.{length-encode, width-pos, highs-encode}
 use Rattle.utf8.proofs.Decoding.{valid-encoded}
 use Rattle.token.specs.Regular.{in-ranges}
 use Rattle.token.specs.Tokens.{white-space, line-end}
+use Rattle.token.proofs.Cutting.{high-blank}
 use Rattle.lexer.specs.Blanks.{blanks, white-spaces, skips, CommentTo, BlanksAt}
 
--- A byte or code point from 128 on is no blank.
-module _ (c : ℕ) (h : 128 ≤ c) where
-  pub high-line : line-end c ≡ false
-  high-line = simp (ne-eqb c 13 (omega arith), ne-eqb c 10 (omega arith))
-
-  pub high-blank : (white-space c || is "#" c) ≡ false
-  high-blank = simp (ne-eqb c 32 (omega arith), ne-eqb c 9 (omega arith), ne-eqb c 13 (omega arith), ne-eqb c 10 (omega arith), ne-eqb c 35 (omega arith))
+-- A byte or code point from 128 on ends no line.
+pub high-line : (c : ℕ) → 128 ≤ c → line-end c ≡ false
+high-line c h = simp (ne-eqb c 13 (omega arith), ne-eqb c 10 (omega arith))
 
 skips-highs : (m t : Text) → Highs m → skips true (m ++ t) ≡ length m + skips true t
 unfolding skips

@@ -8,14 +8,14 @@ use mathlib.Core.Option.{none}
 use Prim.Native.Nat.{ℕ, zero, suc, _+_, _-_, _≤_, _<_}
 use native.Mathlib.Omega.{arith}
 use native.Mathlib.Nat.{add-zero, add-assoc}
-use borrow.Author.Tests.{lt-ltb, leb-true}
+use borrow.Author.Tests.{leb-true}
 use lib.Dec.{T, ltb, leb}
 use lib.ListN.{length, take, drop, length-drop, drop-of-length-le}
 use lib.Seq.{drop-at, drop-drop}
 use Rattle.text.specs.Text.{Text, cond, is}
 use Rattle.utf8.specs.Utf8.{encodes, width, decode, first-bad}
 use Rattle.utf8.specs.Scalar.{Scalars, Encodes}
-use Rattle.utf8.proofs.Tests.{by, split}
+use Rattle.utf8.proofs.Tests.{by}
 use Rattle.utf8.proofs.Encoding.{width-pos}
 use Rattle.utf8.proofs.Decoding.{valid-encoded, encoded-valid, encodes-append, scalars-right}
 use Rattle.token.specs.Kind.{kind-of-code}
@@ -28,11 +28,11 @@ use Rattle.automaton.specs.declared.Token.{Token}
 use Rattle.automaton.specs.declared.Next.{Next}
 use Rattle.lexer_words.specs.Ahead.{Clear, NextAt}
 use Rattle.token.proofs.Sizes.{length-encodes}
+use Rattle.token.proofs.Cutting.{blank-width, cut-blank, cut-nothing, cut-hit}
 use Rattle.lexer_words.proofs.Clearing.{clear-drop}
 use Rattle.lexer_words.proofs.Muting.{Passes, best-passes}
 use Rattle.lexer.specs.Blanks.{blanks, after-blanks, BlanksAt}
 use Rattle.lexer.specs.Rest.{rest}
-use Rattle.lexer.proofs.Blanking.{high-blank}
 
 -- ---- Blanks
 
@@ -46,11 +46,6 @@ record Parted (b : Bool) (cs : List ℕ) : Type 0 where
   front : List ℕ
   whole : cs ≡ front ++ after-blanks b cs
   sized : blanks b cs ≡ size width front
-
--- A blank is one byte.
-blank-width : (c : ℕ) → (white-space c || is "#" c) ≡ true → width c ≡ 1
-blank-width c e =
-    ⊎-elim (λ h. simp (lt-ltb c 0x80 h)) (λ h. absurd (subst T (sym e ∙ high-blank c h) tt)) (split c 0x80)
 
 parted : (b : Bool) (cs : List ℕ) → Parted b cs
 unfolding blanks after-blanks
@@ -71,23 +66,6 @@ parted false (c ∷ cs) =
       sized = rw e (let o : suc (blanks (is "#" c) cs) ≡ width c + size width (r .front) = omega arith in o);
     })
     (λ e. record { front = []; whole = rw e; sized = rw e })
-
--- The clauses of cutting between tokens.
-module _ (doc : Text) (at c : ℕ) (cs : List ℕ) where
-  cut-blank : (white-space c || is "#" c) ≡ true → lexemes-from doc between at (c ∷ cs) ≡ lexemes-from doc (cond (is "#" c) comment between) (at + 1) cs
-  unfolding lexemes-from
-  cut-blank e = rw (e, lexemes-from)
-
-  module _ (e : (white-space c || is "#" c) ≡ false) where
-    cut-nothing : token-at (c ∷ cs) ≡ nothing → lexemes-from doc between at (c ∷ cs) ≡ unreadable at ∷ []
-    unfolding lexemes-from
-    cut-nothing f = rw (e, f, lexemes-from)
-
-    cut-hit : (k n : ℕ) → token-at (c ∷ cs) ≡ hit k n
-        → lexemes-from doc between at (c ∷ cs)
-        ≡ token (record { kind = kind-of-code k; start = at; text = take n (drop at doc) }) ∷ lexemes-from doc (passed (n - width c)) (at + width c) cs
-    unfolding lexemes-from
-    cut-hit k n f = rw (e, f, lexemes-from)
 
 -- The clauses of the blanks.
 module _ (c : ℕ) (cs : List ℕ) where

@@ -50,12 +50,12 @@ passed n false ts e = (refl, e)
 
 -- ---- What is in force and open, token by token
 
-after-append : (f : InForce) (xs : List Token) (t : Token) → after-tokens f (xs ++ t ∷ []) ≡ after-token (after-tokens f xs) t
+pub after-append : (f : InForce) (xs : List Token) (t : Token) → after-tokens f (xs ++ t ∷ []) ≡ after-token (after-tokens f xs) t
 unfolding after-tokens
 after-append f [] t = refl
 after-append f (x ∷ xs) t = after-append (after-token f x) xs t
 
-depth-append : (d : ℕ) (xs : List Token) (t : Token) → depth-from d (xs ++ t ∷ []) ≡ new-depth (depth-from d xs) t
+pub depth-append : (d : ℕ) (xs : List Token) (t : Token) → depth-from d (xs ++ t ∷ []) ≡ new-depth (depth-from d xs) t
 unfolding depth-from
 depth-append d [] t = refl
 depth-append d (x ∷ xs) t = depth-append (new-depth d x) xs t
@@ -91,7 +91,7 @@ finish-same (directive d) m M e = not-none e
 finish-same (statement []) m M e = (refl, some-same e)
 finish-same (statement (f ∷ k)) m M e = not-none e
 
-final-extends : (mode : Mode) (ts : List Token) (o : Open) (m M : Memory) → final mode ts o m ≡ some M → Extends m M
+pub final-extends : (mode : Mode) (ts : List Token) (o : Open) (m M : Memory) → final mode ts o m ≡ some M → Extends m M
 unfolding final taken
 final-extends mode [] o m M e = subst (Extends m) (finish-same o m M e .1) (extends-same m m refl refl)
 final-extends mode (t ∷ ts) o m M e =
@@ -113,18 +113,18 @@ pub record Met (base : Text) (before : List Token) (t : Token) : Type 0 where
   pub prefixes : one-prefix-more (in-force base before) ≡ false
   pub depth : too-deep (depth-after before) t ≡ false
 
-fair-head : {base : Text} {before ts : List Token} {t : Token} → Fair base before (t ∷ ts) → Met base before t
+pub fair-head : {base : Text} {before ts : List Token} {t : Token} → Fair base before (t ∷ ts) → Met base before t
 fair-head f =
     record { characters = f .characters .0; declared = f .declared .0; based = f .based .0; lengths = f .lengths .0; prefixes = f .prefixes .0; depth = f .depth .0 }
 
-fair-tail : {base : Text} {before ts : List Token} {t : Token} → Fair base before (t ∷ ts) → Fair base (before ++ t ∷ []) ts
+pub fair-tail : {base : Text} {before ts : List Token} {t : Token} → Fair base before (t ∷ ts) → Fair base (before ++ t ∷ []) ts
 fair-tail f =
     record { characters = f .characters .1; declared = f .declared .1; based = f .based .1; lengths = f .lengths .1; prefixes = f .prefixes .1; depth = f .depth .1 }
 
-fair-none : (base : Text) (before : List Token) → Fair base before []
+pub fair-none : (base : Text) (before : List Token) → Fair base before []
 fair-none base before = record { characters = tt; declared = tt; based = tt; lengths = tt; prefixes = tt; depth = tt }
 
-fair-more : {base : Text} {before ts : List Token} {t : Token} → Met base before t → Fair base (before ++ t ∷ []) ts → Fair base before (t ∷ ts)
+pub fair-more : {base : Text} {before ts : List Token} {t : Token} → Met base before t → Fair base (before ++ t ∷ []) ts → Fair base before (t ∷ ts)
 fair-more m f =
     record {
       characters = (m .characters, f .characters);

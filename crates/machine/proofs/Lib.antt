@@ -19,6 +19,8 @@ pub mod Constructed
 pub mod Made
 pub mod Extends
 pub mod Demands
+pub mod Follows
+pub mod Joined
 pub mod Order
 pub mod Distinct
 pub mod Weights

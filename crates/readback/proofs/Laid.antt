@@ -21,7 +21,7 @@ use Rattle.table.specs.Tables.{or-zero, term-at, is-blank, text-of, tag-of, ter
 use Rattle.table.specs.Usable.{each, the, text, tag, inside, counts-fit, has-kind, good-iri, good-datatype, good-tag, good-term, present, resource, good-row, usable}
 use Rattle.table.proofs.Numbers.{Known, not-none, found-known}
 use Rattle.table.proofs.Finding.{number-positive}
-use Rattle.table.proofs.Store.{bytes-length, text-span, tag-span, inside as spans-inside}
+use Rattle.table.proofs.Store.{rows-length, bytes-length, text-span, tag-span, inside as spans-inside}
 use Rattle.readback.proofs.Kept.{Has, is-iri, is-resource, Fine, AllFine, RowFine, RowsFine}
 
 -- ---- Words, five at a time
@@ -286,11 +286,6 @@ module _ (ts : List Term) (rs : List Row) (x y : List ℕ) (z : Text) where
   terms-length all used blanks (u ∷ us) =
       let e = entry-of all used blanks u in
       omega (arith, length-append (entry-words e) (words-from all (used + length (term-bytes u)) (cond (is-blank u) (suc blanks) blanks) us), terms-length all (used + length (term-bytes u)) (cond (is-blank u) (suc blanks) blanks) us)
-
-  rows-length : (us : List Row) → length (rows-words us) ≡ 5 * length us
-  unfolding rows-words row-words
-  rows-length [] = refl
-  rows-length (r ∷ us) = omega (arith, length-append (row-words r) (rows-words us), rows-length us)
 
   counts-fine : counts-fit s ≡ true
   unfolding counts-fit terms-words

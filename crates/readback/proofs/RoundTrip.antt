@@ -72,7 +72,7 @@ again-fits s r =
     }
 
 module _ (doc : Text) (mode : ℕ) (base : Text) (lent : Lent) (x : Meets doc mode base lent) where
-  abbrev made : Memory
+  abbrev pub made : Memory
   made = tables (mode-of mode) (x .derivation .0) base
 
   -- 1 and 3 do not apply.
@@ -87,7 +87,7 @@ module _ (doc : Text) (mode : ℕ) (base : Text) (lent : Lent) (x : Meets doc mo
   start-stays =
       record { kept = record { terms = tt; rows = tt; graph = inl refl; same = refl }; open-now = tt; declared = record { base = base-absolute base (checked .1); namespaces = tt } }
 
-  made-kept : Kept (made .environment) made
+  pub made-kept : Kept (made .environment) made
   made-kept =
       stays-run (mode-of mode) (room-of lent) (length doc) (lexemes doc) (start-state base) made (all-lexed doc (x .utf8)) start-stays
       (meets-run doc mode base lent (room-of lent) x (x .room))

@@ -1,17 +1,16 @@
 -- Where reading ends: what the lent-slices hold is what the machine's outcome says.
-use mathlib.Core.Path.{_≡_, refl, sym, ap, subst, _∙_}
+use mathlib.Core.Path.{_≡_, sym, ap, subst, _∙_}
 use mathlib.Core.List.{List, [], _∷_, _++_}
 use Prim.Native.Nat.{ℕ, _+_, _*_}
 use native.Mathlib.Omega.{arith}
 use borrow.Author.Tests.{eqb-true, eqb-false}
 use lib.Dec.{eqb}
-use lib.ListN.{length, getD, take, drop, length-append, take-append-drop}
+use lib.ListN.{length, getD, take, drop, take-append-drop}
 use Rattle.text.specs.Text.{Text}
 use Rattle.text.proofs.Compare.{by}
 use Rattle.clear.proofs.Zeros.{zeros}
-use Rattle.table.specs.Layout.{Row, row-words}
 use Rattle.table.specs.Tables.{rows-words, terms-words, store-bytes}
-use Rattle.table.proofs.Store.{bytes-length}
+use Rattle.table.proofs.Store.{rows-length, bytes-length}
 use Rattle.terms.proofs.Words.{words-length}
 use Rattle.machine.specs.Memory.{Memory, start-memory}
 use Rattle.machine.specs.Frame.{statement}
@@ -29,11 +28,6 @@ use Rattle.reader.proofs.Start.{holds-start}
 -- Words in front of what was there before.
 in-front : (xs old new : List ℕ) (k : ℕ) → take k xs ≡ new → drop k xs ≡ drop k old → k ≡ length new → xs ≡ new ++ drop (length new) old
 in-front xs old new k e f g = sym (take-append-drop k xs) ∙ (rw (e, f, g))
-
-rows-length : (rs : List Row) → length (rows-words rs) ≡ 5 * length rs
-unfolding rows-words row-words
-rows-length [] = refl
-rows-length (r ∷ rs) = length-append (row-words r) (rows-words rs) ∙ omega (arith, rows-length rs)
 
 terms-length : (m : Memory) → length (terms-words (m .terms)) ≡ 5 * length (m .terms)
 unfolding terms-words

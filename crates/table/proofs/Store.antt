@@ -1,14 +1,24 @@
--- Where the bytes of a term lie in the store.
+-- The words of rows, and where the bytes of a term lie in the store.
 use mathlib.Core.Path.{_≡_, refl, sym, ap, _∙_}
 use mathlib.Core.List.{List, [], _∷_, _++_, append-assoc, append-nil}
-use Prim.Native.Nat.{ℕ, suc, _+_, _<_, _≤_}
+use Prim.Native.Nat.{ℕ, suc, _+_, _*_, _<_, _≤_}
 use native.Mathlib.Omega.{arith}
 use lib.ListN.{length, getD, take, drop, length-append, take-append-drop}
 use lib.Seq.{split-at, take-append-seam, drop-append-seam}
 use Rattle.text.specs.Text.{Text}
 use Rattle.dataset.specs.Terms.{Term, iri}
-use Rattle.table.specs.Layout.{span}
-use Rattle.table.specs.Tables.{text-of, tag-of, term-bytes, store-bytes, store-size}
+use Rattle.table.specs.Layout.{Row, row-size, row-words, span}
+use Rattle.table.specs.Tables.{text-of, tag-of, term-bytes, store-bytes, store-size, rows-words}
+
+pub rows-append : (rs us : List Row) → rows-words (rs ++ us) ≡ rows-words rs ++ rows-words us
+unfolding rows-words
+rows-append [] us = refl
+rows-append (r ∷ rs) us = ap (λ (l : List ℕ). row-words r ++ l) (rows-append rs us) ∙ sym (append-assoc (row-words r) (rows-words rs) (rows-words us))
+
+pub rows-length : (rs : List Row) → length (rows-words rs) ≡ row-size * length rs
+unfolding rows-words row-words
+rows-length [] = refl
+rows-length (r ∷ rs) = omega (arith, length-append (row-words r) (rows-words rs), rows-length rs)
 
 pub bytes-append : (ts us : List Term) → store-bytes (ts ++ us) ≡ store-bytes ts ++ store-bytes us
 unfolding store-bytes

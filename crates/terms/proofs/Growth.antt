@@ -1,6 +1,6 @@
 -- One term more: the slices then hold it behind the others.
 use mathlib.Core.Path.{_≡_, refl, sym, ap, _∙_}
-use mathlib.Core.List.{List, [], _∷_, _++_, append-assoc, append-nil}
+use mathlib.Core.List.{List, [], _∷_, _++_, append-nil}
 use mathlib.Core.Bool.{true}
 use mathlib.Core.Option.{none, some}
 use Prim.Native.Nat.{ℕ, zero, suc, _+_, _*_, _<_, _≤_}
@@ -18,7 +18,7 @@ use Rattle.dataset.specs.Terms.{Term, iri, blank, literal, tagged}
 use Rattle.table.specs.Layout.{Row, row-words, Entry, entry-words}
 use Rattle.table.specs.Tables.{number, is-blank, term-bytes, entry-of, store-size, rows-words}
 use Rattle.table.proofs.Finding.{number-more, number-last}
-use Rattle.table.proofs.Store.{last-bytes, last-size}
+use Rattle.table.proofs.Store.{rows-append, last-bytes, last-size}
 use Rattle.terms.specs.declared.Counts.{Counts}
 use Rattle.terms.specs.declared.Sort.{Sort}
 use Rattle.terms.specs.Keeps.{blank-count, findable, Typed, Keeps, Means, Small, Room, Added, blank-sort, BlankAdded, RowAdded}
@@ -102,8 +102,7 @@ keeps-added ts terms store c sort x g t K R M y new =
 
 rows-last : (rs : List Row) (r : Row) → rows-words (rs ++ r ∷ []) ≡ rows-words rs ++ row-words r
 unfolding rows-words
-rows-last [] r = append-nil (row-words r)
-rows-last (s ∷ rs) r = ap (λ (l : List ℕ). row-words s ++ l) (rows-last rs r) ∙ sym (append-assoc (row-words s) (rows-words rs) (row-words r))
+rows-last rs r = rows-append rs (r ∷ []) ∙ ap (λ (l : List ℕ). rows-words rs ++ l) (append-nil (row-words r))
 
 row-size-is : (r : Row) → length (row-words r) ≡ 5
 unfolding row-words

@@ -13,17 +13,17 @@ use Rattle.token.specs.Kind.{kind-code, at-prefix, at-base, PREFIX, BASE
 
 infixr 50 _·_
 infixr 45 _∣_
-abbrev _·_ : Re → Re → Re
+abbrev pub _·_ : Re → Re → Re
 _·_ = seq
 
-abbrev _∣_ : Re → Re → Re
+abbrev pub _∣_ : Re → Re → Re
 _∣_ = alt
 
 -- r+ and r?
 abbrev plus : Re → Re
 plus r = seq r (star r)
 
-abbrev opt : Re → Re
+abbrev pub opt : Re → Re
 opt r = alt eps r
 
 -- The characters of a quoted text, as a set.
@@ -31,17 +31,17 @@ abbrev singles : List ℕ → List Range
 singles [] = []
 singles (c ∷ cs) = (c – c) ∷ singles cs
 
-abbrev chars : String → List Range
+abbrev pub chars : String → List Range
 chars s = singles (ascii s)
 
 -- One code point of a set, [..]; one that is not of it, [^..]; one character.
 abbrev any : List Range → Re
 any = set true
 
-abbrev none-of : List Range → Re
+abbrev pub none-of : List Range → Re
 none-of = set false
 
-abbrev char : ℕ → Re
+abbrev pub char : ℕ → Re
 char c = any ((c – c) ∷ [])
 
 -- A word in exact case; and in any case, where it is given in capitals.
@@ -68,7 +68,7 @@ smalls = (97 – 122) ∷ []
 -- ---- Sets of characters
 
 -- [171s] HEX ::= [0-9] | [A-F] | [a-f]
-abbrev HEX : Re
+abbrev pub HEX : Re
 HEX = any ((48 – 57) ∷ (65 – 70) ∷ (97 – 102) ∷ [])
 
 -- [163s] PN_CHARS_BASE ::= [A-Z] | [a-z] | [#00C0-#00D6] | .. | [#10000-#EFFFF]
@@ -89,13 +89,13 @@ abbrev «PN_CHARS» : List Range
 -- ---- Escapes
 
 -- [27] UCHAR ::= '\u' HEX HEX HEX HEX | '\U' HEX HEX HEX HEX HEX HEX HEX HEX
-abbrev UCHAR : Re
+abbrev pub UCHAR : Re
 UCHAR =
     word "\\" · word "u" · HEX · HEX · HEX · HEX
     ∣ word "\\" · word "U" · HEX · HEX · HEX · HEX · HEX · HEX · HEX · HEX
 
 -- [159s] ECHAR ::= '\' [tbnrf"'\]
-abbrev ECHAR : Re
+abbrev pub ECHAR : Re
 ECHAR = word "\\" · any (chars "tbnrf\"'\\")
 
 -- [170s] PERCENT ::= '%' HEX HEX
@@ -178,7 +178,7 @@ abbrev string : Char → Re
 string q = char (code q) · star (none-of ((code q – code q) ∷ chars "\\\n\r") ∣ ECHAR ∣ UCHAR) · char (code q)
 
 -- [26] STRING_LITERAL_LONG_QUOTE ::= '"""' (('"' | '""')? ([^"\] | ECHAR | UCHAR))* '"""', and [25] with "'"
-abbrev long-string : Char → Re
+abbrev pub long-string : Char → Re
 long-string q =
     let c = char (code q) in
     c · c · c · star (opt (c ∣ c · c) · (none-of ((code q – code q) ∷ chars "\\") ∣ ECHAR ∣ UCHAR)) · c · c · c

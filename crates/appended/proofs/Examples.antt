@@ -1,0 +1,126 @@
+-- Documents with text added, computed: that the theorem applies, that it needs the line feed, and what cannot be told from the parts alone.
+use mathlib.Core.Path.{_≡_, refl}
+use mathlib.Core.List.{List, [], _∷_, _++_, map}
+use Prim.Native.Nat.{ℕ}
+use Prim.Native.String.{String}
+use native.Mathlib.Omega.{arith}
+use Rattle.text.specs.Text.{Text, ascii}
+use Rattle.limits.specs.Limits.{work-size}
+use Rattle.token.specs.Tokens.{lexemes}
+use Rattle.table.specs.LongForm.{long-form}
+use Rattle.machine.specs.Read.{Lent, Answer, read, computing}
+use Rattle.readback.specs.ReadBack.{left}
+use Rattle.appended.specs.Appended.{with-text-added, IsBeginning, Begins}
+use Rattle.appended.specs.Parts.{moved, MeetsBehind}
+use Rattle.appended.proofs.Parts.{told-from-parts}
+use Rattle.appended.proofs.Appended.{appended}
+
+abbrev lent : Lent
+lent = record { work = work-size; rows = 1000; terms = 1000; store = 10000 }
+
+abbrev little : Lent
+little = record { work = work-size; rows = 10; terms = 20; store = 100 }
+
+-- A document, with and without text added, in mode 0 and with no base.
+abbrev answered : String → Answer
+answered doc = read (ascii doc) 0 [] lent
+
+abbrev joined : String → String → Answer
+joined doc more = read (with-text-added (ascii doc) (ascii more)) 0 [] lent
+
+-- ---- The definitions
+
+added : with-text-added (ascii "a b") (ascii "c") ≡ ascii "a b\nc"
+added = refl
+
+-- Two of three words; a word that was put in front, and one that was changed, leave no beginning.
+beginning : IsBeginning 2 (1 ∷ 2 ∷ 9 ∷ []) 3 (1 ∷ 2 ∷ 3 ∷ [])
+beginning = (omega arith, refl)
+
+no-beginning : (IsBeginning 2 (1 ∷ 2 ∷ []) 3 (3 ∷ 1 ∷ 2 ∷ []) → ⊥) × (IsBeginning 2 (1 ∷ 2 ∷ []) 3 (1 ∷ 4 ∷ 3 ∷ []) → ⊥)
+no-beginning = (λ b. let e = b .1 in let z : _≡_ {A = ℕ} 1 3 = cc in omega arith, λ b. let e = b .1 in let z : _≡_ {A = ℕ} 2 4 = cc in omega arith)
+
+-- The tokens of the text stand as they would alone, six bytes further on.
+further-on : lexemes (with-text-added (ascii "<x:s>") (ascii "a 1 |")) ≡ lexemes (ascii "<x:s>") ++ map (moved 6) (lexemes (ascii "a 1 |"))
+unfolding computing
+further-on = refl
+
+-- ---- A comment at the end; a directive without a dot; nothing. Behind them a list, a datatype and a predicate that come again, a long string over two lines.
+
+abbrev commented : String
+commented = "<x:s> a 1 .# c"
+
+abbrev more : String
+more = "_:a <x:s> (1 \"\"\"2\n\"\"\") ."
+
+abbrev both-accepted : String → ℕ × ℕ
+both-accepted doc = (answered doc .number, joined doc more .number)
+
+accepted : (both-accepted commented ≡ (0, 0)) × (both-accepted "PREFIX p: <x:>" ≡ (0, 0)) × (both-accepted "" ≡ (0, 0))
+unfolding computing
+accepted = (refl, refl, refl)
+
+-- The first call may be lent less than the second, and other slices.
+begins : (rows terms : List ℕ) (store : Text) → Begins (left (read (ascii commented) 0 [] little) rows terms store) (left (joined commented more) [] [] [])
+unfolding computing
+begins rows terms store = appended (ascii commented) (ascii more) 0 [] little lent refl refl rows [] terms [] store []
+
+-- Without the line feed the added statement is a part of the comment, and is not stated.
+comment-goes-on : (answered "<x:s> a 1 .# c<x:s> a 2 ." .row-count ≡ 1) × (joined commented "<x:s> a 2 ." .row-count ≡ 2)
+unfolding computing
+comment-goes-on = (refl, refl)
+
+-- ---- Two files that declare one prefix: each line keeps its meaning
+
+abbrev motor : String
+motor = "@prefix m: <x:m#> .\nm:41 m:stop \"open\" ."
+
+abbrev spare : String
+spare = "@prefix m: <x:n#> .\nm:41 m:stop \"shut\" ."
+
+abbrev statements-of : Answer → Text
+statements-of a = long-form (left a [] [] [])
+
+line-by-line :
+    (statements-of (answered motor) ≡ ascii "<x:m#41> <x:m#stop> \"open\" .\n")
+    × (statements-of (answered spare) ≡ ascii "<x:n#41> <x:n#stop> \"shut\" .\n")
+    × (statements-of (joined motor spare) ≡ ascii "<x:m#41> <x:m#stop> \"open\" .\n<x:n#41> <x:n#stop> \"shut\" .\n")
+unfolding computing
+line-by-line = (refl, refl, refl)
+
+-- ---- What the parts alone do not tell
+
+-- Refused alone, accepted behind a document that declares its prefix.
+abbrev name : String
+name = "m:41 m:stop \"shut\" ."
+
+declared-before : ((answered name .number ≡ 9) × (joined motor name .number ≡ 0)) × (statements-of (joined motor name) ≡ ascii "<x:m#41> <x:m#stop> \"open\" .\n<x:m#41> <x:m#stop> \"shut\" .\n")
+unfolding computing
+declared-before = ((refl, refl), refl)
+
+meets-behind : MeetsBehind (ascii motor) (ascii name) 0 [] lent
+unfolding computing
+meets-behind = told-from-parts (ascii motor) (ascii name) 0 [] lent lent refl .0 refl
+
+-- Accepted alone, and refused behind a document that has declared as many prefixes as may be.
+abbrev prefixes : String
+prefixes =
+    "PREFIX a:<x:>PREFIX b:<x:>PREFIX c:<x:>PREFIX d:<x:>PREFIX e:<x:>PREFIX f:<x:>PREFIX g:<x:>PREFIX h:<x:>PREFIX i:<x:>PREFIX j:<x:>PREFIX k:<x:>PREFIX l:<x:>PREFIX m:<x:>PREFIX n:<x:>PREFIX o:<x:>PREFIX p:<x:>PREFIX q:<x:>PREFIX r:<x:>PREFIX s:<x:>PREFIX t:<x:>PREFIX u:<x:>PREFIX v:<x:>PREFIX w:<x:>PREFIX x:<x:>PREFIX y:<x:>PREFIX z:<x:>PREFIX A:<x:>PREFIX B:<x:>PREFIX C:<x:>PREFIX D:<x:>PREFIX E:<x:>PREFIX F:<x:>"
+
+one-prefix-more : (answered prefixes .number ≡ 0) × (answered "PREFIX G:<x:>" .number ≡ 0) × (joined prefixes "PREFIX G:<x:>" .number ≡ 12)
+unfolding computing
+one-prefix-more = (refl, refl, refl)
+
+meets-not : MeetsBehind (ascii prefixes) (ascii "PREFIX G:<x:>") 0 [] lent → ⊥
+unfolding computing
+meets-not z = let e = told-from-parts (ascii prefixes) (ascii "PREFIX G:<x:>") 0 [] lent lent refl .1 z in omega arith
+
+-- Accepted alone and behind a document, with other statements: the reference is resolved against the base in force.
+abbrev against : Text → Text
+against doc = statements-of (read doc 0 (ascii "x:/") lent)
+
+other-base :
+    (against (ascii "<b> <p> <c> .") ≡ ascii "<x:/b> <x:/p> <x:/c> .\n")
+    × (against (with-text-added (ascii "@base <y/> .") (ascii "<b> <p> <c> .")) ≡ ascii "<x:/y/b> <x:/y/p> <x:/y/c> .\n")
+unfolding computing
+other-base = (refl, refl)

@@ -1,0 +1,2 @@
+-- Theorems about the definition, said of calls.
+pub mod Calls
