@@ -5,7 +5,6 @@ use Prim.Native.Nat.{ℕ}
 use lib.ListN.{length}
 use Rattle.text.specs.Text.{Text}
 use Rattle.token.specs.Tokens.{Token}
-use Rattle.table.specs.Layout.{Slices}
 use Rattle.machine.specs.Read.{Lent, Answer, success, mode-of, read}
 use Rattle.machine.proofs.Demands.{zero-meets, meets-answer}
 use Rattle.machine.proofs.Extends.{Extends}

@@ -10,21 +10,20 @@ use lib.Dec.{T}
 use lib.ListN.{length, take, drop, length-append, length-drop}
 use lib.Seq.{take-append-le, drop-append-le, drop-at, drop-drop}
 use Rattle.text.specs.Text.{Text, cond, is}
-use Rattle.utf8.specs.Utf8.{width, encodes, decode}
+use Rattle.utf8.specs.Utf8.{width, decode}
 use Rattle.utf8.specs.Scalar.{Encodes}
 use Rattle.utf8.proofs.Tests.{by}
-use Rattle.utf8.proofs.Encoding.{width-pos}
 use Rattle.utf8.proofs.Decoding.{valid-encoded, encoded-valid, encodes-append, decode-encode}
 use Rattle.token.specs.Kind.{kind-of-code}
 use Rattle.token.specs.Regular.{Match, nothing, hit, size}
 use Rattle.token.specs.Terminals.{token-at}
-use Rattle.token.specs.Tokens.{Lexeme, token, unreadable, Cutting, between, comment, inside, white-space, line-end, in-comment, passed, lexemes-from, lexemes, readable}
+use Rattle.token.specs.Tokens.{Lexeme, token, Cutting, between, comment, inside, white-space, line-end, in-comment, passed, lexemes-from, lexemes, readable}
 use Rattle.token.proofs.Sizes.{length-encodes}
 use Rattle.token.proofs.Cutting.{blank-width, cut-blank, cut-nothing, cut-hit}
 use Rattle.readback.proofs.Texts.{Utf8, utf8-cons}
 use Rattle.readback.proofs.Undone.{scalars-append}
 use Rattle.appended.specs.Appended.{line-feed, with-text-added}
-use Rattle.appended.specs.Parts.{moved-token, moved}
+use Rattle.appended.specs.Parts.{moved}
 use Rattle.appended.proofs.FirstToken.{same-token, token-within}
 
 -- ---- The document's tokens
@@ -73,7 +72,7 @@ module _ (doc more : Text) (ds : List ℕ) where
   unfolding readable
   goes-token at c cs e f nothing g h x r = absurd (subst (λ (l : List Lexeme). T (readable l)) (cut-nothing doc at c cs e g) r)
   goes-token at c cs e f (hit k n) g h x r =
-      let w = token-within (c ∷ cs) ds k n g in
+      let w = token-within (c ∷ cs) k n g in
       let p = f (n - width c) (omega arith) (passed-ends (n - width c) cs (omega arith)) (subst (λ (l : List Lexeme). T (readable l)) (cut-hit doc at c cs e k n g) r) in
       let q : take n (drop at whole) ≡ take n (drop at doc) = part-more at n doc (line-feed ∷ more) (omega arith) in
       cut-hit whole at c (cs ++ line-feed ∷ ds) e k n (same-token (c ∷ cs) ds k n g)

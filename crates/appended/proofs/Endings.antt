@@ -1,19 +1,19 @@
 -- No terminal but the long strings has a line feed, and no long string goes on behind its end.
 use mathlib.Core.Path.{_≡_, refl, sym, ap, _∙_, subst}
-use mathlib.Core.Logic.{_⊎_, inl, inr}
+use mathlib.Core.Logic.{inl, inr}
 use mathlib.Core.Bool.{Bool, true, false, not, _&&_, _||_}
 use mathlib.Core.List.{List, [], _∷_, _++_}
 use Prim.Native.Nat.{ℕ}
 use Prim.Native.Char.{Char, code}
 use native.Mathlib.Omega.{arith}
 use borrow.Author.Tests.{eqb-true}
-use lib.Dec.{T, eqb, eqb→eq}
+use lib.Dec.{T, eqb}
 use Rattle.text.specs.Text.{cond, between, member}
-use Rattle.text.proofs.Booleans.{and-0, and-1, is-true, not-true, or-cases}
-use Rattle.text.proofs.Compare.{by, contrary}
-use Rattle.utf8.specs.Utf8.{Range, _–_}
+use Rattle.text.proofs.Booleans.{and-0, and-1}
+use Rattle.text.proofs.Compare.{by}
+use Rattle.utf8.specs.Utf8.{_–_}
 use Rattle.utf8.proofs.Tests.{or-false, between-true}
-use Rattle.token.specs.Regular.{Re, eps, set, seq, alt, star, in-ranges, in-set, Star, stop, more, Matches, Item, item, Some}
+use Rattle.token.specs.Regular.{Re, eps, set, seq, alt, star, in-set, Star, stop, more, Matches, Item, item, Some}
 use Rattle.token.specs.Terminals.{_·_, _∣_, opt, chars, none-of, char, HEX, UCHAR, ECHAR, long-string, terminals, long-terminals}
 use Rattle.appended.specs.Appended.{line-feed}
 

@@ -1,7 +1,7 @@
 -- More rows and terms leave the words and bytes of those before them as they are.
-use mathlib.Core.Path.{_≡_, refl, sym, ap, ap₂, _∙_}
-use mathlib.Core.List.{List, [], _∷_, _++_, append-assoc}
-use Prim.Native.Nat.{ℕ, suc, _+_, _*_, _<_}
+use mathlib.Core.Path.{_≡_, sym, ap, _∙_}
+use mathlib.Core.List.{List, [], _++_, append-assoc}
+use Prim.Native.Nat.{ℕ, _+_, _*_}
 use native.Mathlib.Omega.{arith}
 use lib.ListN.{length, getD, take, drop, length-append}
 use lib.Seq.{take-at}
@@ -9,7 +9,7 @@ use Rattle.text.specs.Text.{Text}
 use Rattle.dataset.specs.Terms.{Term, iri, blank, literal, tagged}
 use Rattle.table.specs.Layout.{row-size, term-size}
 use Rattle.table.specs.Tables.{words-from, terms-words, store-bytes, store-size, rows-words}
-use Rattle.table.proofs.Store.{rows-append, rows-length, bytes-append, bytes-length, size-append}
+use Rattle.table.proofs.Store.{rows-append, rows-length, bytes-append, bytes-length}
 use Rattle.terms.specs.Keeps.{blank-count, Typed}
 use Rattle.terms.proofs.Words.{words-append, words-length, words-more}
 use Rattle.machine.specs.Memory.{Memory}

@@ -5,7 +5,7 @@ use Prim.Native.Nat.{ℕ}
 use Rattle.text.specs.Text.{Text}
 use Rattle.table.specs.Layout.{Slices}
 use Rattle.machine.specs.Read.{read}
-use Rattle.reader.specs.Reader.{LentSlices, lengths, Gives, Contract}
+use Rattle.reader.specs.Reader.{LentSlices, lengths, Contract}
 use Rattle.reader.specs.declared.Reading.{Reading}
 use Rattle.readback.specs.ReadBack.{left}
 use Rattle.appended.specs.Appended.{with-text-added, Begins}

@@ -1,7 +1,6 @@
 -- Cutting a document: after its blanks and a token, what is left is what is left further on.
 use Rattle.automaton.proofs.Runs.{start-nothing}
 use mathlib.Core.Path.{_≡_, refl, subst, sym, ap, ap₂, _∙_}
-use mathlib.Core.Logic.{⊎-elim}
 use mathlib.Core.Bool.{Bool, true, false, not, _||_}
 use mathlib.Core.List.{List, [], _∷_, _++_}
 use mathlib.Core.Option.{none}

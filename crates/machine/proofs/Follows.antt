@@ -35,9 +35,11 @@ no-string js t k e = is-no (among strings k) (among js k) (all-kinds (λ j. not 
 abbrev pub rule-for : Token → Mode → Open → Bool → Option (Write Open)
 rule-for t mode o tied = find-rule (t .kind) (rules t tied mode o)
 
-abbrev string-rule : Token → Write Opening → List Frame → Bool → Write Open
+-- The rule of a string where an object or an element is awaited, above the frames K.
+abbrev pub string-rule : Token → Write Opening → List Frame → Bool → Write Open
 string-rule t begin K tied = string t tied begin tied >>= λ fs. return (statement (fs ++ K))
 
+-- Something is open.
 abbrev pub Opened : List Frame → Type 0
 Opened fs = (f : Frame) × (gs : List Frame) × (fs ≡ f ∷ gs)
 

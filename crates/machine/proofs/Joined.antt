@@ -2,7 +2,6 @@
 use mathlib.Core.Path.{_≡_, refl, sym, ap, ap₂, _∙_, subst}
 use mathlib.Core.Logic.{_↔_}
 use mathlib.Core.List.{List, [], _∷_, _++_, append-nil, append-assoc}
-use mathlib.Core.Bool.{Bool, true, false}
 use mathlib.Core.Option.{Option, none, some}
 use Prim.Native.Nat.{ℕ}
 use Rattle.text.specs.Text.{Text}
@@ -14,7 +13,6 @@ use Rattle.grammar.proofs.Recogniser.{at-end as end-verdict, later}
 use Rattle.table.proofs.Numbers.{not-none}
 use Rattle.machine.specs.Memory.{Memory, start-memory, Write}
 use Rattle.machine.specs.Frame.{Open, directive, statement}
-use Rattle.machine.specs.Rules.{find-rule, rules}
 use Rattle.machine.specs.Construction.{tables}
 use Rattle.machine.specs.Demand.{Fair}
 use Rattle.machine.proofs.Decide.{tied-kinds}
