@@ -26,7 +26,7 @@ if [ -n "$shared" ] && [ -d "$shared/w3c" ]; then row w3c 9 $evidence w3c "$shar
 row boundaries 13 $evidence boundaries
 row compare 12 $evidence compare --seed 42 --count 250000 --seconds 900
 row exhaustive 14 $evidence exhaustive
-row appended 4 $evidence appended --seed 42 --count 50000
+row appended 4 $evidence appended --seed 42 --count 100000
 if [ -n "$shared" ] && [ -f "$shared/cases/requests/C-22.jsonl" ]; then row pairs 4 $evidence appended "$shared/cases/requests/C-22.jsonl"; else echo "pairs: skipped, there are none"; fi
 row program 1 sh -c 'rt check longform > /dev/null && tests/program.py'
 row c 1 c/run.sh

@@ -42,13 +42,9 @@ passed-ends : (k : ℕ) (cs : List ℕ) → k ≤ size width cs → Ends (passed
 passed-ends zero cs h = tt
 passed-ends (suc k) cs h = (omega arith, h)
 
-comment-ends : (b : Bool) (cs : List ℕ) → Ends (cond b between comment) cs
-comment-ends true cs = tt
-comment-ends false cs = tt
-
-hash-ends : (b : Bool) (cs : List ℕ) → Ends (cond b comment between) cs
-hash-ends true cs = tt
-hash-ends false cs = tt
+either-ends : (b : Bool) (s t : Cutting) (cs : List ℕ) → Ends s cs → Ends t cs → Ends (cond b s t) cs
+either-ends true s t cs x y = x
+either-ends false s t cs x y = y
 
 module _ (doc more : Text) (ds : List ℕ) where
   abbrev whole : Text
@@ -65,7 +61,7 @@ module _ (doc more : Text) (ds : List ℕ) where
   goes-blank : (at c : ℕ) (cs : List ℕ) → (white-space c || is "#" c) ≡ true → Goes (cond (is "#" c) comment between) (at + 1) cs → Goes between at (c ∷ cs)
   goes-blank at c cs e f h x r =
       let w = blank-width c e in
-      cut-blank whole at c (cs ++ line-feed ∷ ds) e ∙ f (omega arith) (hash-ends (is "#" c) cs) (subst (λ (l : List Lexeme). T (readable l)) (cut-blank doc at c cs e) r)
+      cut-blank whole at c (cs ++ line-feed ∷ ds) e ∙ f (omega arith) (either-ends (is "#" c) comment between cs tt tt) (subst (λ (l : List Lexeme). T (readable l)) (cut-blank doc at c cs e) r)
       ∙ ap (λ (l : List Lexeme). l ++ rest) (sym (cut-blank doc at c cs e))
 
   goes-token : (at c : ℕ) (cs : List ℕ) → (white-space c || is "#" c) ≡ false → ((k : ℕ) → Goes (passed k) (at + width c) cs) → (m : Match) → token-at (c ∷ cs) ≡ m → Goes between at (c ∷ cs)
@@ -87,7 +83,7 @@ module _ (doc more : Text) (ds : List ℕ) where
 
   goes-on : (c : ℕ) (cs : List ℕ) → ((st : Cutting) (at : ℕ) → Goes st at cs) → (st : Cutting) (at : ℕ) → Goes st at (c ∷ cs)
   unfolding lexemes-from
-  goes-on c cs f comment at h x r = f (in-comment c) (at + width c) (omega arith) (comment-ends (line-end c) cs) r
+  goes-on c cs f comment at h x r = f (in-comment c) (at + width c) (omega arith) (either-ends (line-end c) between comment cs tt tt) r
   goes-on c cs f (inside k) at h x r = let y = x .1 in f (passed (k - width c)) (at + width c) (omega arith) (passed-ends (k - width c) cs (omega arith)) r
   goes-on c cs f between at h x r =
       by (white-space c || is "#" c) (λ e. goes-blank at c cs e (f (cond (is "#" c) comment between) (at + 1)) h x r)

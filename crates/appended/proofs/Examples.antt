@@ -2,7 +2,6 @@
 use mathlib.Core.Path.{_≡_, refl}
 use mathlib.Core.List.{List, [], _∷_, _++_, map}
 use Prim.Native.Nat.{ℕ}
-use Prim.Native.String.{String}
 use native.Mathlib.Omega.{arith}
 use Rattle.text.specs.Text.{Text, ascii}
 use Rattle.limits.specs.Limits.{work-size}
@@ -22,23 +21,23 @@ abbrev little : Lent
 little = record { work = work-size; rows = 10; terms = 20; store = 100 }
 
 -- A document, with and without text added, in mode 0 and with no base.
-abbrev answered : String → Answer
-answered doc = read (ascii doc) 0 [] lent
+abbrev answered : Text → Answer
+answered doc = read doc 0 [] lent
 
-abbrev joined : String → String → Answer
-joined doc more = read (with-text-added (ascii doc) (ascii more)) 0 [] lent
+abbrev joined : Text → Text → Answer
+joined doc more = answered (with-text-added doc more)
 
 -- ---- The definitions
 
 added : with-text-added (ascii "a b") (ascii "c") ≡ ascii "a b\nc"
 added = refl
 
--- Two of three words; a word that was put in front, and one that was changed, leave no beginning.
-beginning : IsBeginning 2 (1 ∷ 2 ∷ 9 ∷ []) 3 (1 ∷ 2 ∷ 3 ∷ [])
-beginning = (omega arith, refl)
+-- Two of three words; a word that was put in front leaves no beginning.
+beginning : IsBeginning (1 ∷ 2 ∷ []) (1 ∷ 2 ∷ 3 ∷ [])
+beginning = (3 ∷ [], refl)
 
-no-beginning : (IsBeginning 2 (1 ∷ 2 ∷ []) 3 (3 ∷ 1 ∷ 2 ∷ []) → ⊥) × (IsBeginning 2 (1 ∷ 2 ∷ []) 3 (1 ∷ 4 ∷ 3 ∷ []) → ⊥)
-no-beginning = (λ b. let e = b .1 in let z : _≡_ {A = ℕ} 1 3 = cc in omega arith, λ b. let e = b .1 in let z : _≡_ {A = ℕ} 2 4 = cc in omega arith)
+no-beginning : IsBeginning (1 ∷ 2 ∷ []) (3 ∷ 1 ∷ 2 ∷ []) → ⊥
+no-beginning (rest, e) = let z : _≡_ {A = ℕ} 3 1 = cc in omega arith
 
 -- The tokens of the text stand as they would alone, six bytes further on.
 further-on : lexemes (with-text-added (ascii "<x:s>") (ascii "a 1 |")) ≡ lexemes (ascii "<x:s>") ++ map (moved 6) (lexemes (ascii "a 1 |"))
@@ -47,36 +46,31 @@ further-on = refl
 
 -- ---- A comment at the end; a directive without a dot; nothing. Behind them a list, a datatype and a predicate that come again, a long string over two lines.
 
-abbrev commented : String
-commented = "<x:s> a 1 .# c"
+abbrev commented : Text
+commented = ascii "<x:s> a 1 .# c"
 
-abbrev more : String
-more = "_:a <x:s> (1 \"\"\"2\n\"\"\") ."
+abbrev more : Text
+more = ascii "_:a <x:s> (1 \"\"\"2\n\"\"\") ."
 
-abbrev both-accepted : String → ℕ × ℕ
+abbrev both-accepted : Text → ℕ × ℕ
 both-accepted doc = (answered doc .number, joined doc more .number)
 
-accepted : (both-accepted commented ≡ (0, 0)) × (both-accepted "PREFIX p: <x:>" ≡ (0, 0)) × (both-accepted "" ≡ (0, 0))
+accepted : (both-accepted commented ≡ (0, 0)) × (both-accepted (ascii "PREFIX p: <x:>") ≡ (0, 0)) × (both-accepted [] ≡ (0, 0))
 unfolding computing
 accepted = (refl, refl, refl)
 
 -- The first call may be lent less than the second, and other slices.
-begins : (rows terms : List ℕ) (store : Text) → Begins (left (read (ascii commented) 0 [] little) rows terms store) (left (joined commented more) [] [] [])
+begins : (rows terms : List ℕ) (store : Text) → Begins (left (read commented 0 [] little) rows terms store) (left (joined commented more) [] [] [])
 unfolding computing
-begins rows terms store = appended (ascii commented) (ascii more) 0 [] little lent refl refl rows [] terms [] store []
-
--- Without the line feed the added statement is a part of the comment, and is not stated.
-comment-goes-on : (answered "<x:s> a 1 .# c<x:s> a 2 ." .row-count ≡ 1) × (joined commented "<x:s> a 2 ." .row-count ≡ 2)
-unfolding computing
-comment-goes-on = (refl, refl)
+begins rows terms store = appended commented more 0 [] little lent refl refl rows [] terms [] store []
 
 -- ---- Two files that declare one prefix: each line keeps its meaning
 
-abbrev motor : String
-motor = "@prefix m: <x:m#> .\nm:41 m:stop \"open\" ."
+abbrev motor : Text
+motor = ascii "@prefix m: <x:m#> .\nm:41 m:stop \"open\" ."
 
-abbrev spare : String
-spare = "@prefix m: <x:n#> .\nm:41 m:stop \"shut\" ."
+abbrev spare : Text
+spare = ascii "@prefix m: <x:n#> .\nm:41 m:stop \"shut\" ."
 
 abbrev statements-of : Answer → Text
 statements-of a = long-form (left a [] [] [])
@@ -88,32 +82,46 @@ line-by-line :
 unfolding computing
 line-by-line = (refl, refl, refl)
 
+-- It needs the line feed: behind a comment the second file's directive is a part of it, and its stop becomes one of the first motor's.
+abbrev with-comment : Text
+with-comment = motor ++ ascii "# door"
+
+comment-goes-on :
+    (statements-of (answered (with-comment ++ spare)) ≡ ascii "<x:m#41> <x:m#stop> \"open\" .\n<x:m#41> <x:m#stop> \"shut\" .\n")
+    × (statements-of (joined with-comment spare) ≡ ascii "<x:m#41> <x:m#stop> \"open\" .\n<x:n#41> <x:n#stop> \"shut\" .\n")
+unfolding computing
+comment-goes-on = (refl, refl)
+
 -- ---- What the parts alone do not tell
 
 -- Refused alone, accepted behind a document that declares its prefix.
-abbrev name : String
-name = "m:41 m:stop \"shut\" ."
+abbrev name : Text
+name = ascii "m:41 m:stop \"shut\" ."
 
-declared-before : ((answered name .number ≡ 9) × (joined motor name .number ≡ 0)) × (statements-of (joined motor name) ≡ ascii "<x:m#41> <x:m#stop> \"open\" .\n<x:m#41> <x:m#stop> \"shut\" .\n")
+declared-before :
+    (answered name .number ≡ 9) × (joined motor name .number ≡ 0) × (statements-of (joined motor name) ≡ ascii "<x:m#41> <x:m#stop> \"open\" .\n<x:m#41> <x:m#stop> \"shut\" .\n")
 unfolding computing
-declared-before = ((refl, refl), refl)
+declared-before = (refl, refl, refl)
 
-meets-behind : MeetsBehind (ascii motor) (ascii name) 0 [] lent
+meets-behind : MeetsBehind motor name 0 [] lent
 unfolding computing
-meets-behind = told-from-parts (ascii motor) (ascii name) 0 [] lent lent refl .0 refl
+meets-behind = told-from-parts motor name 0 [] lent lent refl .0 refl
 
 -- Accepted alone, and refused behind a document that has declared as many prefixes as may be.
-abbrev prefixes : String
-prefixes =
-    "PREFIX a:<x:>PREFIX b:<x:>PREFIX c:<x:>PREFIX d:<x:>PREFIX e:<x:>PREFIX f:<x:>PREFIX g:<x:>PREFIX h:<x:>PREFIX i:<x:>PREFIX j:<x:>PREFIX k:<x:>PREFIX l:<x:>PREFIX m:<x:>PREFIX n:<x:>PREFIX o:<x:>PREFIX p:<x:>PREFIX q:<x:>PREFIX r:<x:>PREFIX s:<x:>PREFIX t:<x:>PREFIX u:<x:>PREFIX v:<x:>PREFIX w:<x:>PREFIX x:<x:>PREFIX y:<x:>PREFIX z:<x:>PREFIX A:<x:>PREFIX B:<x:>PREFIX C:<x:>PREFIX D:<x:>PREFIX E:<x:>PREFIX F:<x:>"
+abbrev declaring : Text → Text
+declaring [] = []
+declaring (c ∷ cs) = ascii "PREFIX " ++ c ∷ ascii ":<x:>" ++ declaring cs
 
-one-prefix-more : (answered prefixes .number ≡ 0) × (answered "PREFIX G:<x:>" .number ≡ 0) × (joined prefixes "PREFIX G:<x:>" .number ≡ 12)
+abbrev prefixes : Text
+prefixes = declaring (ascii "abcdefghijklmnopqrstuvwxyzABCDEF")
+
+one-prefix-more : (answered prefixes .number ≡ 0) × (answered (declaring (ascii "G")) .number ≡ 0) × (joined prefixes (declaring (ascii "G")) .number ≡ 12)
 unfolding computing
 one-prefix-more = (refl, refl, refl)
 
-meets-not : MeetsBehind (ascii prefixes) (ascii "PREFIX G:<x:>") 0 [] lent → ⊥
+meets-not : MeetsBehind prefixes (declaring (ascii "G")) 0 [] lent → ⊥
 unfolding computing
-meets-not z = let e = told-from-parts (ascii prefixes) (ascii "PREFIX G:<x:>") 0 [] lent lent refl .1 z in omega arith
+meets-not z = let e = told-from-parts prefixes (declaring (ascii "G")) 0 [] lent lent refl .1 z in omega arith
 
 -- Accepted alone and behind a document, with other statements: the reference is resolved against the base in force.
 abbrev against : Text → Text
