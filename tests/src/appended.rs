@@ -23,7 +23,12 @@ fn ample(subject: &Subject, document: &[u8], random: &mut Random) -> Result<Answ
     read(subject, document, (words, words, store), random)
 }
 
-fn read(subject: &Subject, document: &[u8], (row_words, term_words, store): (usize, usize, usize), random: &mut Random) -> Result<Answer, Difference> {
+fn read(
+    subject: &Subject,
+    document: &[u8],
+    (row_words, term_words, store): (usize, usize, usize),
+    random: &mut Random,
+) -> Result<Answer, Difference> {
     let request = Request { document, base: &subject.base, mode: subject.mode, work: LEAST_WORK + random.below(100), row_words, term_words, store };
     call::compare(&request, random.next())
 }
@@ -81,7 +86,8 @@ fn examine(subject: &Subject, more: &[u8], random: &mut Random, tally: &mut Tall
     let second = ample(subject, &with_text_added(document, more), random)?;
     let declared = directives(document);
     let behind = ample(subject, &with_text_added(&declared, more), random)?;
-    if (second.number, second.position - document.len()) != (behind.number, behind.position - declared.len()) {
+    let further = |answer: &Answer, before: &[u8]| answer.position as isize - before.len() as isize;
+    if (second.number, further(&second, document)) != (behind.number, further(&behind, &declared)) {
         return Err(fault("read, behind the directives alone", &behind, &second));
     }
     if second.number != 0 {
@@ -119,8 +125,8 @@ pub fn run(seed: u64, count: u64) -> bool {
     differences == 0 && tally.pairs >= count
 }
 
-/// The tables of a case's answer, in today's words: a row of C-19 has the places of its four terms, of which the object's is kept.
-fn tables(answer: &Value) -> Result<(Vec<Group>, Vec<Group>, Vec<u8>), String> {
+/// A case's answer for the document, in today's words: a row of C-19 has the places of its four terms, of which the object's is kept.
+fn wanted(answer: &Value, document: &[u8]) -> Result<Answer, String> {
     let groups = |name: &str, places: [usize; 5]| -> Result<Vec<Group>, String> {
         let group = |item: &Value| -> Result<Group, String> {
             let words = item.numbers()?;
@@ -130,7 +136,13 @@ fn tables(answer: &Value) -> Result<(Vec<Group>, Vec<Group>, Vec<u8>), String> {
         };
         answer.field(name)?.items()?.iter().map(group).collect()
     };
-    Ok((groups("rows", [0, 1, 2, 3, 7])?, groups("terms", [0, 1, 2, 3, 4])?, answer.field("store")?.bytes()?))
+    Ok(Answer {
+        number: 0,
+        position: document.len(),
+        rows: groups("rows", [0, 1, 2, 3, 7])?,
+        terms: groups("terms", [0, 1, 2, 3, 4])?,
+        store: answer.field("store")?.bytes()?,
+    })
 }
 
 /// Has the document a tag with a capital, which C-15 stores in lower case?
@@ -155,9 +167,8 @@ pub fn run_cases(path: &str) -> Result<bool, String> {
             examine(&subject, &more, &mut random, &mut tally)?;
             for (document, name) in [(&subject.document, "first"), (&whole, "whole")] {
                 let answer = ample(&subject, document, &mut random)?;
-                let wanted = case.field("answer").and_then(|answer| tables(answer.field(name)?)).map_err(|e| fault(name, e, "a case"))?;
-                let same = (&answer.rows, &answer.terms, &answer.store) == (&wanted.0, &wanted.1, &wanted.2);
-                if answer.number != 0 || !(same || has_capital_tag(document)) {
+                let wanted = case.field("answer").and_then(|answer| wanted(answer.field(name)?, document)).map_err(|e| fault(name, e, "a case"))?;
+                if answer.number != 0 || !(answer == wanted || has_capital_tag(document)) {
                     return Err(fault(name, answer, wanted));
                 }
             }
