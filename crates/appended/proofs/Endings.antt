@@ -19,7 +19,7 @@ use Rattle.appended.specs.Appended.{line-feed}
 
 -- ---- A code point that no set of an expression has
 
-abbrev pub avoids : ℕ → Re → Bool
+abbrev avoids : ℕ → Re → Bool
 avoids d eps = true
 avoids d (set b rs) = not (in-set d b rs)
 avoids d (seq p q) = let r = avoids d q in avoids d p && r
@@ -34,7 +34,7 @@ star-avoided : (d : ℕ) (P : List ℕ → Type 0) → ((x : List ℕ) → P x �
 star-avoided d P f stop = refl
 star-avoided d P f (more c x y m s e) = subst (λ (l : List ℕ). member d l ≡ false) (sym e) (member-append d (c ∷ x) y (f (c ∷ x) m) (star-avoided d P f s))
 
-pub avoided : (d : ℕ) (r : Re) (z : List ℕ) → T (avoids d r) → Matches r z → member d z ≡ false
+avoided : (d : ℕ) (r : Re) (z : List ℕ) → T (avoids d r) → Matches r z → member d z ≡ false
 avoided d eps z t m = ap (member d) m
 avoided d (set b rs) z t m =
     by (eqb d (m .0))
@@ -51,11 +51,11 @@ avoided d (alt p q) z t (inl m) = avoided d p z (and-0 (avoids d p) (avoids d q)
 avoided d (alt p q) z t (inr m) = avoided d q z (and-1 (avoids d p) (avoids d q) t) m
 avoided d (star p) z t m = star-avoided d (Matches p) (λ x n. avoided d p x t n) m
 
-abbrev pub all-avoid : ℕ → List Item → Bool
+abbrev all-avoid : ℕ → List Item → Bool
 all-avoid d [] = true
 all-avoid d (item k r ∷ xs) = let q = all-avoid d xs in avoids d r && q
 
-pub some-avoided : (d : ℕ) (S : List Item) (k : ℕ) (z : List ℕ) → T (all-avoid d S) → Some S k z → member d z ≡ false
+some-avoided : (d : ℕ) (S : List Item) (k : ℕ) (z : List ℕ) → T (all-avoid d S) → Some S k z → member d z ≡ false
 some-avoided d [] k z t a = absurd a
 some-avoided d (item j r ∷ xs) k z t (inl m) = avoided d r z (and-0 (avoids d r) (all-avoid d xs) t) (m .1)
 some-avoided d (item j r ∷ xs) k z t (inr a) = some-avoided d xs k z (and-1 (avoids d r) (all-avoid d xs) t) a
@@ -64,10 +64,10 @@ some-avoided d (item j r ∷ xs) k z t (inr a) = some-avoided d xs k z (and-1 (a
 pub no-line-feed : (k : ℕ) (z : List ℕ) → Some terminals k z → member line-feed z ≡ false
 no-line-feed k z a = some-avoided line-feed terminals k z tt a
 
-abbrev backslash : ℕ
-backslash = 92
-
 -- ---- Long strings
+
+abbrev backslash : ℕ
+backslash = code "\\"
 
 -- Where a reader of a long string is: within it, behind one quote or two, behind a backslash, behind the last quote, and past that.
 data Where : Type 0 where
@@ -207,8 +207,8 @@ module _ (q : Char) (it : Quote q) where
   read-body s r z (inr (inl m)) =
       let (v, e, n) = first-char backslash (set true (chars "tbnrf\"'\\")) z m in
       ap (goes k s) (e ∙ ap (λ (l : List ℕ). backslash ∷ l) (n .1)) ∙ read-escape s r (n .0) [] refl refl
-  read-body s r z (inr (inr (inl m))) = read-numeric s r 117 four-digits (it .four) tt z m
-  read-body s r z (inr (inr (inr m))) = read-numeric s r 85 eight-digits (it .eight) tt z m
+  read-body s r z (inr (inr (inl m))) = read-numeric s r (code "u") four-digits (it .four) tt z m
+  read-body s r z (inr (inr (inr m))) = read-numeric s r (code "U") eight-digits (it .eight) tt z m
 
   read-part : (z : List ℕ) → Matches (quotes q · body q) z → goes k within z ≡ within
   read-part z m = ap (goes k within) (m .2) ∙ goes-append k within (m .0) (m .1) ∙ read-body (goes k within (m .0)) (read-quotes (m .0) (m .3)) (m .1) (m .4)

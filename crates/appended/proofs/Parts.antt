@@ -90,7 +90,7 @@ module _ (base : Text) (j k : ℕ) where
       fair-more (met-moved xs ys t e (fair-head f)) (fair-moved (xs ++ moved-token j t ∷ []) (ys ++ moved-token k t ∷ []) ts (alike-next xs ys t e) (fair-tail f))
 
 module _ (base : Text) (xs ts : List Token) (n : ℕ) where
-  pub fair-behind : Fair base xs (map (moved-token n) ts) ↔ Fair base xs ts
+  fair-behind : Fair base xs (map (moved-token n) ts) ↔ Fair base xs ts
   fair-behind = (
     λ f. subst (Fair base xs) (moved-none ts) (fair-moved base n 0 xs xs ts (record { force = refl; depth = refl }) f),
     λ f. fair-moved base 0 n xs xs ts (record { force = refl; depth = refl }) (subst (Fair base xs) (sym (moved-none ts)) f),
