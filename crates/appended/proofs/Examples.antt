@@ -32,12 +32,12 @@ joined doc more = answered (with-text-added doc more)
 added : with-text-added (ascii "a b") (ascii "c") ≡ ascii "a b\nc"
 added = refl
 
--- Two of three words; a word that was put in front leaves no beginning.
-beginning : IsBeginning (1 ∷ 2 ∷ []) (1 ∷ 2 ∷ 3 ∷ [])
-beginning = (3 ∷ [], refl)
+-- Two of three words, whatever lies past them; a word put in front leaves no beginning, and neither does a word that was taken away.
+beginning : IsBeginning 2 (1 ∷ 2 ∷ 9 ∷ []) 3 (1 ∷ 2 ∷ 3 ∷ [])
+beginning = (omega arith, 3 ∷ [], refl)
 
-no-beginning : IsBeginning (1 ∷ 2 ∷ []) (3 ∷ 1 ∷ 2 ∷ []) → ⊥
-no-beginning (rest, e) = let z : _≡_ {A = ℕ} 3 1 = cc in omega arith
+no-beginning : (IsBeginning 2 (1 ∷ 2 ∷ []) 3 (3 ∷ 1 ∷ 2 ∷ []) → ⊥) × (IsBeginning 2 [] 1 [] → ⊥)
+no-beginning = (λ (l, rest, e). let z : _≡_ {A = ℕ} 3 1 = cc in omega arith, λ (l, rest, e). omega arith)
 
 -- The tokens of the text stand as they would alone, six bytes further on.
 further-on : lexemes (with-text-added (ascii "<x:s>") (ascii "a 1 |")) ≡ lexemes (ascii "<x:s>") ++ map (moved 6) (lexemes (ascii "a 1 |"))

@@ -2,7 +2,8 @@
 use mathlib.Core.Path.{_≡_, sym, ap, _∙_}
 use mathlib.Core.List.{List, [], _++_}
 use Prim.Native.Nat.{ℕ, _+_, _*_}
-use lib.ListN.{length, getD, take, drop}
+use native.Mathlib.Omega.{arith}
+use lib.ListN.{length, getD, take, drop, length-append}
 use lib.Seq.{take-at}
 use Rattle.text.specs.Text.{Text}
 use Rattle.dataset.specs.Terms.{Term, iri, blank, literal, tagged}
@@ -37,8 +38,12 @@ terms-begin ts us f =
     )
 
 -- What was written begins what the other call has written, whatever the slices held before.
-written-begins : (a b rest old old′ : List ℕ) (n m : ℕ) → length a ≡ n → length b ≡ m → b ≡ a ++ rest → IsBeginning (take n (contents (written a) old)) (take m (contents (written b) old′))
-written-begins a b rest old old′ n m l k e = (rest, take-at b (drop (length b) old′) m k ∙ e ∙ ap (λ (x : List ℕ). x ++ rest) (sym (take-at a (drop (length a) old) n l)))
+written-begins : (a b rest old old′ : List ℕ) (n m : ℕ) → length a ≡ n → length b ≡ m → b ≡ a ++ rest → IsBeginning n (contents (written a) old) m (contents (written b) old′)
+written-begins a b rest old old′ n m l k e = (
+  omega (arith, ap length e, length-append a rest),
+  rest,
+  take-at b (drop (length b) old′) m k ∙ e ∙ ap (λ (x : List ℕ). x ++ rest) (sym (take-at a (drop (length a) old) n l)),
+)
 
 pub begins : (n n′ : ℕ) (m m′ : Memory) → AllFine (m .terms) 1 (m .terms) → Extends m m′ → (rows rows′ terms terms′ : List ℕ) (store store′ : Text)
     → Begins (left (success n m) rows terms store) (left (success n′ m′) rows′ terms′ store′)
