@@ -1,31 +1,64 @@
--- C-22 over the contract of the reader's call.
-use mathlib.Core.Path.{_≡_, sym, subst, _∙_}
+-- The demands, and C-22, over the contract of the reader's call.
+use mathlib.Core.Path.{_≡_, sym, ap, subst, _∙_}
 use mathlib.Core.Logic.{_↔_}
 use Prim.Native.Nat.{ℕ}
+use lib.ListN.{length}
 use Rattle.text.specs.Text.{Text}
+use Rattle.token.specs.Tokens.{lexemes, place-of}
 use Rattle.table.specs.Layout.{Slices}
-use Rattle.machine.specs.Read.{read}
+use Rattle.machine.specs.Read.{Answer, read}
+use Rattle.machine.specs.Demand.{Meets}
+use Rattle.machine.proofs.Demands.{accepted-iff-meets}
 use Rattle.reader.specs.Reader.{LentSlices, lengths, Contract}
 use Rattle.reader.specs.declared.Reading.{Reading}
-use Rattle.readback.specs.ReadBack.{left}
+use Rattle.readback.specs.ReadBack.{left, RoundTrip}
+use Rattle.readback.specs.HandedOver.{HandedOver}
+use Rattle.readback.proofs.RoundTrip.{written-again}
+use Rattle.readback.proofs.HandedOver.{handed-over}
+use Rattle.completions.specs.FailsFirst.{grammar-refusal, FailsFirst}
+use Rattle.completions.proofs.FailsFirst.{fails-answer, eight-fails-first}
 use Rattle.appended.specs.Appended.{with-text-added, Begins}
 use Rattle.appended.specs.Parts.{MeetsBehind}
 use Rattle.appended.proofs.Appended.{appended}
 use Rattle.appended.proofs.Parts.{told-from-parts}
 use Rattle.calls.specs.Calls.{accepted, handed}
 
--- The slices after a call are those that its answer leaves.
-same-slices : (doc : Text) (mode : ℕ) (base : Text) (old new : LentSlices) (r : Reading) → Contract doc mode base old new r
-    → left (read doc mode base (lengths old)) (old .rows) (old .terms) (old .store) ≡ handed new r
-same-slices doc mode base old new r c =
-    λ i. record {
-      rows = sym (c .rows) i;
-      row-count = sym (c .row-count) i;
-      terms = sym (c .terms) i;
-      term-count = sym (c .term-count) i;
-      store = sym (c .store) i;
-      store-count = sym (c .store-count) i;
-    }
+-- One call.
+module _ (doc : Text) (mode : ℕ) (base : Text) (old new : LentSlices) (r : Reading) (c : Contract doc mode base old new r) where
+  -- The slices after it are those that the answer leaves.
+  same-slices : left (read doc mode base (lengths old)) (old .rows) (old .terms) (old .store) ≡ handed new r
+  same-slices =
+      λ i. record {
+        rows = sym (c .rows) i;
+        row-count = sym (c .row-count) i;
+        terms = sym (c .terms) i;
+        term-count = sym (c .term-count) i;
+        store = sym (c .store) i;
+        store-count = sym (c .store-count) i;
+      }
+
+  -- "A document is accepted exactly when the published rules say so"
+  pub accepted-exactly : (r .number ≡ accepted) ↔ Meets doc mode base (lengths old)
+  accepted-exactly =
+      let (f, g) = accepted-iff-meets doc mode base (lengths old) in
+      (λ e. f (sym (c .number) ∙ e), λ x. c .number ∙ g x)
+
+  -- "The statements handed over are those that the RDF 1.1 TriG and Turtle Recommendations construct"
+  pub handed-statements : r .number ≡ accepted → HandedOver doc mode base (handed new r)
+  handed-statements e = subst (HandedOver doc mode base) same-slices (handed-over doc mode base (lengths old) (sym (c .number) ∙ e) (old .rows) (old .terms) (old .store))
+
+  -- "the long form, read again, gives the same statements up to renaming of blank nodes"
+  pub read-again : r .number ≡ accepted → RoundTrip doc mode base (handed new r)
+  read-again e = subst (RoundTrip doc mode base) same-slices (written-again doc mode base (lengths old) (sym (c .number) ∙ e) (old .rows) (old .terms) (old .store))
+
+  -- "a grammar refusal stands at the first token with which the tokens so far begin no grammatical text", and only there
+  pub refused-there : (i : ℕ) → FailsFirst doc mode base (lengths old) i → (r .number ≡ grammar-refusal) × (r .position ≡ place-of (length doc) (lexemes doc) i)
+  refused-there i f =
+      let e = fails-answer doc mode base (lengths old) i f in
+      (c .number ∙ ap (λ (a : Answer). a .number) e, c .position ∙ ap (λ (a : Answer). a .position) e)
+
+  pub only-there : r .number ≡ grammar-refusal → (i : ℕ) × FailsFirst doc mode base (lengths old) i × (r .position ≡ place-of (length doc) (lexemes doc) i)
+  only-there e = let (i, f, p) = eight-fails-first doc mode base (lengths old) (sym (c .number) ∙ e) in (i, f, c .position ∙ p)
 
 -- Two calls with one mode and one base, whatever each is lent: the second reads the first's document, a line feed and further text.
 module _ (doc more : Text) (mode : ℕ) (base : Text) (old new old′ new′ : LentSlices) (r r′ : Reading) (c : Contract doc mode base old new r)

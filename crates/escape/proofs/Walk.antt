@@ -68,7 +68,7 @@ plain-pieces (c ∷ cs) e =
     let rest = plain-pieces cs (or-right (eqb c 92) (some-byte (is "\\") cs) e) in
     (rw (at-plain c cs here) (ap (λ (l : Text). c ∷ l) (rest .0)), rw (at-plain c cs here) (rest .1))
 
-plain-text : (cs : Text) → some-byte (is "\\") cs ≡ false → unescape cs ≡ cs
+pub plain-text : (cs : Text) → some-byte (is "\\") cs ≡ false → unescape cs ≡ cs
 unfolding unescape pieces
 plain-text cs e = plain-pieces cs e .0
 

@@ -1,4 +1,4 @@
--- Acceptance, and where the grammar fails first, in words about the mode, the document and what is lent.
+-- Acceptance, in words about the mode, the document and what is lent; and where 8 is answered, in words about the run.
 use mathlib.Core.Path.{_≡_, refl, sym, ap, ap₂, _∙_, subst}
 use mathlib.Core.Logic.{_↔_}
 use mathlib.Core.List.{List, [], _∷_, _++_, append-assoc}
@@ -26,7 +26,7 @@ use Rattle.machine.specs.Refusals.{no-character, undeclared, no-base, to
 use Rattle.machine.specs.Step.{Room, State, in-force-now, Test, _when_, first-refusal, answer, obeyed, tests, step, tied-to, Outcome, accepted, refused, at-end, onward, run}
 use Rattle.machine.specs.Read.{Lent, Answer, first-checks, mode-of, room-of, start-state, refusal, success, reported, read, read-checked, read-utf8, read-tokens}
 use Rattle.machine.specs.Construction.{tables}
-use Rattle.machine.specs.Demand.{document-tokens, depth-from, depth-after, Nowhere, Fair, Fits, Meets, obey, after-rules, FailsFirst}
+use Rattle.machine.specs.Demand.{document-tokens, depth-from, depth-after, Nowhere, Fair, Fits, Meets}
 use Rattle.grammar.proofs.Grammar.{kinds-of, refused as refused-iff}
 use Rattle.machine.proofs.Decide.{tied-kinds}
 use Rattle.grammar.proofs.Recogniser.{at-end as end-verdict, later}
@@ -101,6 +101,19 @@ final-extends mode (t ∷ ts) o m M e =
         → ((o′ : Open) (m′ : Memory) → final mode ts o′ m′ ≡ some M → Extends m′ M) → Extends m M
     go none p d f = not-none d
     go (some w) p d f = extends-both (extends-rule t (tied-kinds (kinds-of ts)) mode m o w p) (f (w m .0) (w m .1) d)
+
+-- ---- What the first tokens write
+
+-- The state after i tokens, as far as the grammar goes: what they write, whatever else may be refused.
+unfoldable pub obey : Option (Write Open) → Token → State → (State → Option State) → Option State
+obey none t s f = none
+obey (some w) t s f = f (obeyed (some w) t s)
+
+unfoldable pub after-rules : Mode → ℕ → List Lexeme → State → Option State
+after-rules mode zero ls s = some s
+after-rules mode (suc i) [] s = none
+after-rules mode (suc i) (unreadable p ∷ ls) s = none
+after-rules mode (suc i) (token t ∷ ls) s = obey (find-rule (t .kind) (rules t (tied-to ls) mode (s .open-now))) t s (λ s′. after-rules mode i ls s′)
 
 -- ---- A token that is not refused
 
@@ -500,15 +513,27 @@ module _ (doc : Text) (mode : ℕ) (base : Text) (lent : Lent) where
 
   -- ---- 8
 
+  -- The run comes to a token i that no rule takes, or so to the document's end, and 8 is the first refusal there.
+  pub record RunFails (i : ℕ) : Type 0 where
+    pub usable : first-refusal (first-checks doc mode base lent) ≡ none
+    pub utf8 : first-bad doc ≡ none
+    pub fails : GrammarFailsAt (mode-of mode) (document-tokens doc) i
+    pub fair : Fair base [] (take i (document-tokens doc))
+    pub state : State
+    pub reached : after-rules (mode-of mode) i (lexemes doc) (start-state base) ≡ some state
+    pub fits : Fits (room-of lent) (state .memory)
+    pub character : Nowhere (λ xs t. no-character t) (take i (document-tokens doc)) (take 1 (drop i (document-tokens doc)))
+    pub cuts : i ≡ length (document-tokens doc) → T (readable (lexemes doc))
+
   verdict-fails : (i : ℕ) → machine-verdict (mode-of mode) (statement []) (start-memory base) (document-tokens doc) ≡ some i → GrammarFailsAt (mode-of mode) (document-tokens doc) i
   verdict-fails i v = refused-iff (mode-of mode) (document-tokens doc) i .0 (sym (machine-grammar (mode-of mode) (start-memory base) (document-tokens doc)) ∙ v)
 
   fails-verdict : (i : ℕ) → GrammarFailsAt (mode-of mode) (document-tokens doc) i → machine-verdict (mode-of mode) (statement []) (start-memory base) (document-tokens doc) ≡ some i
   fails-verdict i f = machine-grammar (mode-of mode) (start-memory base) (document-tokens doc) ∙ refused-iff (mode-of mode) (document-tokens doc) i .1 f
 
-  -- Where the grammar fails first, the answer is 8 at that token, or at the document's end,
-  pub fails-answer : (i : ℕ) → FailsFirst doc mode base lent i → read doc mode base lent ≡ refusal 8 (place-of (length doc) (lexemes doc) i)
-  fails-answer i f =
+  -- Then the answer is 8 at that token, or at the document's end,
+  pub run-fails-answer : (i : ℕ) → RunFails i → read doc mode base lent ≡ refusal 8 (place-of (length doc) (lexemes doc) i)
+  run-fails-answer i f =
       read-run (f .usable) (f .utf8)
       ∙ ap (reported (length doc))
       (next-eight (mode-of mode) (room-of lent) base (length doc) (lexemes doc) [] (start-state base) (place-of (length doc) (lexemes doc) i) i (start-tracks base)
@@ -516,23 +541,23 @@ module _ (doc : Text) (mode : ℕ) (base : Text) (lent : Lent) where
         verdict = fails-verdict i (f .fails);
         place = refl;
         fair = f .fair;
-        state = f .room .state;
-        reached = f .room .reached;
-        fits = f .room .fits;
+        state = f .state;
+        reached = f .reached;
+        fits = f .fits;
         character = f .character;
         cuts = f .cuts;
       }))
 
   abbrev EightAt : ℕ → Type 0
-  EightAt p = (i : ℕ) × FailsFirst doc mode base lent i × (p ≡ place-of (length doc) (lexemes doc) i)
+  EightAt p = (i : ℕ) × RunFails i × (p ≡ place-of (length doc) (lexemes doc) i)
 
   not-eight : {A : Type 0} (c : ℕ) → T (not (eqb c 8)) → c ≡ 8 → A
   not-eight c h e = absurd (subst (λ x. T (not (eqb x 8))) e h)
 
   -- and 8 is answered only there.
-  pub eight-fails-first : (p : ℕ) → read doc mode base lent .number ≡ 8 → read doc mode base lent .position ≡ p → EightAt p
+  pub eight-run-fails : (p : ℕ) → read doc mode base lent .number ≡ 8 → read doc mode base lent .position ≡ p → EightAt p
   unfolding read read-checked read-utf8 read-tokens all number-of
-  eight-fails-first p e at = checked (first-refusal (first-checks doc mode base lent)) refl e at
+  eight-run-fails p e at = checked (first-refusal (first-checks doc mode base lent)) refl e at
     where
       ran : first-refusal (first-checks doc mode base lent) ≡ none → first-bad doc ≡ none → (o : Outcome) → run-of ≡ o
           → reported (length doc) o .number ≡ 8 → reported (length doc) o .position ≡ p → EightAt p
@@ -545,7 +570,9 @@ module _ (doc : Text) (mode : ℕ) (base : Text) (lent : Lent) where
               utf8 = v;
               fails = verdict-fails i (f .verdict);
               fair = f .fair;
-              room = record { state = f .state; reached = f .reached; fits = f .fits };
+              state = f .state;
+              reached = f .reached;
+              fits = f .fits;
               character = f .character;
               cuts = f .cuts;
             },

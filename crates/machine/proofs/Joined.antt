@@ -81,7 +81,7 @@ module _ (mode : Mode) where
   derives-final : (ts : List Token) (m : Memory) → Grammatical mode ts → Final ts (statement []) m
   derives-final ts m d = verdict-final ts (statement []) m (machine-grammar mode m ts ∙ accepted-iff mode ts .1 d)
 
-  final-derives : (ts : List Token) (m : Memory) → Final ts (statement []) m → Grammatical mode ts
+  pub final-derives : (ts : List Token) (m : Memory) → Final ts (statement []) m → Grammatical mode ts
   final-derives ts m (M, e) = accepted-iff mode ts .0 (sym (machine-grammar mode m ts) ∙ final-verdict ts (statement []) m M e)
 
   -- Behind tokens that have a derivation others have one exactly if all of them together have.

@@ -11,8 +11,7 @@ use Rattle.dataset.specs.Terms.{label, bracket as bracket-blank, iri, blank, ta
 use Rattle.dataset.specs.Constructors.{string-text, tag, node-label, prefix}
 use Rattle.dataset.specs.Statements.{either, one-of-three, one-of-four}
 use Rattle.machine.specs.Memory.{Memory, start-memory, Write, return, _>>=_, _>>_, Done, done, term, new-term, typed, typed-by, iri-term, enter, declare-prefix, declare-base}
-use Rattle.machine.specs.Frame.{Place, top, subject-before, object-of, element-of, Cells, no-cell}
-use Rattle.machine.specs.Rules.{hold, new-cell, extended, end-list}
+use Rattle.machine.specs.Places.{Place, top, subject-before, object-of, element-of, Cells, no-cell, hold, new-cell, extended, end-list}
 
 -- A node that was read, and where it was put.
 pub record Put : Type 0 where

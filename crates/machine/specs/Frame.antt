@@ -3,22 +3,7 @@ use mathlib.Core.List.{List}
 use mathlib.Core.Bool.{Bool}
 use Prim.Native.Nat.{ℕ}
 use Rattle.text.specs.Text.{Text}
-
--- Where a node stands: outside braces as a subject or a graph's label; as a subject; as the object of a subject and a predicate;
--- as the element of a list cell. A subject's predicates and objects end as `Ending` says.
-pub data Ending : Type 0 where
-  full-stop brace bracket-end : Ending
-
-pub data Place : Type 0 where
-  top : Place
-  subject-before : Ending → Place
-  object-of : ℕ → ℕ → Place
-  element-of : ℕ → Place
-
--- The cells of a list so far: none, or the first and the last.
-pub data Cells : Type 0 where
-  no-cell : Cells
-  cells : ℕ → ℕ → Cells
+pub use Rattle.machine.specs.Places.{Ending, full-stop, brace, bracket-end, Place, top, subject-before, object-of, element-of, Cells, no-cell, cells}
 
 -- What is to be read next in a statement. Numbers are of terms; `at` is the position of the token where the object began.
 pub data Frame : Type 0 where

@@ -1,17 +1,11 @@
 -- The reader's whole answer: number, position, counts, and what each lent slice holds after it.
-use mathlib.Core.List.{List, [], _∷_, _++_}
-use mathlib.Core.Bool.{Bool, not, _&&_, _||_}
+use mathlib.Core.List.{List, [], _++_}
 use mathlib.Core.Option.{Option, none, some}
 use Prim.Native.Nat.{ℕ}
-use lib.Dec.{eqb, leb, ltb}
 use lib.ListN.{length, drop, replicate}
-use Rattle.text.specs.Text.{Text, cond, empty, some-byte, is-none}
-use Rattle.limits.specs.Limits.{document-limit, iri-limit, work-size}
+use Rattle.text.specs.Text.{Text}
 use Rattle.utf8.specs.Utf8.{first-bad}
 use Rattle.token.specs.Tokens.{lexemes}
-use Rattle.iri.specs.Iri.{has-scheme, forbidden}
-use Rattle.grammar.specs.Productions.{Mode, trig, turtle}
-use Rattle.table.specs.Layout.{row-room, term-room}
 use Rattle.table.specs.Tables.{rows-words, terms-words, store-bytes, store-size}
 use Rattle.dataset.specs.Constructors.{computing as dataset-computing}
 use Rattle.table.specs.LongForm.{computing as table-computing}
@@ -19,14 +13,9 @@ use Rattle.machine.specs.Memory.{Memory, start-memory}
 use Rattle.machine.specs.Frame.{statement}
 use Rattle.machine.specs.Rules.{rules}
 use Rattle.machine.specs.Refusals.{no-character, undeclared, no-base, too-long, one-prefix-more, too-deep, new-depth}
-use Rattle.machine.specs.Step.{Room, State, Test, _when_, first-refusal, Outcome, accepted, refused, step, run}
-
--- What the caller lends, apart from document and base: the lengths of the slices, rows and terms in words.
-pub record Lent : Type 0 where
-  pub work : ℕ
-  pub rows : ℕ
-  pub terms : ℕ
-  pub store : ℕ
+pub use Rattle.machine.specs.Call.{Lent, mode-of, room-of, first-checks}
+unfoldable pub use Rattle.machine.specs.Call.{bad-base}
+use Rattle.machine.specs.Step.{State, first-refusal, Outcome, accepted, refused, step, run}
 
 -- What a lent slice holds after the call: what it held; zeros; or these in front of what it held there.
 pub data After : Type 0 where
@@ -49,19 +38,6 @@ pub record Answer : Type 0 where
   pub rows : After
   pub terms : After
   pub store : After
-
--- "base not empty, and over 1,024 bytes, not UTF-8, without a scheme, or with a character IRIREF forbids unescaped"
-unfoldable pub bad-base : Text → Bool
-bad-base b = not (empty b) && (ltb iri-limit (length b) || not (is-none (first-bad b)) || not (has-scheme b) || some-byte forbidden b)
-
--- Checks 1 to 4
-abbrev pub first-checks : Text → ℕ → Text → Lent → List Test
-first-checks doc mode base lent =
-    1 when ltb document-limit (length doc)
-    ∷ 2 when not (leb mode 1)
-    ∷ 3 when bad-base base
-    ∷ 4 when ltb (lent .work) work-size
-    ∷ []
 
 -- "Checks 1 to 4 give zero counts and leave all lent memory unchanged."
 abbrev pub untouched : ℕ → Answer
@@ -91,13 +67,6 @@ success n m =
 abbrev pub reported : ℕ → Outcome → Answer
 reported n (accepted m) = success n m
 reported n (refused c p) = refusal c p
-
-abbrev pub mode-of : ℕ → Mode
-mode-of n = cond (eqb n 0) trig turtle
-
--- How many rows, terms and store bytes the slices have room for.
-abbrev pub room-of : Lent → Room
-room-of lent = record { rows = row-room (lent .rows); terms = term-room (lent .terms); store = lent .store }
 
 abbrev pub start-state : Text → State
 start-state base = record { open-now = statement []; depth = 0; memory = start-memory base }

@@ -8,51 +8,11 @@ use Rattle.text.specs.Text.{cond}
 use Rattle.token.specs.Kind.{Kind, among, iris, strings, at-prefix, at-base, PREFIX, BASE, GRAPH, dot, semicolon, comma, open-bracket, close-bracket, open-paren, close-paren, open-brace, close-brace, kw-a, kw-true, kw-false, carets, IRIREF, «PNAME_NS», «BLANK_NODE_LABEL», LANGTAG, INTEGER, DECIMAL, DOUBLE}
 use Rattle.token.specs.Tokens.{Token}
 use Rattle.grammar.specs.Productions.{Mode, trig, turtle}
-use Rattle.dataset.specs.Terms.{label, bracket as bracket-node, cell as cell-node, iri, blank, tagged, rdf-type, rdf-first, rdf-rest, rdf-nil, xsd-string, xsd-integer, xsd-decimal, xsd-double, xsd-boolean}
+use Rattle.dataset.specs.Terms.{label, bracket as bracket-node, iri, blank, tagged, rdf-type, xsd-string, xsd-integer, xsd-decimal, xsd-double, xsd-boolean}
 use Rattle.dataset.specs.Constructors.{string-text, tag, node-label, prefix}
-use Rattle.machine.specs.Memory.{Write, return, _>>=_, _>>_, Done, done, term, new-term, typed, typed-by, iri-term, row, enter, declare-prefix, declare-base}
-use Rattle.machine.specs.Frame.{Ending, full-stop, brace, bracket-end, Place, top, subject-before, object-of, element-of, Cells, no-cell, cells, Frame, graph-label, closing-label, graph-body, label-or-subject, triples-or-end, verb, verb-or-end, object, after-object, after-semicolon, bracket, list, suffix, datatype, Directive, prefix-name, namespace-of, new-base, last-dot, Open, directive, statement}
-
--- ---- Rows
-
--- The row that holds a node at its place, if it is an object or an element. "A predicate that a list supplies is numbered when its row is made."
-abbrev pub hold : Place → ℕ → ℕ → Write Done
-hold top n at = return done
-hold (subject-before e) n at = return done
-hold (object-of s p) n at = row s p n at
-hold (element-of cell) n at = do
-  first ← term (iri rdf-first)
-  row cell first n at
-
--- "At an element's first token: the new cell is numbered, then for the first element the row that holds the list (if any), for later
--- ones the row old cell, rdf:rest, new cell." The list stands at `place`, its ( at `opened`, and the element begins at `at`.
-abbrev pub new-cell : Place → ℕ → Cells → ℕ → Write ℕ
-new-cell place opened no-cell at = do
-  cell ← new-term (blank (cell-node at))
-  hold place cell opened
-  return cell
-new-cell place opened (cells head last) at = do
-  cell ← new-term (blank (cell-node at))
-  rest ← term (iri rdf-rest)
-  row last rest cell at
-  return cell
-
-abbrev pub extended : Cells → ℕ → Cells
-extended no-cell cell = cells cell cell
-extended (cells head last) cell = cells head cell
-
--- "At ) of an empty list: rdf:nil is numbered, then its row made if it is an object or element. At the closing bracket: last cell, rdf:rest, rdf:nil."
--- The result is the list's node.
-abbrev pub end-list : Place → ℕ → Cells → ℕ → Write ℕ
-end-list place opened no-cell at = do
-  nil ← term (iri rdf-nil)
-  hold place nil opened
-  return nil
-end-list place opened (cells head last) at = do
-  rest ← term (iri rdf-rest)
-  nil ← term (iri rdf-nil)
-  row last rest nil at
-  return head
+use Rattle.machine.specs.Memory.{Write, return, _>>=_, _>>_, term, new-term, typed, typed-by, iri-term, enter, declare-prefix, declare-base}
+pub use Rattle.machine.specs.Places.{hold, new-cell, extended, end-list}
+use Rattle.machine.specs.Frame.{Ending, full-stop, brace, bracket-end, Place, top, subject-before, object-of, element-of, no-cell, Frame, graph-label, closing-label, graph-body, label-or-subject, triples-or-end, verb, verb-or-end, object, after-object, after-semicolon, bracket, list, suffix, datatype, Directive, prefix-name, namespace-of, new-base, last-dot, Open, directive, statement}
 
 -- ---- Rules
 

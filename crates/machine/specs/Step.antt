@@ -5,39 +5,23 @@ use mathlib.Core.Option.{Option, none, some}
 use Prim.Native.Nat.{ℕ}
 use lib.Dec.{ltb}
 use lib.ListN.{length}
-use Rattle.text.specs.Text.{cond, is-none}
+use Rattle.text.specs.Text.{is-none}
 use Rattle.token.specs.Kind.{carets, LANGTAG}
 use Rattle.token.specs.Tokens.{Token, has-kind, Lexeme, token, unreadable}
 use Rattle.grammar.specs.Productions.{Mode}
 use Rattle.dataset.specs.Constructors.{InForce, Awaited, nothing, prefix-name as prefix-awaited, new-base as base-awaited, namespace-of as namespace-awaited, awaiting}
 use Rattle.table.specs.Tables.{store-size}
 use Rattle.machine.specs.Memory.{Memory, Write}
+pub use Rattle.machine.specs.Call.{Room, Test, _when_, first-refusal}
 use Rattle.machine.specs.Frame.{prefix-name, namespace-of, new-base, last-dot, Open, directive, statement}
 use Rattle.machine.specs.Rules.{find-rule, rules}
 use Rattle.machine.specs.Refusals.{no-character, undeclared, no-base, too-long, one-prefix-more, too-deep, new-depth}
-
--- How many rows, terms and store bytes have room.
-pub record Room : Type 0 where
-  pub rows : ℕ
-  pub terms : ℕ
-  pub store : ℕ
 
 -- What is open, how many [ and ( are open, and the memory.
 pub record State : Type 0 where
   pub open-now : Open
   pub depth : ℕ
   pub memory : Memory
-
--- ---- Tests
-
-infix 80 _when_
-pub data Test : Type 0 where
-  _when_ : ℕ → Bool → Test
-
--- The number of the first test that holds.
-abbrev pub first-refusal : List Test → Option ℕ
-first-refusal [] = none
-first-refusal (n when b ∷ ts) = let r = first-refusal ts in cond b (some n) r
 
 -- What is in force: what an open directive awaits, and the environment.
 abbrev pub awaited-by : Open → Awaited

@@ -22,5 +22,6 @@ pub mod Runs
 pub mod Laid
 pub mod Numbering
 pub mod RoundTrip
+pub mod HandedOver
 -- Examples, computed.
 pub mod Examples

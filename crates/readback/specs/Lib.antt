@@ -1,2 +1,3 @@
 -- The long form, read again.
 pub mod ReadBack
+pub mod HandedOver

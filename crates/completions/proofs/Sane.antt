@@ -1,0 +1,284 @@
+-- After every token: no row has an object that is not there, and only a string that is followed by a tag or ^^ awaits its tag or type.
+use mathlib.Core.Path.{_≡_, refl, ap, subst}
+use mathlib.Core.List.{List, [], _∷_, _++_}
+use mathlib.Core.Bool.{Bool, true, false, not, _&&_, _||_}
+use mathlib.Core.Option.{Option, none, some}
+use Prim.Native.Nat.{ℕ, zero, suc, _≤_}
+use native.Mathlib.Omega.{arith}
+use lib.Dec.{T}
+use lib.ListN.{length, drop, length-append}
+use Rattle.text.specs.Text.{Text}
+use Rattle.text.proofs.Booleans.{and-0, and-1, and-in, or-0}
+use Rattle.token.specs.Kind.{Kind, among, at-prefix, at-base, PREFIX, BASE, IRIREF, «PNAME_NS», dot}
+use Rattle.token.specs.Tokens.{Token, Lexeme, token, unreadable}
+use Rattle.grammar.specs.Productions.{Mode, trig, turtle}
+use Rattle.dataset.specs.Terms.{Term, label, bracket as bracket-node, cell, iri, blank, literal, tagged, rdf-type, rdf-first, rdf-rest, rdf-nil, xsd-string, xsd-integer, xsd-decimal, xsd-double, xsd-boolean}
+use Rattle.dataset.specs.Constructors.{string-text, tag, node-label, iri-of}
+use Rattle.table.specs.Layout.{Row}
+use Rattle.table.specs.Tables.{number}
+use Rattle.table.proofs.Numbers.{not-none}
+use Rattle.table.proofs.Finding.{number-within}
+use Rattle.machine.specs.Memory.{Memory, Write, return, _>>=_, _>>_, term, term-by, new-term, typed, typed-by, iri-term, row}
+use Rattle.machine.specs.Frame.{Ending, full-stop, brace, bracket-end, Place, top, subject-before, object-of, element-of, Cells, no-cell, cells, Frame, graph-label, closing-label, graph-body, label-or-subject, triples-or-end, verb, verb-or-end, object, after-object, after-semicolon, bracket, list, suffix, datatype, Directive, prefix-name, namespace-of, new-base, last-dot, Open, directive, statement}
+use Rattle.machine.specs.Rules.{Rule, _⇒_, find-rule, hold, new-cell, extended, end-list, after-node, after-properties, Opening, end-rules, verb-rules, subject-rules, simple, string, object-rules, frame-rules, directive-rules, above, statement-rules, rules}
+use Rattle.machine.specs.Step.{State, obeyed, tied-to}
+use Rattle.machine.proofs.Demands.{obey, after-rules}
+use Rattle.machine.proofs.Made.{some-same, first-or-later}
+use Rattle.machine.proofs.Extends.{Extends, adds-term}
+use Rattle.completions.specs.Written.{ObjectsThere}
+use Rattle.completions.proofs.Complete.{is-suffix, rid}
+use Rattle.completions.proofs.Effects.{ext-hold}
+
+-- ---- Objects
+
+abbrev pub ObjectsIn : Memory → Type 0
+ObjectsIn m = ObjectsThere (length (m .terms)) (m .rows)
+
+objects-more : (n k : ℕ) (rs : List Row) → n ≤ k → ObjectsThere n rs → ObjectsThere k rs
+objects-more n k [] h o = tt
+objects-more n k (r ∷ rs) h o = (let l = o .0 in omega arith, objects-more n k rs h (o .1))
+
+objects-last : (n : ℕ) (rs : List Row) (r : Row) → ObjectsThere n rs → r .object ≤ n → ObjectsThere n (rs ++ r ∷ [])
+objects-last n [] r o h = (h, tt)
+objects-last n (x ∷ rs) r o h = (o .0, objects-last n rs r (o .1) h)
+
+-- A number of a term that is there.
+abbrev Gives : Write ℕ → Type 0
+Gives w = (m : Memory) → ObjectsIn m → ObjectsIn (w m .1) × (w m .0 ≤ length (w m .1 .terms))
+
+gives-new : (t : Term) → Gives (new-term t)
+gives-new t m o =
+    let l = length-append (m .terms) (t ∷ []) in
+    (objects-more (length (m .terms)) (length (m .terms ++ t ∷ [])) (m .rows) (omega arith) o, omega arith)
+
+gives-term : (t : Term) → Gives (term t)
+gives-term t m o = go (number t (m .terms)) refl
+  where
+    go : (x : Option ℕ) → number t (m .terms) ≡ x → ObjectsIn (term-by x t m .1) × (term-by x t m .0 ≤ length (term-by x t m .1 .terms))
+    go none e = gives-new t m o
+    go (some n) e = (o, number-within t (m .terms) n e)
+
+gives-typed : (s d : Text) → Gives (typed s d)
+gives-typed s d m o = gives-term (literal s d) (term (iri d) m .1) (gives-term (iri d) m o .0)
+
+gives-iri : (t : Token) → Gives (iri-term t)
+gives-iri t m o = gives-term (iri (iri-of (m .environment) t)) m o
+
+gives-typed-by : (s : Text) (t : Token) → Gives (typed-by s t)
+gives-typed-by s t m o = gives-typed s (iri-of (m .environment) t) m o
+
+ext-length : {m M : Memory} → Extends m M → length (m .terms) ≤ length (M .terms)
+ext-length {m} x = omega (arith, ap length (x .terms), length-append (m .terms) (x .new-terms))
+
+keeps-row : (s p n at : ℕ) (m : Memory) → ObjectsIn m → n ≤ length (m .terms) → ObjectsIn (row s p n at m .1)
+keeps-row s p n at m o h = objects-last (length (m .terms)) (m .rows) (record { graph = m .graph; subject = s; predicate = p; object = n; position = at }) o h
+
+keeps-hold : (q : Place) (n at : ℕ) (m : Memory) → ObjectsIn m → n ≤ length (m .terms) → ObjectsIn (hold q n at m .1)
+keeps-hold top n at m o h = o
+keeps-hold (subject-before e) n at m o h = o
+keeps-hold (object-of s p) n at m o h = keeps-row s p n at m o h
+keeps-hold (element-of c) n at m o h =
+    let r = term (iri rdf-first) m in
+    keeps-row c (r .0) n at (r .1) (gives-term (iri rdf-first) m o .0) (omega (arith, h, ext-length (adds-term (iri rdf-first) .extends m)))
+
+gives-cell : (q : Place) (opened : ℕ) (cs : Cells) (at : ℕ) → Gives (new-cell q opened cs at)
+gives-cell q opened no-cell at m o =
+    let m₁ = new-term (blank (cell at)) m .1 in
+    let n = suc (length (m .terms)) in
+    let (a, b) = gives-new (blank (cell at)) m o in
+    (keeps-hold q n opened m₁ a b, omega (arith, b, ext-length (ext-hold q n opened m₁)))
+gives-cell q opened (cells h l) at m o =
+    let m₁ = new-term (blank (cell at)) m .1 in
+    let n = suc (length (m .terms)) in
+    let (a, b) = gives-new (blank (cell at)) m o in
+    let r = term (iri rdf-rest) m₁ in
+    let c : n ≤ length (r .1 .terms) = omega (arith, b, ext-length (adds-term (iri rdf-rest) .extends m₁)) in
+    (keeps-row l (r .0) n at (r .1) (gives-term (iri rdf-rest) m₁ a .0) c, c)
+
+keeps-end : (q : Place) (opened : ℕ) (cs : Cells) (at : ℕ) (m : Memory) → ObjectsIn m → ObjectsIn (end-list q opened cs at m .1)
+keeps-end q opened no-cell at m o = let (a, b) = gives-term (iri rdf-nil) m o in keeps-hold q (term (iri rdf-nil) m .0) opened (term (iri rdf-nil) m .1) a b
+keeps-end q opened (cells h l) at m o =
+    let r = term (iri rdf-rest) m in
+    let n = term (iri rdf-nil) (r .1) in
+    let (a, b) = gives-term (iri rdf-nil) (r .1) (gives-term (iri rdf-rest) m o .0) in
+    keeps-row l (r .0) (n .0) at (n .1) a b
+
+-- ---- What is open
+
+-- b: the first may await a tag or type.
+abbrev pub calm : Bool → List Frame → Bool
+calm b [] = true
+calm b (f ∷ fs) = (not (is-suffix f) || b) && rid fs
+
+rid-calm : (b : Bool) (fs : List Frame) → T (rid fs) → T (calm b fs)
+rid-calm b [] t = tt
+rid-calm b (f ∷ fs) t = and-in (not (is-suffix f) || b) (rid fs) (or-0 (not (is-suffix f)) b (and-0 (not (is-suffix f)) (rid fs) t)) (and-1 (not (is-suffix f)) (rid fs) t)
+
+pub calm-rid : (fs : List Frame) → T (calm false fs) → T (rid fs)
+calm-rid [] t = tt
+calm-rid (f ∷ fs) t = and-in (not (is-suffix f)) (rid fs) (go (not (is-suffix f)) (and-0 (not (is-suffix f) || false) (rid fs) t)) (and-1 (not (is-suffix f) || false) (rid fs) t)
+  where
+    go : (x : Bool) → T (x || false) → T x
+    go true u = tt
+    go false u = u
+
+rid-append : (fs K : List Frame) → T (rid fs) → T (rid K) → T (rid (fs ++ K))
+rid-append [] K t u = u
+rid-append (f ∷ fs) K t u = and-in (not (is-suffix f)) (rid (fs ++ K)) (and-0 (not (is-suffix f)) (rid fs) t) (rid-append fs K (and-1 (not (is-suffix f)) (rid fs) t) u)
+
+calm-append : (b : Bool) (fs K : List Frame) → T (calm b fs) → T (rid K) → T (calm b (fs ++ K))
+calm-append b [] K t u = rid-calm b K u
+calm-append b (f ∷ fs) K t u =
+    and-in (not (is-suffix f) || b) (rid (fs ++ K)) (and-0 (not (is-suffix f) || b) (rid fs) t) (rid-append fs K (and-1 (not (is-suffix f) || b) (rid fs) t) u)
+
+calm-node : (b : Bool) (q : Place) (n : ℕ) → T (calm b (after-node q n))
+calm-node b top n = tt
+calm-node b (subject-before e) n = tt
+calm-node b (object-of s p) n = tt
+calm-node b (element-of c) n = tt
+
+rid-properties : (q : Place) (n : ℕ) → T (rid (after-properties q n))
+rid-properties top n = tt
+rid-properties (subject-before e) n = tt
+rid-properties (object-of s p) n = tt
+rid-properties (element-of c) n = tt
+
+-- ---- Rules
+
+abbrev Fine : Bool → Write (List Frame) → Type 0
+Fine b w = (m : Memory) → ObjectsIn m → ObjectsIn (w m .1) × T (calm b (w m .0))
+
+data Good (b : Bool) : List (Rule (List Frame)) → Type 0 where
+  no-rule : Good b []
+  rule : {ks : List Kind} {w : Write (List Frame)} {rs : List (Rule (List Frame))} → Fine b w → Good b rs → Good b ((ks ⇒ w) ∷ rs)
+
+good-append : {b : Bool} {rs us : List (Rule (List Frame))} → Good b rs → Good b us → Good b (rs ++ us)
+good-append no-rule q = q
+good-append (rule a c) q = rule a (good-append c q)
+
+module _ (t : Token) (tied : Bool) where
+  good-end : (e : Ending) → Good tied (end-rules t tied e)
+  good-end full-stop = rule (λ m o. (o, tt)) no-rule
+  good-end brace = rule (λ m o. (o, tt)) (rule (λ m o. (o, tt)) no-rule)
+  good-end bracket-end = rule (λ m o. (o, tt)) no-rule
+
+  good-verb : (after : ℕ → List Frame) → ((p : ℕ) → T (calm tied (after p))) → Good tied (verb-rules t tied after)
+  good-verb after f =
+      rule (λ m o. (gives-iri t m o .0, f (iri-term t m .0))) (rule (λ m o. (gives-term (iri rdf-type) m o .0, f (term (iri rdf-type) m .0))) no-rule)
+
+  good-subject : (q : Place) → Good tied (subject-rules t tied q)
+  good-subject q =
+      rule (λ m o. (gives-iri t m o .0, calm-node tied q (iri-term t m .0)))
+      (rule (λ m o. (gives-term (blank (label (node-label t))) m o .0, calm-node tied q (term (blank (label (node-label t))) m .0)))
+      (rule (λ m o. (gives-new (blank (bracket-node (t .start))) m o .0, tt)) (rule (λ m o. (o, tt)) no-rule)))
+
+  module _ (begin : Write Opening) (keeps : (m : Memory) → ObjectsIn m → ObjectsIn (begin m .1)) (after : (m : Memory) → T (rid (begin m .0 .after))) where
+    fine-simple : (b : Bool) (node : Write ℕ) → Gives node → Fine b (simple t tied begin node)
+    fine-simple b node g m o =
+        let r = begin m in
+        let (x, y) = g (r .1) (keeps m o) in
+        (keeps-hold (r .0 .place) (node (r .1) .0) (t .start) (node (r .1) .1) x y, rid-calm b (r .0 .after) (after m))
+
+    fine-string : (b : Bool) → Fine b (string t tied begin b)
+    fine-string true m o = (keeps m o, after m)
+    fine-string false m o = fine-simple false (typed (string-text t) xsd-string) (gives-typed (string-text t) xsd-string) m o
+
+    good-object : Good tied (object-rules t tied begin)
+    good-object =
+        rule (fine-simple tied (iri-term t) (gives-iri t))
+        (rule (fine-simple tied (term (blank (label (node-label t)))) (gives-term (blank (label (node-label t)))))
+        (rule (fine-simple tied (typed (t .text) xsd-integer) (gives-typed (t .text) xsd-integer))
+        (rule (fine-simple tied (typed (t .text) xsd-decimal) (gives-typed (t .text) xsd-decimal))
+        (rule (fine-simple tied (typed (t .text) xsd-double) (gives-typed (t .text) xsd-double))
+        (rule (fine-simple tied (typed (t .text) xsd-boolean) (gives-typed (t .text) xsd-boolean))
+        (rule (fine-string tied)
+        (rule
+        (λ m o.
+        let r = begin m in
+        let (x, y) = gives-new (blank (bracket-node (t .start))) (r .1) (keeps m o) in
+        (keeps-hold (r .0 .place) (suc (length (r .1 .terms))) (t .start) (new-term (blank (bracket-node (t .start))) (r .1) .1) x y, after m))
+        (rule (λ m o. (keeps m o, after m)) no-rule))))))))
+
+  good-frame : (f : Frame) → Good tied (frame-rules t tied f)
+  good-frame graph-label =
+      rule (λ m o. (gives-iri t m o .0, tt))
+      (rule (λ m o. (gives-term (blank (label (node-label t))) m o .0, tt)) (rule (λ m o. (gives-new (blank (bracket-node (t .start))) m o .0, tt)) no-rule))
+  good-frame (closing-label g) = rule (λ m o. (o, tt)) no-rule
+  good-frame (graph-body g) = rule (λ m o. (o, tt)) no-rule
+  good-frame (label-or-subject n) = rule (λ m o. (o, tt)) (good-verb (λ p. object n p full-stop ∷ []) (λ p. tt))
+  good-frame triples-or-end = rule (λ m o. (o, tt)) (good-subject (subject-before brace))
+  good-frame (verb s e) = good-verb (λ p. object s p e ∷ []) (λ p. tt)
+  good-frame (verb-or-end s e) = good-append (good-verb (λ p. object s p e ∷ []) (λ p. tt)) (good-end e)
+  good-frame (object s p e) = good-object (return (record { place = object-of s p; after = after-object s p e ∷ [] })) (λ m o. o) (λ m. tt)
+  good-frame (after-object s p e) = rule (λ m o. (o, tt)) (rule (λ m o. (o, tt)) (good-end e))
+  good-frame (after-semicolon s e) = rule (λ m o. (o, tt)) (good-append (good-verb (λ p. object s p e ∷ []) (λ p. tt)) (good-end e))
+  good-frame (bracket q n) = rule (λ m o. (o, calm-node tied q n)) (good-verb (λ p. object n p bracket-end ∷ after-properties q n) (λ p. rid-properties q n))
+  good-frame (list q opened cs) =
+      rule (λ m o. (keeps-end q opened cs (t .start) m o, calm-node tied q (end-list q opened cs (t .start) m .0)))
+      (good-object (new-cell q opened cs (t .start) >>= λ c. return (record { place = element-of c; after = list q opened (extended cs c) ∷ [] }))
+      (λ m o. gives-cell q opened cs (t .start) m o .0) (λ m. tt))
+  good-frame (suffix q at s) =
+      rule
+      (λ m o.
+      let r = term (tagged s (tag t)) m in let (x, y) = gives-term (tagged s (tag t)) m o in (keeps-hold q (r .0) at (r .1) x y, tt))
+      (rule (λ m o. (o, tt)) no-rule)
+  good-frame (datatype q at s) = rule (λ m o. let r = typed-by s t m in let (x, y) = gives-typed-by s t m o in (keeps-hold q (r .0) at (r .1) x y, tt)) no-rule
+
+  good-statement : (mode : Mode) → Good tied (statement-rules t tied mode)
+  good-statement trig = rule (λ m o. (o, tt)) (rule (λ m o. (o, tt)) (good-subject top))
+  good-statement turtle = good-subject (subject-before full-stop)
+
+-- ---- Tokens
+
+abbrev pub CalmOpen : Bool → Open → Type 0
+CalmOpen b (directive d) = Unit {0}
+CalmOpen b (statement fs) = T (calm b fs)
+
+module _ (t : Token) (tied : Bool) where
+  abbrev Kept : Write Open → Type 0
+  Kept w = (m : Memory) → ObjectsIn m → ObjectsIn (w m .1) × CalmOpen tied (w m .0)
+
+  good-found : (k : Kind) (K : List Frame) → T (rid K) → {rs : List (Rule (List Frame))} → Good tied rs → (w : Write Open) → find-rule k (above t tied K rs) ≡ some w → Kept w
+  good-found k K u no-rule w e = not-none e
+  good-found k K u (rule {ks = ks} {w = v} a c) w e =
+      first-or-later (among ks k) e (λ h q. subst Kept q (λ m o. let (x, y) = a m o in (x, calm-append tied (v m .0) K y u))) (λ d. good-found k K u c w d)
+
+  pub sane-rule : (mode : Mode) (b : Bool) (o : Open) (w : Write Open) → find-rule (t .kind) (rules t tied mode o) ≡ some w → CalmOpen b o → Kept w
+  unfolding rules
+  sane-rule mode b (statement (f ∷ K)) w e c = good-found (t .kind) K (and-1 (not (is-suffix f) || b) (rid K) c) (good-frame t tied f) w e
+  sane-rule mode b (statement []) w e c =
+      first-or-later (among (at-prefix ∷ []) (t .kind)) e (λ h q. subst Kept q (λ m o. (o, tt)))
+      (λ e₁.
+      first-or-later (among (PREFIX ∷ []) (t .kind)) e₁ (λ h q. subst Kept q (λ m o. (o, tt)))
+      (λ e₂.
+      first-or-later (among (at-base ∷ []) (t .kind)) e₂ (λ h q. subst Kept q (λ m o. (o, tt)))
+      (λ e₃.
+      first-or-later (among (BASE ∷ []) (t .kind)) e₃ (λ h q. subst Kept q (λ m o. (o, tt)))
+      (λ e₄. good-found (t .kind) [] tt (good-statement t tied mode) w e₄))))
+  sane-rule mode b (directive d) w e c = go d e
+    where
+      go : (d : Directive) → find-rule (t .kind) (directive-rules t tied d) ≡ some w → Kept w
+      go (prefix-name x) e = first-or-later (among («PNAME_NS» ∷ []) (t .kind)) e (λ h q. subst Kept q (λ m o. (o, tt))) (λ x. not-none x)
+      go (namespace-of p true) e = first-or-later (among (IRIREF ∷ []) (t .kind)) e (λ h q. subst Kept q (λ m o. (o, tt))) (λ x. not-none x)
+      go (namespace-of p false) e = first-or-later (among (IRIREF ∷ []) (t .kind)) e (λ h q. subst Kept q (λ m o. (o, tt))) (λ x. not-none x)
+      go (new-base true) e = first-or-later (among (IRIREF ∷ []) (t .kind)) e (λ h q. subst Kept q (λ m o. (o, tt))) (λ x. not-none x)
+      go (new-base false) e = first-or-later (among (IRIREF ∷ []) (t .kind)) e (λ h q. subst Kept q (λ m o. (o, tt))) (λ x. not-none x)
+      go last-dot e = first-or-later (among (dot ∷ []) (t .kind)) e (λ h q. subst Kept q (λ m o. (o, tt))) (λ x. not-none x)
+
+-- After i tokens.
+pub after-sane : (mode : Mode) (i : ℕ) (ls : List Lexeme) (s s′ : State) → after-rules mode i ls s ≡ some s′ → ObjectsIn (s .memory) → CalmOpen (tied-to ls) (s .open-now)
+    → ObjectsIn (s′ .memory) × CalmOpen (tied-to (drop i ls)) (s′ .open-now)
+unfolding after-rules obey
+after-sane mode zero ls s s′ e o c = subst (λ (x : State). ObjectsIn (x .memory) × CalmOpen (tied-to ls) (x .open-now)) (some-same e) (o, c)
+after-sane mode (suc i) [] s s′ e o c = not-none e
+after-sane mode (suc i) (unreadable p ∷ ls) s s′ e o c = not-none e
+after-sane mode (suc i) (token t ∷ ls) s s′ e o c =
+    go (find-rule (t .kind) (rules t (tied-to ls) mode (s .open-now))) refl e (λ x d u v. after-sane mode i ls x s′ d u v)
+  where
+    go : (r : Option (Write Open)) → find-rule (t .kind) (rules t (tied-to ls) mode (s .open-now)) ≡ r → obey r t s (λ x. after-rules mode i ls x) ≡ some s′
+        → ((x : State) → after-rules mode i ls x ≡ some s′ → ObjectsIn (x .memory) → CalmOpen (tied-to ls) (x .open-now) → ObjectsIn (s′ .memory) × CalmOpen (tied-to (drop i ls)) (s′ .open-now))
+        → ObjectsIn (s′ .memory) × CalmOpen (tied-to (drop i ls)) (s′ .open-now)
+    go none q d k = not-none d
+    go (some w) q d k =
+        let (x, y) = sane-rule t (tied-to ls) mode (tied-to (token t ∷ ls)) (s .open-now) w q c (s .memory) o in
+        k (obeyed (some w) t s) d x y

@@ -1,0 +1,3 @@
+-- What the tokens so far write, in words about derivations.
+pub mod Written
+pub mod FailsFirst
