@@ -2,3 +2,4 @@
 pub mod Terms
 pub mod Constructors
 pub mod Statements
+pub mod Latest
