@@ -125,10 +125,10 @@ fn step_behind(c: u8) -> Scan
     }
 }
 
-fn step_name(c: u8) -> Scan
-    ensures { λ r. ⌜ r ≡ step-name c ⌝ }
+fn step_name(b: u8) -> Scan
+    ensures { λ r. ⌜ r ≡ step-name b ⌝ }
 {
-    if c == 92 {
+    if b == 92 {
         return Scan {
             left: 10,
             value: 0,
@@ -137,7 +137,7 @@ fn step_name(c: u8) -> Scan
     }
     Scan {
         left: 10,
-        value: wide(c),
+        value: wide(b),
         n: 1,
     }
 }
@@ -188,8 +188,9 @@ impl Scan {
     pub fn name() -> Scan
         ensures { λ r. ⌜ (r .left ≡ 10) × ((r .value ≡ 0) × (r .n ≡ 0)) ⌝ }
     {
+        let left: usize = 10;
         Scan {
-            left: 10,
+            left,
             value: 0,
             n: 0,
         }

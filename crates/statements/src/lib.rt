@@ -212,9 +212,9 @@ pub fn statements(
     ensures { λ r. ⌜ ReadsAll (mode-of mode) (now (now (doc .entry))) (held (now (work .entry)) (now (rows .entry)) (now (terms .entry)) (now (store .entry)) (now (st .entry))) (held (now (work .exit)) (now (rows .exit)) (now (terms .exit)) (now (store .exit)) (now (st .exit))) r ⌝ }
 {
     while st[Words::KIND] != 0 {
-        let c = one_statement(doc, work, rows, terms, store, st, mode);
-        if c != 0 {
-            return c;
+        let refusal = one_statement(doc, work, rows, terms, store, st, mode);
+        if refusal != 0 {
+            return refusal;
         }
     }
     0
