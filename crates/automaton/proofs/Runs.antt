@@ -2,7 +2,7 @@
 use mathlib.Core.Path.{_≡_, refl, subst, sym, ap, _∙_}
 use mathlib.Core.Logic.{_⊎_, inl, inr, ⊎-elim}
 use mathlib.Core.Bool.{Bool, true, false}
-use mathlib.Core.List.{List, [], _∷_, _++_}
+use mathlib.Core.List.{List, [], _∷_, _++_, append-assoc}
 use Prim.Native.Nat.{ℕ, _+_, _≤_, _<_}
 use native.Mathlib.Omega.{arith}
 use native.Mathlib.Nat.{add-zero, zero-add, add-assoc}
@@ -10,14 +10,13 @@ use borrow.Author.Tests.{lt-ltb, ne-eqb}
 use lib.Dec.{eqb}
 use lib.ListN.{length, getD, drop, length-append, length-drop}
 use Rattle.text.specs.Text.{Text, cond}
-use Rattle.utf8.specs.Utf8.{encode, encodes, width}
-use Rattle.utf8.specs.Scalar.{Encodes}
+use Rattle.utf8.specs.Utf8.{encode, encodes, width, sequence-size}
 use Rattle.utf8.proofs.Tests.{by, split, and-false}
-use Rattle.utf8.proofs.Encoding.{head, length-encode, width-pos}
+use Rattle.utf8.proofs.Encoding.{head, length-encode, width-pos, size-one}
 use Rattle.token.specs.Regular.{item, Match, nothing, hit, nullable, step, least-of, now-at, later, best}
 use Rattle.token.specs.Terminals.{terminals, long-terminals, tripled, token-at}
 use Rattle.automaton.specs.States.{State}
-use Rattle.automaton.specs.Run.{tok, answer, seen-kind, seen-len, run, Rest}
+use Rattle.automaton.specs.Run.{tok, answer, seen-kind, seen-len, run, Front, Rest}
 use Rattle.automaton.specs.declared.Token.{Token}
 
 -- ---- The run is the longest match
@@ -118,47 +117,67 @@ shape c t = ⊎-elim (λ h. inl (simp (lt-ltb c 0x80 h))) (λ h. inr (go h (enco
         ⊎-elim (λ v. let x = v .0 in absurd (omega arith)) (λ v. subst (λ (x : Text). 0x80 ≤ getD x 0 0) (sym e) (v .1)) (head c t) in
         record { byte = b; more = r; far = h; high = m; eq = sym e }
 
-tri-third : (c d : ℕ) (es : List ℕ) → tripled (c ∷ d ∷ encodes es) ≡ tripled (c ∷ d ∷ es)
-unfolding encodes
-tri-third c d [] = refl
-tri-third c d (e ∷ es) =
-    ⊎-elim (λ z. ap (λ (x : Text). tripled (c ∷ d ∷ x)) z)
-    (λ z. ap (λ (x : Text). tripled (c ∷ d ∷ x)) (z .eq) ∙ third-no c d (z .byte) (z .more) (z .high) ∙ sym (third-no c d e es (z .far)))
-    (shape e (encodes es))
+-- What is at the front of no sequence is empty, or begins with a byte from 128 on.
+bad-high : (b : ℕ) (z : Text) → sequence-size (b ∷ z) ≡ 0 → 128 ≤ b
+bad-high b z e = ⊎-elim (λ h. let o = size-one b z h in absurd (omega arith)) (λ h. h) (split b 128)
 
-tri-second : (c : ℕ) (ds : List ℕ) → tripled (c ∷ encodes ds) ≡ tripled (c ∷ ds)
-unfolding encodes
-tri-second c [] = refl
-tri-second c (d ∷ ds) =
-    ⊎-elim (λ z. ap (λ (x : Text). tripled (c ∷ x)) z ∙ tri-third c d ds)
-    (λ z. ap (λ (x : Text). tripled (c ∷ x)) (z .eq) ∙ second-no c (z .byte) (z .more) (z .high) ∙ sym (second-no c d ds (z .far)))
-    (shape d (encodes ds))
+module _ (z : Text) (e : sequence-size z ≡ 0) where
+  tri-third : (c d : ℕ) (es : List ℕ) → tripled (c ∷ d ∷ (encodes es ++ z)) ≡ tripled (c ∷ d ∷ es)
+  unfolding encodes
+  tri-third c d [] = go z e
+    where
+      go : (z : Text) → sequence-size z ≡ 0 → tripled (c ∷ d ∷ z) ≡ false
+      go [] e = refl
+      go (b ∷ z) e = third-no c d b z (bad-high b z e)
+  tri-third c d (x ∷ es) =
+      ap (λ (u : Text). tripled (c ∷ d ∷ u)) (append-assoc (encode x) (encodes es) z)
+      ∙ ⊎-elim (λ v. ap (λ (u : Text). tripled (c ∷ d ∷ u)) v)
+      (λ v. ap (λ (u : Text). tripled (c ∷ d ∷ u)) (v .eq) ∙ third-no c d (v .byte) (v .more) (v .high) ∙ sym (third-no c d x es (v .far)))
+      (shape x (encodes es ++ z))
 
-tri-first : (cs : List ℕ) → tripled (encodes cs) ≡ tripled cs
-unfolding encodes
-tri-first [] = refl
-tri-first (c ∷ cs) =
-    ⊎-elim (λ z. ap tripled z ∙ tri-second c cs)
-    (λ z. ap tripled (z .eq) ∙ first-no (z .byte) (z .more) (z .high) ∙ sym (first-no c cs (z .far)))
-    (shape c (encodes cs))
+  tri-second : (c : ℕ) (ds : List ℕ) → tripled (c ∷ (encodes ds ++ z)) ≡ tripled (c ∷ ds)
+  unfolding encodes
+  tri-second c [] = go z e
+    where
+      go : (z : Text) → sequence-size z ≡ 0 → tripled (c ∷ z) ≡ false
+      go [] e = refl
+      go (b ∷ z) e = second-no c b z (bad-high b z e)
+  tri-second c (d ∷ ds) =
+      ap (λ (u : Text). tripled (c ∷ u)) (append-assoc (encode d) (encodes ds) z)
+      ∙ ⊎-elim (λ v. ap (λ (u : Text). tripled (c ∷ u)) v ∙ tri-third c d ds)
+      (λ v. ap (λ (u : Text). tripled (c ∷ u)) (v .eq) ∙ second-no c (v .byte) (v .more) (v .high) ∙ sym (second-no c d ds (v .far)))
+      (shape d (encodes ds ++ z))
+
+  tri-first : (cs : List ℕ) → tripled (encodes cs ++ z) ≡ tripled cs
+  unfolding encodes
+  tri-first [] = go z e
+    where
+      go : (z : Text) → sequence-size z ≡ 0 → tripled z ≡ false
+      go [] e = refl
+      go (b ∷ z) e = first-no b z (bad-high b z e)
+  tri-first (c ∷ cs) =
+      ap tripled (append-assoc (encode c) (encodes cs) z)
+      ∙ ⊎-elim (λ v. ap tripled v ∙ tri-second c cs)
+      (λ v. ap tripled (v .eq) ∙ first-no (v .byte) (v .more) (v .high) ∙ sym (first-no c cs (v .far)))
+      (shape c (encodes cs ++ z))
 
 -- ---- The beginning and the end of a run
 
-pub rest-start : (s : Text) (cs : List ℕ) → Encodes s cs → Rest s (start-of s) 0 0 0 cs
-rest-start s cs g = record {
+pub rest-start : (s : Text) (cs : List ℕ) (z : Text) → Front s cs z → Rest s (start-of s) 0 0 0 cs z
+rest-start s cs z g = record {
   ds = cs;
   left = g;
-  same = ap (λ (b : Bool). run (cond b long-terminals terminals) 0 0 0 cs) (ap tripled (g .bytes) ∙ tri-first cs) ∙ run-token cs;
+  same = ap (λ (b : Bool). run (cond b long-terminals terminals) 0 0 0 cs) (ap tripled (g .bytes) ∙ tri-first z (g .bad) cs) ∙ run-token cs;
 }
 
-pub rest-end : (s : Text) (q : State) (i kind len : ℕ) (cs : List ℕ) → length s ≤ i → Rest s q i kind len cs → tok kind len ≡ answer (token-at cs)
+pub rest-end : (s : Text) (q : State) (i kind len : ℕ) (cs : List ℕ) (z : Text) → length s ≤ i → Rest s q i kind len cs z → tok kind len ≡ answer (token-at cs)
 unfolding encodes
-rest-end s q i kind len cs h r = fin (r .ds) (r .left .bytes) (r .same)
+rest-end s q i kind len cs z h r = fin (r .ds) (r .left .bytes) (r .same)
   where
-    fin : (ds : List ℕ) → drop i s ≡ encodes ds → run q i kind len ds ≡ answer (token-at cs) → tok kind len ≡ answer (token-at cs)
-    fin [] e z = z
-    fin (c ∷ ds) e z =
-        let m = sym (length-drop i s) ∙ ap length e ∙ length-append (encode c) (encodes ds) in
+    fin : (ds : List ℕ) → drop i s ≡ encodes ds ++ z → run q i kind len ds ≡ answer (token-at cs) → tok kind len ≡ answer (token-at cs)
+    fin [] e w = w
+    fin (c ∷ ds) e w =
+        let m = sym (length-drop i s) ∙ ap length (e ∙ append-assoc (encode c) (encodes ds) z) ∙ length-append (encode c) (encodes ds ++ z) in
         let n = length-encode c in
         let o = width-pos c in
         absurd (omega arith)

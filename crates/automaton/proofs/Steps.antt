@@ -3,7 +3,7 @@
 use mathlib.Core.Path.{_≡_, refl, subst, sym, ap, _∙_}
 use mathlib.Core.Logic.{_⊎_, inl, inr, ⊎-elim}
 use mathlib.Core.Bool.{Bool, true, false, not, _&&_}
-use mathlib.Core.List.{List, [], _∷_, _++_}
+use mathlib.Core.List.{List, [], _∷_, _++_, append-assoc, append-nil}
 use Prim.Native.Nat.{ℕ, zero, suc, _+_, _≤_, _<_}
 use native.Mathlib.Omega.{arith}
 use native.Mathlib.Nat.{add-zero}
@@ -12,15 +12,16 @@ use lib.Dec.{T, eqb}
 use lib.ListN.{length, getD, drop, length-append, length-drop}
 use lib.Seq.{drop-at, drop-drop, getD-drop}
 use Rattle.text.specs.Text.{Text, cond}
-use Rattle.utf8.specs.Utf8.{encode, encodes, width}
-use Rattle.utf8.specs.Scalar.{Scalar, Scalars, Highs}
+use Rattle.utf8.specs.Utf8.{encode, encodes, width, sequences, fits, first-fit, sequence-size}
+use Rattle.utf8.specs.Scalar.{Scalar, Scalars, Encodes, Highs}
 use Rattle.utf8.proofs.Tests.{split, below, below-at, and-true, and-left, and-right}
 use Rattle.utf8.proofs.Encoding.{head, length-encode, width-pos, highs-encode}
-use Rattle.token.specs.Regular.{Match, nothing, hit, step, now-at}
+use Rattle.token.specs.Regular.{Match, nothing, hit, step, now-at, size}
 use Rattle.token.specs.Terminals.{terminals, long-terminals, tripled, token-at}
+use Rattle.token.proofs.Sizes.{length-encodes}
 use Rattle.automaton.specs.States.{State, ending, start, long-start, dead}
 use Rattle.automaton.specs.Levels.{Interval, interval, intervals, find, level-in, level}
-use Rattle.automaton.specs.Run.{tok, answer, seen-kind, seen-len, run, Rest, At, Inner, In, TokenAt}
+use Rattle.automaton.specs.Run.{tok, answer, seen-kind, seen-len, run, Front, Rest, Past, At, Inner, In, TokenAt}
 use Rattle.automaton.proofs.Same.{same-state, same-state-eq, same-match, same-match-eq}
 use Rattle.automaton.proofs.Uniform.{Holds, each, found-in, solid, step-solid}
 use Rattle.automaton.proofs.Runs.{start-of, rest-start, rest-end, dead-run}
@@ -126,76 +127,114 @@ seen-within : (m : Match) (i j len : ℕ) → len ≤ i → i ≤ j → seen-len
 seen-within nothing i j len h k = omega arith
 seen-within (hit k n) i j len h l = omega arith
 
-module _ (s : Text) (i c : ℕ) (ds : List ℕ) (d : drop i s ≡ encode c ++ encodes ds) where
-  pub first-byte : getD s i 0 ≡ getD (encode c ++ encodes ds) 0 0
+module _ (s : Text) (i c : ℕ) (u : Text) (d : drop i s ≡ encode c ++ u) where
+  pub first-byte : getD s i 0 ≡ getD (encode c ++ u) 0 0
   first-byte = ap (λ (n : ℕ). getD s n 0) (sym (add-zero i)) ∙ sym (getD-drop i s 0 0) ∙ ap (λ (x : Text). getD x 0 0) d
 
   -- The byte at a place says whether the code point there is below 128, and which.
   pub at-first : ((c < 0x80) × (getD s i 0 ≡ c)) ⊎ ((0x80 ≤ c) × (0x80 ≤ getD s i 0))
   at-first =
-      ⊎-elim (λ v. inl (v .0, first-byte ∙ v .1)) (λ v. inr (v .0, subst (λ (n : ℕ). 0x80 ≤ n) (sym first-byte) (v .1))) (head c (encodes ds))
+      ⊎-elim (λ v. inl (v .0, first-byte ∙ v .1)) (λ v. inr (v .0, subst (λ (n : ℕ). 0x80 ≤ n) (sym first-byte) (v .1))) (head c u)
 
   pub some-left : i < length s
   some-left =
-      let o = sym (length-drop i s) ∙ ap length d ∙ length-append (encode c) (encodes ds) in
+      let o = sym (length-drop i s) ∙ ap length d ∙ length-append (encode c) u in
       let p = length-encode c in
       let p′ = width-pos c in
       omega arith
 
   -- What is left after it.
-  pub next-left : (n : ℕ) → n ≡ width c → drop (i + n) s ≡ encodes ds
-  next-left n e = sym (drop-drop n i s) ∙ ap (drop n) d ∙ drop-at (encode c) (encodes ds) n (length-encode c ∙ sym e)
+  pub next-left : (n : ℕ) → n ≡ width c → drop (i + n) s ≡ u
+  next-left n e = sym (drop-drop n i s) ∙ ap (drop n) d ∙ drop-at (encode c) u n (length-encode c ∙ sym e)
 
-pub none-left : {X : Type 0} (s : Text) (i : ℕ) → drop i s ≡ [] → i < length s → X
-none-left s i d h = let o = sym (length-drop i s) ∙ ap length d in absurd (omega arith)
+-- ---- The end of the code points
+
+pub front-whole : {s : Text} {cs : List ℕ} → Encodes s cs → Front s cs []
+unfolding sequence-size first-fit sequences fits
+front-whole {s} {cs} e = record { scalars = e .scalars; bytes = e .bytes ∙ sym (append-nil (encodes cs)); bad = refl }
+
+-- The place, by those that are left there.
+pub front-place : {s : Text} {cs : List ℕ} {z : Text} → Front s cs z → (i : ℕ) → i ≤ length s → (ds : List ℕ) → drop i s ≡ encodes ds ++ z
+    → i + size width ds ≡ size width cs
+front-place {s} {cs} {z} e i h ds d =
+    let o = ap length (e .bytes) ∙ length-append (encodes cs) z in
+    let p = length-encodes cs in
+    let q = sym (length-drop i s) ∙ ap length d ∙ length-append (encodes ds) z in
+    let r = length-encodes ds in
+    omega arith
+
+-- A token that is seen behind their end ends there.
+past-on : (m : Match) (j kind len : ℕ) (cs : List ℕ) → size width cs < j → (len < size width cs → tok kind len ≡ answer (token-at cs))
+    → Past j (seen-kind m kind) (seen-len m j len) cs
+past-on nothing j kind len cs h w = record { behind = h; kept = w }
+past-on (hit k n) j kind len cs h w = record { behind = h; kept = λ l. absurd (omega arith) }
+
+-- The token at the end of a run.
+token : {s : Text} {i kind len : ℕ} → i ≤ length s → len ≤ i
+    → ((cs : List ℕ) (z : Text) → Front s cs z → (tok kind len ≡ answer (token-at cs)) ⊎ Past i kind len cs) → TokenAt s (tok kind len)
+token {s} {i} {kind} {len} h l f = record {
+  within = omega arith;
+  right = λ cs e.
+      ⊎-elim (λ w. w)
+      (λ p. let o = p .behind in let m = ap length (e .bytes) ∙ length-encodes cs in absurd (omega arith))
+      (f cs [] (front-whole e));
+  front = λ cs z e n. ⊎-elim (λ w. w) (λ p. p .kept n) (f cs z e);
+}
+
+-- Of UTF-8, the place is not behind.
+pub whole-rest : {s : Text} {q : State} {i kind len : ℕ} → At s q i kind len → (cs : List ℕ) → Encodes s cs → Rest s q i kind len cs []
+whole-rest g cs e =
+    ⊎-elim (λ r. r)
+    (λ p. let o = p .behind in let h = g .within in let m = ap length (e .bytes) ∙ length-encodes cs in absurd (omega arith))
+    (g .rest cs [] (front-whole e))
 
 -- ---- One code point on
 
 module _ {s : Text} {q : State} {i kind len : ℕ} (g : At s q i kind len) where
   -- The next code point leads to q2, whatever it is, and has n bytes.
   pub by-code-point : (q2 : State) (n : ℕ) → i + n ≤ length s → (0 < n)
-      → ((c : ℕ) (ds : List ℕ) → Scalar c → drop i s ≡ encode c ++ encodes ds → (n ≡ width c) × (step c q ≡ q2))
+      → ((c : ℕ) (u : Text) → Scalar c → drop i s ≡ encode c ++ u → (n ≡ width c) × (step c q ≡ q2))
       → At s q2 (i + n) (seen-kind (now-at q2) kind) (seen-len (now-at q2) (i + n) len)
   unfolding encodes
   by-code-point q2 n h p f = record {
     within = h;
     last = seen-within (now-at q2) i (i + n) len (g .last) (omega arith);
-    rest = λ cs e. let r = g .rest cs e in fin cs (r .ds) (r .left .scalars) (r .left .bytes) (r .same);
+    rest = λ cs z e.
+        ⊎-elim (λ r. fin cs z e (r .ds) (r .left .scalars) (r .left .bytes) (r .same))
+        (λ r. let o = r .behind in inr (past-on (now-at q2) (i + n) kind len cs (omega arith) (r .kept)))
+        (g .rest cs z e);
   }
     where
-      fin : (cs ds : List ℕ) → Scalars ds → drop i s ≡ encodes ds → run q i kind len ds ≡ answer (token-at cs)
-          → Rest s q2 (i + n) (seen-kind (now-at q2) kind) (seen-len (now-at q2) (i + n) len) cs
-      fin cs [] sc d z = none-left s i d (omega arith)
-      fin cs (c ∷ ds) sc d z =
-          let v = f c ds (sc .0) d in
-          record {
+      fin : (cs : List ℕ) (z : Text) → Front s cs z → (ds : List ℕ) → Scalars ds → drop i s ≡ encodes ds ++ z → run q i kind len ds ≡ answer (token-at cs)
+          → Rest s q2 (i + n) (seen-kind (now-at q2) kind) (seen-len (now-at q2) (i + n) len) cs z ⊎ Past (i + n) (seen-kind (now-at q2) kind) (seen-len (now-at q2) (i + n) len) cs
+      fin cs z e [] sc d w = let o = front-place e i (g .within) [] d in inr (past-on (now-at q2) (i + n) kind len cs (omega arith) (λ _. w))
+      fin cs z e (c ∷ ds) sc d w =
+          let d′ = d ∙ append-assoc (encode c) (encodes ds) z in
+          let v = f c (encodes ds ++ z) (sc .0) d′ in
+          inl
+          (record {
             ds = ds;
-            left = record { scalars = sc .1; bytes = next-left s i c ds d n (v .0) };
-            same = rw (v .0, ← v .1) z;
-          }
+            left = record { scalars = sc .1; bytes = next-left s i c (encodes ds ++ z) d′ n (v .0); bad = e .bad };
+            same = rw (v .0, ← v .1) w;
+          })
 
   -- The next code point leads nowhere, if there is one.
-  pub by-nothing : ((c : ℕ) (ds : List ℕ) → Scalar c → drop i s ≡ encode c ++ encodes ds → step c q ≡ dead) → TokenAt s (tok kind len)
+  pub by-nothing : ((c : ℕ) (u : Text) → Scalar c → drop i s ≡ encode c ++ u → step c q ≡ dead) → TokenAt s (tok kind len)
   unfolding encodes
-  by-nothing f = record {
-    within = let a = g .within in let b = g .last in omega arith;
-    right = λ cs e. let r = g .rest cs e in fin cs (r .ds) (r .left .scalars) (r .left .bytes) (r .same);
-  }
+  by-nothing f = token (g .within) (g .last) (λ cs z e. ⊎-elim (λ r. inl (fin cs z (r .ds) (r .left .scalars) (r .left .bytes) (r .same))) inr (g .rest cs z e))
     where
-      fin : (cs ds : List ℕ) → Scalars ds → drop i s ≡ encodes ds → run q i kind len ds ≡ answer (token-at cs) → tok kind len ≡ answer (token-at cs)
-      fin cs [] sc d z = z
-      fin cs (c ∷ ds) sc d z =
-          let y : run dead (i + width c) kind len ds ≡ answer (token-at cs) = rw (f c ds (sc .0) d) at z in
+      fin : (cs : List ℕ) (z : Text) (ds : List ℕ) → Scalars ds → drop i s ≡ encodes ds ++ z → run q i kind len ds ≡ answer (token-at cs)
+          → tok kind len ≡ answer (token-at cs)
+      fin cs z [] sc d w = w
+      fin cs z (c ∷ ds) sc d w =
+          let y : run dead (i + width c) kind len ds ≡ answer (token-at cs) = rw (f c (encodes ds ++ z) (sc .0) (d ∙ append-assoc (encode c) (encodes ds) z)) at w in
           sym (dead-run ds (i + width c) kind len) ∙ y
 
   pub at-dead : q ≡ dead → TokenAt s (tok kind len)
-  at-dead e = by-nothing (λ c ds sc d. ap (step c) e)
+  at-dead e = by-nothing (λ c u sc d. ap (step c) e)
 
   pub at-end : length s ≤ i → TokenAt s (tok kind len)
-  at-end h = record {
-    within = let a = g .within in let b = g .last in omega arith;
-    right = λ cs e. rest-end s q i kind len cs h (g .rest cs e);
-  }
+  at-end h = token (g .within) (g .last) (λ cs z e. ⊎-elim (λ r. inl (rest-end s q i kind len cs z h r)) inr (g .rest cs z e))
 
   -- A state that does as another does, but for bytes that pass f, where no such byte stands.
   pub as-other : {q2 : State} {f : ℕ → Bool} → Alias q q2 f → (i < length s → f (getD s i 0) ≡ false) → At s q2 i kind len
@@ -203,14 +242,20 @@ module _ {s : Text} {q : State} {i kind len : ℕ} (g : At s q i kind len) where
   as-other {q2} {f} t n = record {
     within = g .within;
     last = g .last;
-    rest = λ cs e. let r = g .rest cs e in record { ds = r .ds; left = r .left; same = sym (fin (r .ds) (r .left .scalars) (r .left .bytes)) ∙ r .same };
+    rest = λ cs z e.
+        ⊎-elim
+        (λ r. inl (record { ds = r .ds; left = r .left; same = sym (fin z (r .ds) (r .left .scalars) (r .left .bytes)) ∙ r .same }))
+        inr
+        (g .rest cs z e);
   }
     where
-      fin : (ds : List ℕ) → Scalars ds → drop i s ≡ encodes ds → run q i kind len ds ≡ run q2 i kind len ds
-      fin [] sc d = refl
-      fin (c ∷ ds) sc d =
+      fin : (z : Text) (ds : List ℕ) → Scalars ds → drop i s ≡ encodes ds ++ z → run q i kind len ds ≡ run q2 i kind len ds
+      fin z [] sc d = refl
+      fin z (c ∷ ds) sc d =
+          let d′ = d ∙ append-assoc (encode c) (encodes ds) z in
           ap (λ (x : State). run x (i + width c) (seen-kind (now-at x) kind) (seen-len (now-at x) (i + width c) len) ds)
-          (⊎-elim (λ v. low-alias t c (v .0) (ap f (sym (v .1)) ∙ n (some-left s i c ds d))) (λ v. high-alias t c (v .0) (sc .0 .0)) (at-first s i c ds d))
+          (⊎-elim (λ v. low-alias t c (v .0) (ap f (sym (v .1)) ∙ n (some-left s i c (encodes ds ++ z) d′))) (λ v. high-alias t c (v .0) (sc .0 .0))
+          (at-first s i c (encodes ds ++ z) d′))
 
 -- ---- A byte below 128 that passes f ..
 
@@ -219,11 +264,11 @@ module _ {s : Text} {q : State} {i kind len : ℕ} {f : ℕ → Bool} {q2 : Stat
   by-byte t =
       rw (sent-kind t) at
       (by-code-point g q2 1 (omega arith) (omega arith)
-      (λ c ds sc d.
+      (λ c u sc d.
       ⊎-elim
       (λ v. (let x = v .0 in simp (lt-ltb c 0x80 x), ap (λ (b : ℕ). step b q) (sym (v .1)) ∙ sent-to t (getD s i 0) l e))
       (λ v. let x = v .1 in absurd (omega arith))
-      (at-first s i c ds d)))
+      (at-first s i c u d)))
 
   -- .. leads to a state where no token ends
   pub pass : Sent q f q2 0 → At s q2 (i + 1) kind len
@@ -245,11 +290,11 @@ module _ {s : Text} {q : State} {i kind len : ℕ} (g : At s q i kind len) where
   pub done : {f : ℕ → Bool} → Ends q f → (i < length s → f (getD s i 0) ≡ false) → TokenAt s (tok kind len)
   done {f} t n =
       by-nothing g
-      (λ c ds sc d.
+      (λ c u sc d.
       ⊎-elim
-      (λ v. sent-to (t .low) c (v .0) (ap not (ap f (sym (v .1)) ∙ n (some-left s i c ds d))))
+      (λ v. sent-to (t .low) c (v .0) (ap not (ap f (sym (v .1)) ∙ n (some-left s i c u d))))
       (λ v. high-to (t .high) c (v .0) (sc .0) refl)
-      (at-first s i c ds d))
+      (at-first s i c u d))
 
   pub stop : Ends q never → TokenAt s (tok kind len)
   stop t = done t (λ _. refl)
@@ -261,9 +306,11 @@ module _ {s : Text} {q : State} {i kind len : ℕ} where
   at-in g = record {
     within = g .within;
     last = g .last;
-    rest = λ cs e.
-        let r = g .rest cs e in
-        record { mid = []; high = tt; ds = r .ds; scalars = r .left .scalars; bytes = r .left .bytes; same = rw (add-zero i) (r .same) };
+    rest = λ cs z e.
+        ⊎-elim
+        (λ r. inl (record { mid = []; high = tt; ds = r .ds; scalars = r .left .scalars; bytes = r .left .bytes; same = rw (add-zero i) (r .same) }))
+        inr
+        (g .rest cs z e);
   }
 
   -- A byte below 128 stands between code points.
@@ -271,63 +318,68 @@ module _ {s : Text} {q : State} {i kind len : ℕ} where
   in-at g h l = record {
     within = g .within;
     last = g .last;
-    rest = λ cs e. let r = g .rest cs e in fin cs (r .ds) (r .scalars) (r .mid) (r .high) (r .bytes) (r .same);
+    rest = λ cs z e. ⊎-elim (λ r. inl (fin cs z e (r .ds) (r .scalars) (r .mid) (r .high) (r .bytes) (r .same))) inr (g .rest cs z e);
   }
     where
-      fin : (cs ds : List ℕ) → Scalars ds → (m : Text) → Highs m → drop i s ≡ m ++ encodes ds → run q (i + length m) kind len ds ≡ answer (token-at cs)
-          → Rest s q i kind len cs
-      fin cs ds sc [] v d z = record { ds = ds; left = record { scalars = sc; bytes = d }; same = rw (add-zero i) at z }
-      fin cs ds sc (b ∷ m) v d z =
+      fin : (cs : List ℕ) (z : Text) → Front s cs z → (ds : List ℕ) → Scalars ds → (m : Text) → Highs m → drop i s ≡ m ++ (encodes ds ++ z)
+          → run q (i + length m) kind len ds ≡ answer (token-at cs) → Rest s q i kind len cs z
+      fin cs z e ds sc [] v d w = record { ds = ds; left = record { scalars = sc; bytes = d; bad = e .bad }; same = rw (add-zero i) at w }
+      fin cs z e ds sc (b ∷ m) v d w =
           let f : getD s i 0 ≡ b = ap (λ (n : ℕ). getD s n 0) (sym (add-zero i)) ∙ sym (getD-drop i s 0 0) ∙ ap (λ (x : Text). getD x 0 0) d in
           let x = v .0 in
           absurd (omega arith)
 
   pub in-end : In s q i kind len → length s ≤ i → TokenAt s (tok kind len)
-  in-end g h = record {
-    within = let a = g .within in let b = g .last in omega arith;
-    right = λ cs e. let r = g .rest cs e in fin cs (r .ds) (r .scalars) (r .mid) (r .bytes) (r .same);
-  }
+  in-end g h =
+      token (g .within) (g .last) (λ cs z e. ⊎-elim (λ r. inl (fin cs z e (r .ds) (r .scalars) (r .mid) (r .bytes) (r .same))) inr (g .rest cs z e))
     where
-      fin : (cs ds : List ℕ) → Scalars ds → (m : Text) → drop i s ≡ m ++ encodes ds → run q (i + length m) kind len ds ≡ answer (token-at cs)
-          → tok kind len ≡ answer (token-at cs)
-      fin cs ds sc [] d z =
-          rest-end s q i kind len cs h (record { ds = ds; left = record { scalars = sc; bytes = d }; same = rw (add-zero i) at z })
-      fin cs ds sc (b ∷ m) d z = let o = sym (length-drop i s) ∙ ap length d in absurd (omega arith)
+      fin : (cs : List ℕ) (z : Text) → Front s cs z → (ds : List ℕ) → Scalars ds → (m : Text) → drop i s ≡ m ++ (encodes ds ++ z)
+          → run q (i + length m) kind len ds ≡ answer (token-at cs) → tok kind len ≡ answer (token-at cs)
+      fin cs z e ds sc [] d w =
+          rest-end s q i kind len cs z h (record { ds = ds; left = record { scalars = sc; bytes = d; bad = e .bad }; same = rw (add-zero i) at w })
+      fin cs z e ds sc (b ∷ m) d w = let o = sym (length-drop i s) ∙ ap length d in absurd (omega arith)
 
 next-mid : (s : Text) (i b : ℕ) (m u : Text) → drop i s ≡ b ∷ (m ++ u) → drop (i + 1) s ≡ m ++ u
 next-mid s i b m u d = sym (drop-drop 1 i s) ∙ ap (drop 1) d
 
 module _ (s : Text) {q q2 : State} (i kind len : ℕ) (t : HighMoves q q2) (h : i < length s) (l : 128 ≤ getD s i 0) where
-  -- The first byte of a code point that leads on.
-  enter : (cs ds : List ℕ) → Scalars ds → drop i s ≡ encodes ds → run q i kind len ds ≡ answer (token-at cs) → Inner s q2 (i + 1) kind len cs
+  -- The first byte of a code point that leads on, or the byte behind the last one.
+  enter : (cs : List ℕ) (z : Text) → Front s cs z → (ds : List ℕ) → Scalars ds → drop i s ≡ encodes ds ++ z → run q i kind len ds ≡ answer (token-at cs)
+      → Inner s q2 (i + 1) kind len cs z ⊎ Past (i + 1) kind len cs
   unfolding encodes
-  enter cs [] sc d z = none-left s i d h
-  enter cs (c ∷ ds) sc d z =
+  enter cs z e [] sc d w = let o = front-place e i (omega arith) [] d in inr (record { behind = omega arith; kept = λ _. w })
+  enter cs z e (c ∷ ds) sc d w =
+      let d′ = d ∙ append-assoc (encode c) (encodes ds) z in
       ⊎-elim (λ v. let x = v .0 in let y = v .1 in absurd (omega arith))
       (λ v.
-      more (encode c) (highs-encode c (v .0)) (length-encode c) d (high-to (t .moves) c (v .0) (sc .0 .0) refl))
-      (at-first s i c ds d)
+      inl (more (encode c) (highs-encode c (v .0)) (length-encode c) d′ (high-to (t .moves) c (v .0) (sc .0 .0) refl)))
+      (at-first s i c (encodes ds ++ z) d′)
     where
-      more : (m : Text) → Highs m → length m ≡ width c → drop i s ≡ m ++ encodes ds → step c q ≡ q2 → Inner s q2 (i + 1) kind len cs
+      more : (m : Text) → Highs m → length m ≡ width c → drop i s ≡ m ++ (encodes ds ++ z) → step c q ≡ q2 → Inner s q2 (i + 1) kind len cs z
       more [] v e d n = let o = width-pos c in absurd (omega arith)
       more (b ∷ m) v e d n =
-          let y : run q2 (i + width c) kind len ds ≡ answer (token-at cs) = rw (n, sent-kind (t .silent)) at z in
+          let y : run q2 (i + width c) kind len ds ≡ answer (token-at cs) = rw (n, sent-kind (t .silent)) at w in
           let o : i + width c ≡ i + 1 + length m = omega arith in
           record {
             mid = m;
             high = v .1;
             ds = ds;
             scalars = sc .1;
-            bytes = next-mid s i b m (encodes ds) d;
+            bytes = next-mid s i b m (encodes ds ++ z) d;
             same = subst (λ (n : ℕ). run q2 n kind len ds ≡ answer (token-at cs)) o y;
           }
+
+  past-one : (cs : List ℕ) → Past i kind len cs → Past (i + 1) kind len cs
+  past-one cs r = record { behind = let o = r .behind in omega arith; kept = r .kept }
 
 -- A byte from 128 on, between two code points.
 pub over-to : {s : Text} {q q2 : State} {i kind len : ℕ} → HighMoves q q2 → At s q i kind len → i < length s → 128 ≤ getD s i 0 → In s q2 (i + 1) kind len
 over-to {s} {q} {q2} {i} {kind} {len} t g h l = record {
   within = omega arith;
   last = let a = g .last in omega arith;
-  rest = λ cs e. let r = g .rest cs e in enter s i kind len t h l cs (r .ds) (r .left .scalars) (r .left .bytes) (r .same);
+  rest = λ cs z e.
+      ⊎-elim (λ r. enter s i kind len t h l cs z e (r .ds) (r .left .scalars) (r .left .bytes) (r .same)) (λ r. inr (past-one s i kind len t h l cs r))
+      (g .rest cs z e);
 }
 
 -- A byte from 128 on, in a state that no code point from 128 on leaves.
@@ -335,27 +387,29 @@ pub over : {s : Text} {q : State} {i kind len : ℕ} → HighMoves q q → In s 
 over {s} {q} {i} {kind} {len} t g h l = record {
   within = omega arith;
   last = let a = g .last in omega arith;
-  rest = λ cs e. let r = g .rest cs e in fin cs (r .mid) (r .high) (r .ds) (r .scalars) (r .bytes) (r .same);
+  rest = λ cs z e.
+      ⊎-elim (λ r. fin cs z e (r .mid) (r .high) (r .ds) (r .scalars) (r .bytes) (r .same)) (λ r. inr (past-one s i kind len t h l cs r)) (g .rest cs z e);
 }
   where
-    fin : (cs : List ℕ) (m : Text) → Highs m → (ds : List ℕ) → Scalars ds → drop i s ≡ m ++ encodes ds → run q (i + length m) kind len ds ≡ answer (token-at cs)
-        → Inner s q (i + 1) kind len cs
-    fin cs [] v ds sc d z = enter s i kind len t h l cs ds sc d (rw (add-zero i) at z)
-    fin cs (b ∷ m) v ds sc d z =
+    fin : (cs : List ℕ) (z : Text) → Front s cs z → (m : Text) → Highs m → (ds : List ℕ) → Scalars ds → drop i s ≡ m ++ (encodes ds ++ z)
+        → run q (i + length m) kind len ds ≡ answer (token-at cs) → Inner s q (i + 1) kind len cs z ⊎ Past (i + 1) kind len cs
+    fin cs z e [] v ds sc d w = enter s i kind len t h l cs z e ds sc d (rw (add-zero i) at w)
+    fin cs z e (b ∷ m) v ds sc d w =
         let o : i + suc (length m) ≡ i + 1 + length m = omega arith in
-        record {
+        inl
+        (record {
           mid = m;
           high = v .1;
           ds = ds;
           scalars = sc;
-          bytes = next-mid s i b m (encodes ds) d;
-          same = subst (λ (n : ℕ). run q n kind len ds ≡ answer (token-at cs)) o z;
-        }
+          bytes = next-mid s i b m (encodes ds ++ z) d;
+          same = subst (λ (n : ℕ). run q n kind len ds ≡ answer (token-at cs)) o w;
+        })
 
 -- ---- The beginning
 
 begins-in : (s : Text) (q : State) → start-of s ≡ q → At s q 0 0 0
-begins-in s q e = record { within = omega arith; last = omega arith; rest = λ cs g. rw e at (rest-start s cs g) }
+begins-in s q e = record { within = omega arith; last = omega arith; rest = λ cs z g. inl (rw e at (rest-start s cs z g)) }
 
 pub begin-long : (s : Text) → tripled s ≡ true → At s long-start 0 0 0
 unfolding long-start

@@ -11,7 +11,7 @@ use lib.Dec.{leb}
 use lib.ListN.{length, getD, take, drop, length-drop}
 use lib.Seq.{getD-drop, take-at}
 use Rattle.text.specs.Text.{Text, cond}
-use Rattle.utf8.specs.Utf8.{Range, sequence-size, code-point, encode, encodes, width}
+use Rattle.utf8.specs.Utf8.{Range, sequence-size, code-point, encode, width}
 use Rattle.utf8.specs.Scalar.{Scalar}
 use Rattle.utf8.proofs.Tests.{split}
 use Rattle.utf8.proofs.Encoding.{head, length-encode, width-pos, size-encode, size-reads}
@@ -154,14 +154,14 @@ module _ {s : Text} {q : State} {i kind len : ℕ} {rs : List Range} {least n : 
   char-on {q2} {k} t z =
       rw (sent-kind (t .low)) at
       (by-code-point g q2 n (ch .within) (omega arith)
-      (λ c ds sc d.
-      let v = cond-pos (passes rs least c) (width c) n (ch .right c (encodes ds) sc d) z in
+      (λ c u sc d.
+      let v = cond-pos (passes rs least c) (width c) n (ch .right c u sc d) z in
       (v .1, point-to t c sc (v .0))))
 
   pub char-off : {f : ℕ → Bool} → CharEnds q rs least f → n ≡ 0 → (i < length s → f (getD s i 0) ≡ false) → TokenAt s (tok kind len)
   char-off {f} t z no′ =
       by-nothing g
-      (λ c ds sc d.
-      let v : passes rs least c ≡ false = cond-zero (passes rs least c) (width c) n (width-pos c) (ch .right c (encodes ds) sc d) z in
+      (λ c u sc d.
+      let v : passes rs least c ≡ false = cond-zero (passes rs least c) (width c) n (width-pos c) (ch .right c u sc d) z in
       point-dead t c sc v
-      (λ l. ⊎-elim (λ x. ap f (sym (x .1)) ∙ no′ (some-left s i c ds d)) (λ x. let y = x .0 in absurd (omega arith)) (at-first s i c ds d)))
+      (λ l. ⊎-elim (λ x. ap f (sym (x .1)) ∙ no′ (some-left s i c u d)) (λ x. let y = x .0 in absurd (omega arith)) (at-first s i c u d)))

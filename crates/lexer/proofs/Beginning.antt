@@ -9,9 +9,9 @@ use borrow.Author.Tests.{eq-eqb, ne-eqb, le-leb}
 use lib.Dec.{T, eqb, ltb, ltb→lt}
 use lib.ListN.{length, getD, drop}
 use Rattle.text.specs.Text.{Text, cond}
-use Rattle.utf8.specs.Utf8.{Range, _–_}
+use Rattle.utf8.specs.Utf8.{Range, _–_, width}
 use Rattle.utf8.proofs.Tests.{by, below, below-at, and-true}
-use Rattle.token.specs.Regular.{in-ranges, step}
+use Rattle.token.specs.Regular.{in-ranges, step, size}
 use Rattle.automaton.specs.Levels.{intervals}
 use Rattle.automaton.specs.States.{start, dead, after-sign, in-integer, after-dot, after-at, after-underscore, after-colon, after-caret, after-carets, open-states}
 use Rattle.automaton.specs.Run.{tok, At, TokenAt}
@@ -147,4 +147,5 @@ next-is s clear t r g e =
       within = subst (λ (x : ℕ). x ≤ length s) (sym (e .1)) (g .within);
       right = λ v c. ap₂ tok (e .0) (e .1) ∙ n .right v c;
       ahead = λ v c. subst (λ (x : ℕ). Clear (drop x s) (r .clear)) (sym (e .1)) (subst (Clear (drop (t .len) s)) (sym (e .2)) (n .ahead v c));
+      front = λ _ cs z f h. ap₂ tok (e .0) (e .1) ∙ g .front cs z f (subst (λ (x : ℕ). x < size width cs) (e .1) h);
     }

@@ -1,10 +1,11 @@
 -- Blanks and comments, byte by byte and code point by code point.
 use mathlib.Core.Path.{_≡_, refl, subst, sym, ap, ap₂, _∙_}
-use mathlib.Core.Logic.{⊎-elim}
+use mathlib.Core.Logic.{_⊎_, inl, inr, ⊎-elim}
 use mathlib.Core.Bool.{Bool, true, false, not, _||_}
-use mathlib.Core.List.{List, [], _∷_, _++_}
+use mathlib.Core.List.{List, [], _∷_, _++_, append-assoc, append-nil}
 use Prim.Native.Nat.{ℕ, suc, _+_, _≤_, _<_}
 use native.Mathlib.Omega.{arith}
+use native.Mathlib.Nat.{zero-add}
 use native.Mathlib.Numerals.{add-one}
 use borrow.Author.Tests.{lt-ltb, ne-eqb, eq-eqb, eqb-true}
 use lib.Dec.{T}
@@ -16,9 +17,9 @@ use Rattle.utf8.specs.Scalar.{Highs}
 use Rattle.utf8.proofs.Tests.{by, split, below, below-at, same, same-eq}
 use Rattle.utf8.proofs.Encoding.{length-encode, width-pos, highs-encode}
 use Rattle.utf8.proofs.Decoding.{valid-encoded}
-use Rattle.token.specs.Regular.{in-ranges}
+use Rattle.token.specs.Regular.{in-ranges, size}
 use Rattle.token.specs.Tokens.{white-space, line-end}
-use Rattle.token.proofs.Cutting.{high-blank}
+use Rattle.token.proofs.Cutting.{blank-width, high-blank}
 use Rattle.lexer.specs.Blanks.{blanks, white-spaces, skips, CommentTo, BlanksAt}
 
 -- A byte or code point from 128 on ends no line.
@@ -30,28 +31,55 @@ unfolding skips
 skips-highs [] t v = omega arith
 skips-highs (b ∷ m) t v = rw (high-line b (v .0)) (ap suc (skips-highs m t (v .1)) ∙ omega arith)
 
-pub skips-encodes : (b : Bool) (cs : List ℕ) → skips b (encodes cs) ≡ blanks b cs
-unfolding skips blanks encodes
-skips-encodes true [] = refl
-skips-encodes false [] = refl
-skips-encodes true (c ∷ cs) =
-    let ih = skips-encodes (not (line-end c)) cs in
+-- One code point.
+skips-comment : (c : ℕ) (t : Text) → skips true (encode c ++ t) ≡ width c + skips (not (line-end c)) t
+unfolding skips
+skips-comment c t =
     ⊎-elim (λ h. simp (lt-ltb c 0x80 h) (omega arith))
-    (λ h.
-    let e = high-line c h in
-    let ih′ : skips true (encodes cs) ≡ blanks true cs = rw e at ih in
-    skips-highs (encode c) (encodes cs) (highs-encode c h)
-    ∙ ap₂ _+_ (length-encode c) (ih′ ∙ ap (λ (v : Bool). blanks (not v) cs) (sym e)))
+    (λ h. rw (high-line c h) (skips-highs (encode c) t (highs-encode c h) ∙ ap (λ (n : ℕ). n + skips true t) (length-encode c)))
     (split c 0x80)
-skips-encodes false (c ∷ cs) =
-    let ih = skips-encodes (is "#" c) cs in
-    ⊎-elim (λ h. simp (lt-ltb c 0x80 h) (ap (λ (n : ℕ). cond (white-space c || is "#" c) (suc n) 0) ih))
-    (λ h. high (encode c) (highs-encode c h) (length-encode c) ∙ sym (ap (λ (v : Bool). cond v (suc (blanks (is "#" c) cs)) 0) (high-blank c h)))
+
+skips-blank : (c : ℕ) (t : Text) → skips false (encode c ++ t) ≡ cond (white-space c || is "#" c) (suc (skips (is "#" c) t)) 0
+unfolding skips
+skips-blank c t =
+    ⊎-elim (λ h. simp (lt-ltb c 0x80 h))
+    (λ h. high (encode c) (highs-encode c h) (length-encode c) ∙ sym (ap (λ (v : Bool). cond v (suc (skips (is "#" c) t)) 0) (high-blank c h)))
     (split c 0x80)
   where
-    high : (m : Text) → Highs m → length m ≡ width c → skips false (m ++ encodes cs) ≡ 0
+    high : (m : Text) → Highs m → length m ≡ width c → skips false (m ++ t) ≡ 0
     high [] v e = let o = width-pos c in absurd (omega arith)
-    high (b ∷ m) v e = ap (λ (v : Bool). cond v (suc (skips (is "#" b) (m ++ encodes cs))) 0) (high-blank b (v .0))
+    high (b ∷ m) v e = ap (λ (v : Bool). cond v (suc (skips (is "#" b) (m ++ t))) 0) (high-blank b (v .0))
+
+-- The code points are blanks and comments, all of them.
+record Through (b : Bool) (cs : List ℕ) (z : Text) : Type 0 where
+  state : Bool
+  all : blanks b cs ≡ size width cs
+  more : skips b (encodes cs ++ z) ≡ size width cs + skips state z
+
+skips-front : (b : Bool) (cs : List ℕ) (z : Text) → (skips b (encodes cs ++ z) ≡ blanks b cs) ⊎ Through b cs z
+unfolding blanks encodes
+skips-front true [] z = inr (record { state = true; all = refl; more = sym (zero-add (skips true z)) })
+skips-front false [] z = inr (record { state = false; all = refl; more = sym (zero-add (skips false z)) })
+skips-front true (c ∷ cs) z =
+    let e : skips true (encodes (c ∷ cs) ++ z) ≡ width c + skips (not (line-end c)) (encodes cs ++ z) =
+    ap (skips true) (append-assoc (encode c) (encodes cs) z) ∙ skips-comment c (encodes cs ++ z) in
+    ⊎-elim (λ x. inl (e ∙ ap (λ (n : ℕ). width c + n) x))
+    (λ r. let m = r .more in inr (record { state = r .state; all = ap (λ (n : ℕ). width c + n) (r .all); more = omega arith }))
+    (skips-front (not (line-end c)) cs z)
+skips-front false (c ∷ cs) z =
+    let e : skips false (encodes (c ∷ cs) ++ z) ≡ cond (white-space c || is "#" c) (suc (skips (is "#" c) (encodes cs ++ z))) 0 =
+    ap (skips false) (append-assoc (encode c) (encodes cs) z) ∙ skips-blank c (encodes cs ++ z) in
+    by (white-space c || is "#" c)
+    (λ w.
+    let o = blank-width c w in
+    let e′ : skips false (encodes (c ∷ cs) ++ z) ≡ suc (skips (is "#" c) (encodes cs ++ z)) = rw w at e in
+    ⊎-elim (λ x. inl (e′ ∙ rw w (ap suc x)))
+    (λ r.
+    let m = r .more in
+    let n = r .all in
+    inr (record { state = r .state; all = rw w (let y : suc (blanks (is "#" c) cs) ≡ width c + size width cs = omega arith in y); more = omega arith }))
+    (skips-front (is "#" c) cs z))
+    (λ w. inl (e ∙ rw w))
 
 -- ---- The routines
 
@@ -109,9 +137,12 @@ module _ (s : Text) (i : ℕ) (e : skips false s ≡ i + skips false (drop i s))
   blanks-at w z = record {
     within = w;
     right = λ v.
-        let g = valid-encoded s v in
-        let k : skips false s ≡ blanks false (decode s) = ap (skips false) (g .bytes) ∙ skips-encodes false (decode s) in
-        omega arith;
+        let cs = decode s in
+        let g = ap (skips false) (valid-encoded s v .bytes ∙ sym (append-nil (encodes cs))) in
+        ⊎-elim (λ x. omega arith) (λ r. let o = r .all in let m = r .more in let n = nil-skips (r .state) in omega arith) (skips-front false cs []);
+    front = λ cs u f h.
+        let g = ap (skips false) (f .bytes) in
+        ⊎-elim (λ x. omega arith) (λ r. let m = r .more in absurd (omega arith)) (skips-front false cs u);
   }
 
   pub blanks-end : i ≤ length s → length s ≤ i → BlanksAt s i

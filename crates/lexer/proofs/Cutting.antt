@@ -155,7 +155,7 @@ taken c cs k n e =
         record { front = l .front; back = l .back; whole = l .whole; bytes = sym z ∙ ap (λ (y : ℕ). width c + y) b }
 
 -- No token is of the kind 0.
-some-kind : (cs : List ℕ) (n : ℕ) → token-at cs ≡ hit 0 n → ⊥
+pub some-kind : (cs : List ℕ) (n : ℕ) → token-at cs ≡ hit 0 n → ⊥
 unfolding token-at
 some-kind cs n e =
     by (tripled cs)
@@ -201,10 +201,10 @@ module _ (doc : Text) (at b : ℕ) (v : first-bad (drop at doc) ≡ none) (e : b
             ∙ drop-at (encodes (p .front)) (encodes (after-blanks false text)) b (length-encodes (p .front) ∙ sym (e ∙ p .sized));
       }
 
-  blanks-valid : first-bad (drop (at + b) doc) ≡ none
+  pub blanks-valid : first-bad (drop (at + b) doc) ≡ none
   blanks-valid = encoded-valid (drop (at + b) doc) (after-blanks false text) left .0
 
-  blanks-text : decode (drop (at + b) doc) ≡ after-blanks false text
+  pub blanks-text : decode (drop (at + b) doc) ≡ after-blanks false text
   blanks-text = encoded-valid (drop (at + b) doc) (after-blanks false text) left .1
 
   -- Blanks change nothing of what is known ahead.
@@ -219,7 +219,7 @@ module _ (doc : Text) (at b : ℕ) (v : first-bad (drop at doc) ≡ none) (e : b
   rest-blanks = lexemes-blanks doc false text at ∙ ap (λ (n : ℕ). lexemes-from doc between (at + n) (after-blanks false text)) (sym e)
 
   -- At the end of the document.
-  cut-end : length doc ≤ at + b → rest doc at ≡ []
+  pub cut-end : length doc ≤ at + b → rest doc at ≡ []
   unfolding lexemes-from encodes
   cut-end h = rest-blanks ∙ fin (after-blanks false text) (sym (left .bytes) ∙ drop-of-length-le doc {i = at + b} h)
     where
@@ -236,7 +236,7 @@ module _ (doc : Text) (at b : ℕ) (v : first-bad (drop at doc) ≡ none) (e : b
     what = f ∙ ap (λ (x : List ℕ). answer (token-at x)) blanks-text
 
     -- No token can be read.
-    cut-none : at + b < length doc → k ≡ 0 → rest doc at ≡ unreadable (at + b) ∷ []
+    pub cut-none : at + b < length doc → k ≡ 0 → rest doc at ≡ unreadable (at + b) ∷ []
     unfolding encodes
     cut-none h z = rest-blanks ∙ fin (after-blanks false text) refl what
       where
@@ -251,7 +251,7 @@ module _ (doc : Text) (at b : ℕ) (v : first-bad (drop at doc) ≡ none) (e : b
                 absurd (some-kind (c ∷ cs) x (u ∙ ap (λ (i : ℕ). hit i x) y))
 
     -- A token.
-    abbrev CutToken : Type 0
+    abbrev pub CutToken : Type 0
     CutToken =
         (rest doc at ≡ token (record { kind = kind-of-code k; start = at + b; text = take n (drop (at + b) doc) }) ∷ rest doc (at + b + n))
         × ((first-bad (drop (at + b + n) doc) ≡ none) × ((k ≤ 30) × (0 < n)))
@@ -277,7 +277,7 @@ module _ (doc : Text) (at b : ℕ) (v : first-bad (drop at doc) ≡ none) (e : b
           (q .0, (few-kinds (c ∷ cs) k n u, let w = width-pos c in omega arith)),
         )
 
-    cut-token : (k ≡ 0 → ⊥) → CutToken
+    pub cut-token : (k ≡ 0 → ⊥) → CutToken
     cut-token z = fin (after-blanks false text) refl what
       where
         go : (cs : List ℕ) (m : Match) → token-at cs ≡ m → tok k n ≡ answer m → token-at cs ≡ hit k n

@@ -1,9 +1,9 @@
 -- Where no prefixed name begins: after a run that ends at no colon, and after a token.
 use Rattle.token.proofs.Sizes.{length-encodes, size-append}
 use mathlib.Core.Path.{_≡_, refl, subst, sym, ap, ap₂, _∙_}
-use mathlib.Core.Logic.{⊎-elim}
+use mathlib.Core.Logic.{_⊎_, inl, inr, ⊎-elim}
 use mathlib.Core.Bool.{Bool, true, false, _||_}
-use mathlib.Core.List.{List, [], _∷_, _++_, append-assoc}
+use mathlib.Core.List.{List, [], _∷_, _++_, append-assoc, append-nil}
 use mathlib.Core.Option.{none}
 use Prim.Native.Nat.{ℕ, zero, suc, _+_, _-_, _≤_, _<_}
 use native.Mathlib.Omega.{arith}
@@ -22,18 +22,18 @@ use Rattle.token.specs.Terminals.{terminals, long-terminals, tripled, terminals
 use Rattle.token.proofs.Longest.{token-longest}
 use Rattle.automaton.specs.Levels.{intervals}
 use Rattle.automaton.specs.States.{State, in-prefix, prefix-dot, after-colon, open-states}
-use Rattle.automaton.specs.Run.{tok, answer, run, At, TokenAt}
+use Rattle.automaton.specs.Run.{tok, answer, run, Front, Rest, Past, At, TokenAt}
 use Rattle.automaton.specs.declared.Next.{Next}
 use Rattle.automaton.specs.declared.Token.{Token}
-use Rattle.automaton.proofs.Steps.{only, never, sends, high-sends, mimics, Sent, Alias, alias-step, sent-kind, by-nothing, gain}
+use Rattle.automaton.proofs.Steps.{only, never, sends, high-sends, mimics, Sent, Alias, alias-step, sent-kind, front-whole, front-place, whole-rest, by-nothing, gain}
 use Rattle.characters.specs.Bytes.{letter}
 use Rattle.characters.specs.Names.{base, passes}
 use Rattle.characters.proofs.Points.{first, CharSent, CharEnds, point-to, point-dead}
 use Rattle.lexer_words.specs.Agree.{end-at}
 use Rattle.lexer_words.specs.Ahead.{prefixed, nameless, colon-first, Clear, next, NextAt, settled}
-use Rattle.lexer_words.specs.Runs.{in-run, All-run, RunAt}
+use Rattle.lexer_words.specs.Runs.{in-run, All-run, Scan, Beyond, RunAt}
 use Rattle.lexer_words.proofs.Muting.{kinds-pass, run-passes, only-kinds, Fails, Mute, mute-fails, mute-dead}
-use Rattle.lexer_words.proofs.Running.{last-dot, dot-before, scan-last, Pair, state, stop-dead, run-over, mute-run}
+use Rattle.lexer_words.proofs.Running.{whole-scan, last-dot, dot-before, scan-last, Pair, state, stop-dead, run-over, mute-run}
 
 -- ---- The names alone
 
@@ -173,16 +173,16 @@ module _ (s : Text) (at i : ℕ) (g : RunAt s at i) where
     free = λ v ds es e h.
         let cs = decode (drop at s) in
         let f = valid-encoded (drop at s) v in
-        let r = g .scanned .over cs f in
+        let r = whole-scan s at i (g .scanned) cs f in
         let o = r .sized in
         let k = cut (r .xs) (r .ys) ds es (sym (r .whole) ∙ e) (omega arith) in
         let sc : Scalars (k .z ∷ (k .zs ++ r .ys)) = subst Scalars (k .back) (scalars-right ds es (subst Scalars e (f .scalars))) in
         let ru : All-run (k .z ∷ k .zs) = run-right ds (k .z ∷ k .zs) (subst All-run (k .front) (r .run)) in
         let la : last-dot (eqb (k .z) 46) (k .zs) ≡ dot-before s at i =
-        sym (last-right false ds (k .z) (k .zs)) ∙ ap (last-dot false) (sym (k .front)) ∙ scan-last s at i cs f r in
+        sym (last-right false ds (k .z) (k .zs)) ∙ ap (last-dot false) (sym (k .front)) ∙ scan-last s at i cs [] (front-whole f) r in
         let t = no-name (k .z) (k .zs) (r .ys) sc ru
         (λ c us w.
-        let y = follows n c (encodes us) (subst Scalars w (r .left .scalars) .0) (r .left .bytes ∙ ap encodes w) in
+        let y = follows n c (encodes us) (subst Scalars w (r .left .scalars) .0) (r .left .bytes ∙ append-nil (encodes (r .ys)) ∙ ap encodes w) in
         (y .0, λ x. la ∙ y .1 x)) in
         subst (λ (x : List ℕ). T (colon-first x || nameless (token-at x))) (sym (k .back)) (or-right (colon-first (k .z ∷ (k .zs ++ r .ys))) (nameless (token-at (k .z ∷ (k .zs ++ r .ys)))) t);
   }
@@ -194,29 +194,48 @@ module _ (s : Text) (at i : ℕ) (g : RunAt s at i) where
   -- ---- The automaton after a run within a prefix
 
   module _ {kind len : ℕ} (a : At s in-prefix at kind len) where
+    -- The run over code points that begin with a run.
+    over-run : (ds xs ys : List ℕ) → ds ≡ xs ++ ys → Scalars ds → All-run xs
+        → run in-prefix at kind len ds ≡ run (state (moves .prefix) (last-dot false xs)) (at + size width xs) kind len ys
+    over-run ds xs ys w sc r =
+        ap (λ (x : List ℕ). run in-prefix at kind len x) w ∙ run-over (moves .prefix) xs ys false at kind len (subst Scalars w sc) r
+
     after-run : At s (state (moves .prefix) (dot-before s at i)) i kind len
     after-run = record {
       within = g .scanned .within;
       last = let x = a .last in let y = g .scanned .from in omega arith;
-      rest = λ cs e.
-          let r = a .rest cs e in
-          let c = g .scanned .over (r .ds) (r .left) in
-          record {
-            ds = c .ys;
-            left = c .left;
-            same =
-                sym
-                (ap (λ (x : List ℕ). run in-prefix at kind len x) (c .whole)
-                ∙ run-over (moves .prefix) (c .xs) (c .ys) false at kind len (subst Scalars (c .whole) (r .left .scalars)) (c .run)
-                ∙ ap₂ (λ (d : Bool) (n : ℕ). run (state (moves .prefix) d) n kind len (c .ys)) (scan-last s at i (r .ds) (r .left) c) (c .sized))
-                ∙ r .same;
-          };
+      rest = λ cs z e.
+          ⊎-elim (λ r. go cs z e r (g .scanned .over (r .ds) z (r .left)))
+          (λ r. inr (record { behind = let x = r .behind in let y = g .scanned .from in omega arith; kept = r .kept }))
+          (a .rest cs z e);
     }
+      where
+        go : (cs : List ℕ) (z : Text) → Front s cs z → (r : Rest s in-prefix at kind len cs z) → Scan s at i (r .ds) z ⊎ Beyond at i (r .ds)
+            → Rest s (state (moves .prefix) (dot-before s at i)) i kind len cs z ⊎ Past i kind len cs
+        go cs z e r (inl c) =
+            inl
+            (record {
+              ds = c .ys;
+              left = c .left;
+              same =
+                  sym
+                  (over-run (r .ds) (c .xs) (c .ys) (c .whole) (r .left .scalars) (c .run)
+                  ∙ ap₂ (λ (d : Bool) (n : ℕ). run (state (moves .prefix) d) n kind len (c .ys)) (scan-last s at i (r .ds) z (r .left) c) (c .sized))
+                  ∙ r .same;
+            })
+        go cs z e r (inr c) =
+            let o = front-place e at (a .within) (r .ds) (r .left .bytes) in
+            let p = c .behind in
+            inr
+            (record {
+              behind = omega arith;
+              kept = λ _. sym (over-run (r .ds) (r .ds) [] (sym (append-nil (r .ds))) (r .left .scalars) (c .run)) ∙ r .same;
+            })
 
     pub prefix-token : NoColon → TokenAt s (tok kind len)
     prefix-token n =
         by-nothing after-run
-        (λ c ds sc d. let y = follows n c (encodes ds) sc d in stop-dead (moves .prefix) (dot-before s at i) c sc (y .0) (y .1))
+        (λ c u sc d. let y = follows n c u sc d in stop-dead (moves .prefix) (dot-before s at i) c sc (y .0) (y .1))
 
     pub prefix-colon : i < length s → getD s i 0 ≡ 58 → dot-before s at i ≡ false → At s after-colon (i + 1) 2 (i + 1)
     prefix-colon h e f =
@@ -268,6 +287,7 @@ next-token s r t = record {
   within = t .within;
   right = λ v c. t .right (decode s) (valid-encoded s v);
   ahead = λ v c. clear-none (drop (r .len) s);
+  front = λ _. t .front;
 }
 
 -- A token after which no name begins for as long as was known before.
@@ -276,6 +296,7 @@ next-known s clear m r t e = record {
   within = t .within;
   right = λ v c. t .right (decode s) (valid-encoded s v);
   ahead = λ v c. subst (Clear (drop (r .len) s)) (sym e) (clear-after s clear (r .kind) (r .len) v c (t .right (decode s) (valid-encoded s v)));
+  front = λ _. t .front;
 }
 
 pub next-nothing : (s : Text) (clear : ℕ) → TokenAt s (tok 0 0) → NextAt s clear (next 0 0 0)
@@ -283,6 +304,7 @@ next-nothing s clear t = record {
   within = t .within;
   right = λ v c. t .right (decode s) (valid-encoded s v);
   ahead = λ v c. clear-none (drop 0 s);
+  front = λ _. t .front;
 }
 
 -- No colon after no dot stands at the end of a run.
@@ -325,6 +347,7 @@ next-settled s at i kind g a n r e = subst (NextAt s 0) (sym e) (go kind a)
           within = t .within;
           right = λ v c. t .right (decode s) (valid-encoded s v);
           ahead = λ v c. clear-run s at i g n;
+          front = λ _. t .front;
         }
 
 -- Where it is known that no name begins here, the token is the one before.
@@ -333,7 +356,7 @@ module _ (s : Text) (at kind clear : ℕ) (a : At s in-prefix at kind (end-at ki
   unfolding encodes
   known v c =
       let e = valid-encoded s v in
-      let r = a .rest (decode s) e in
+      let r = whole-rest a (decode s) e in
       let t = c .free v [] (decode s) refl h in
       ⊎-elim (λ x. sym x ∙ r .same)
       (λ x. absurd (never-name (token-at (decode s)) (colon-no (decode s) (e .bytes) t) (ap (λ (t : Token). prefixed (t .kind)) (sym (r .same)) ∙ x)))
@@ -359,6 +382,7 @@ module _ (s : Text) (at kind clear : ℕ) (a : At s in-prefix at kind (end-at ki
     within = omega arith;
     right = λ v c. subst (λ (k : ℕ). tok k (end-at k at) ≡ answer (token-at (decode s))) z (known v c);
     ahead = λ v c. clear-none (drop 0 s);
+    front = λ e. absurd (omega arith);
   }
 
   pub known-token : (kind ≡ 0 → ⊥) → (m : ℕ) → m ≡ clear - at → NextAt s clear (next kind at m)
@@ -370,6 +394,7 @@ module _ (s : Text) (at kind clear : ℕ) (a : At s in-prefix at kind (end-at ki
         ahead = λ v c.
             subst (Clear (drop at s)) (sym e)
             (clear-after s clear kind at v c (subst (λ (n : ℕ). tok kind n ≡ answer (token-at (decode s))) o (known v c)));
+        front = λ e. absurd (omega arith);
       }
     where
       end : (k : ℕ) → (k ≡ 0 → ⊥) → end-at k at ≡ at

@@ -1,9 +1,9 @@
 -- Runs of PN_CHARS and dots: what the routine `name_run` shows, and what an automaton does over them.
-use Rattle.token.proofs.Sizes.{size-append}
+use Rattle.token.proofs.Sizes.{length-encodes, size-append}
 use mathlib.Core.Path.{_≡_, refl, subst, sym, ap, ap₂, _∙_}
-use mathlib.Core.Logic.{⊎-elim}
+use mathlib.Core.Logic.{_⊎_, inl, inr, ⊎-elim}
 use mathlib.Core.Bool.{Bool, true, false, _||_}
-use mathlib.Core.List.{List, [], _∷_, _++_, append-assoc}
+use mathlib.Core.List.{List, [], _∷_, _++_, append-assoc, append-nil}
 use Prim.Native.Nat.{ℕ, _+_, _-_, _%_, _≤_, _<_}
 use native.Mathlib.Omega.{arith}
 use native.Mathlib.Nat.{add-zero, add-assoc}
@@ -12,19 +12,19 @@ use lib.Dec.{T, eqb, ltb}
 use lib.ListN.{length, getD, drop, length-append, length-drop}
 use lib.Seq.{getD-drop, getD-append-add}
 use Rattle.text.specs.Text.{Text, cond}
-use Rattle.utf8.specs.Utf8.{encode, encodes, width}
+use Rattle.utf8.specs.Utf8.{encode, encodes, width, sequence-size}
 use Rattle.utf8.specs.Scalar.{Scalar, Scalars, Encodes}
 use Rattle.utf8.proofs.Tests.{by, or-false}
 use Rattle.utf8.proofs.Encoding.{by-width, length-encode, width-pos}
 use Rattle.utf8.proofs.Decoding.{encodes-append}
 use Rattle.token.specs.Regular.{Match, nothing, step, now-at, size}
 use Rattle.automaton.specs.States.{State, dead}
-use Rattle.automaton.specs.Run.{seen-kind, seen-len, run}
-use Rattle.automaton.proofs.Steps.{only, Sent, sent-to, sent-kind, at-first, next-left, none-left}
+use Rattle.automaton.specs.Run.{seen-kind, seen-len, run, Front}
+use Rattle.automaton.proofs.Steps.{only, Sent, sent-to, sent-kind, at-first, next-left, front-whole}
 use Rattle.characters.specs.Bytes.{name}
 use Rattle.characters.specs.Names.{inner, passes, CharAt}
 use Rattle.characters.proofs.Points.{first, CharSent, CharEnds, point-to, point-dead}
-use Rattle.lexer_words.specs.Runs.{in-run, All-run, Scan, Scanned, RunAt}
+use Rattle.lexer_words.specs.Runs.{in-run, All-run, Scan, Beyond, Scanned, RunAt}
 use Rattle.lexer_words.proofs.Muting.{Mute, mute-dead}
 
 -- ---- The routine
@@ -38,52 +38,61 @@ module _ (s : Text) (at : ℕ) where
   scan-begin h = record {
     from = omega arith;
     within = h;
-    over = λ cs g. record { xs = []; ys = cs; whole = refl; sized = add-zero at; left = g; run = tt };
+    over = λ cs z g. inl (record { xs = []; ys = cs; whole = refl; sized = add-zero at; left = g; run = tt });
   }
 
   module _ (i : ℕ) (g : Scanned s at i) where
     scan-on : (n : ℕ) → i + n ≤ length s → 0 < n
-        → ((c : ℕ) (ds : List ℕ) → Scalar c → drop i s ≡ encode c ++ encodes ds → (n ≡ width c) × (in-run c ≡ true)) → Scanned s at (i + n)
+        → ((c : ℕ) (u : Text) → Scalar c → drop i s ≡ encode c ++ u → (n ≡ width c) × (in-run c ≡ true)) → Scanned s at (i + n)
     unfolding encodes
     scan-on n h p f = record {
       from = let a = g .from in omega arith;
       within = h;
-      over = λ cs e. let r = g .over cs e in fin cs (r .xs) (r .ys) (r .whole) (r .sized) (r .left .scalars) (r .left .bytes) (r .run);
+      over = λ cs z e.
+          ⊎-elim (λ r. fin cs z (r .xs) (r .ys) (r .whole) (r .sized) (r .left .scalars) (r .left .bytes) (r .left .bad) (r .run))
+          (λ r. inr (record { behind = let o = r .behind in omega arith; run = r .run }))
+          (g .over cs z e);
     }
       where
-        fin : (cs xs ys : List ℕ) → cs ≡ xs ++ ys → at + size width xs ≡ i → Scalars ys → drop i s ≡ encodes ys → All-run xs → Scan s at (i + n) cs
-        fin cs xs [] w z sc d a = none-left s i d (omega arith)
-        fin cs xs (c ∷ ys) w z sc d a =
-            let v = f c ys (sc .0) d in
+        fin : (cs : List ℕ) (z : Text) (xs ys : List ℕ) → cs ≡ xs ++ ys → at + size width xs ≡ i → Scalars ys → drop i s ≡ encodes ys ++ z → sequence-size z ≡ 0 → All-run xs
+            → Scan s at (i + n) cs z ⊎ Beyond at (i + n) cs
+        fin cs z xs [] w y sc d b a =
+            let e : cs ≡ xs = w ∙ append-nil xs in
+            let o = ap (size width) e in
+            inr (record { behind = omega arith; run = subst All-run (sym e) a })
+        fin cs z xs (c ∷ ys) w y sc d b a =
+            let d′ = d ∙ append-assoc (encode c) (encodes ys) z in
+            let v = f c (encodes ys ++ z) (sc .0) d′ in
             let v0 = v .0 in
             let o = size-append xs (c ∷ []) in
-            record {
+            inl
+            (record {
               xs = xs ++ (c ∷ []);
               ys = ys;
               whole = w ∙ sym (append-assoc xs (c ∷ []) ys);
               sized = omega arith;
-              left = record { scalars = sc .1; bytes = next-left s i c ys d n v0 };
+              left = record { scalars = sc .1; bytes = next-left s i c (encodes ys ++ z) d′ n v0; bad = b };
               run = run-append xs c a (v .1);
-            }
+            })
 
     pub scan-dot : i < length s → getD s i 0 ≡ 46 → Scanned s at (i + 1)
     scan-dot h e =
         scan-on 1 (omega arith) (omega arith)
-        (λ c ds sc d.
+        (λ c u sc d.
         ⊎-elim
         (λ v.
         let z : c ≡ 46 = sym (v .1) ∙ e in
         (let x = v .0 in simp (lt-ltb c 0x80 x), ap in-run z))
         (λ v. let x = v .1 in absurd (omega arith))
-        (at-first s i c ds d))
+        (at-first s i c u d))
 
     module _ (n : ℕ) (ch : CharAt name inner s i n) where
       pub scan-name : (n ≡ 0 → ⊥) → Scanned s at (i + n)
       scan-name z =
           scan-on n (ch .within) (omega arith)
-          (λ c ds sc d.
-          by (passes name inner c) (λ e. let r = ch .right c (encodes ds) sc d in (r ∙ ap (λ (b : Bool). cond b (width c) 0) e, rw e))
-          (λ e. let r = ch .right c (encodes ds) sc d in absurd (z (r ∙ ap (λ (b : Bool). cond b (width c) 0) e))))
+          (λ c u sc d.
+          by (passes name inner c) (λ e. let r = ch .right c u sc d in (r ∙ ap (λ (b : Bool). cond b (width c) 0) e, rw e))
+          (λ e. let r = ch .right c u sc d in absurd (z (r ∙ ap (λ (b : Bool). cond b (width c) 0) e))))
 
       pub run-stop : i < length s → (getD s i 0 ≡ 46 → ⊥) → n ≡ 0 → RunAt s at i
       run-stop h m z = record {
@@ -107,6 +116,17 @@ module _ (s : Text) (at : ℕ) where
           let q = width-pos c in
           absurd (omega arith);
     }
+
+-- Of UTF-8, the end of the run is not behind.
+pub whole-scan : (s : Text) (at i : ℕ) → Scanned s at i → (cs : List ℕ) → Encodes (drop at s) cs → Scan s at i cs []
+whole-scan s at i g cs e =
+    ⊎-elim (λ r. r)
+    (λ r.
+    let o = r .behind in
+    let h = g .within in
+    let m = sym (length-drop at s) ∙ ap length (e .bytes) ∙ length-encodes cs in
+    absurd (omega arith))
+    (g .over cs [] (front-whole e))
 
 -- ---- The last code point of a run is a dot where the last byte is one
 
@@ -140,20 +160,21 @@ last-byte d x (y ∷ xs) t =
     ∙ ap (λ (b : ℕ). eqb b 46) (getD-append-add (encode x) (encodes (y ∷ xs) ++ t) (size width (y ∷ xs) - 1) 0))
 
 -- The code points that were passed end with a dot where the byte before i is one.
-pub scan-last : (s : Text) (at i : ℕ) (cs : List ℕ) → Encodes (drop at s) cs → (r : Scan s at i cs) → last-dot false (r .xs) ≡ dot-before s at i
-scan-last s at i cs g r = fin (r .xs) (r .ys) (g .bytes ∙ ap encodes (r .whole)) (r .sized)
+pub scan-last : (s : Text) (at i : ℕ) (cs : List ℕ) (z : Text) → Front (drop at s) cs z → (r : Scan s at i cs z) → last-dot false (r .xs) ≡ dot-before s at i
+scan-last s at i cs z g r = fin (r .xs) (r .ys) (g .bytes ∙ ap (λ (x : List ℕ). encodes x ++ z) (r .whole)) (r .sized)
   where
-    fin : (xs ys : List ℕ) → drop at s ≡ encodes (xs ++ ys) → at + size width xs ≡ i → last-dot false xs ≡ dot-before s at i
-    fin [] ys d z =
-        let m : i ≡ at = sym z ∙ add-zero at in
+    fin : (xs ys : List ℕ) → drop at s ≡ encodes (xs ++ ys) ++ z → at + size width xs ≡ i → last-dot false xs ≡ dot-before s at i
+    fin [] ys d w =
+        let m : i ≡ at = sym w ∙ add-zero at in
         sym (ap (λ (v : Bool). cond v (eqb (getD s (i - 1) 0) 46) false) (le-ltb at i (omega arith)))
-    fin (x ∷ xs) ys d z =
+    fin (x ∷ xs) ys d w =
         let p = width-pos x in
         let m : at + (size width (x ∷ xs) - 1) ≡ i - 1 = omega arith in
-        let b : getD s (i - 1) 0 ≡ getD (encodes (x ∷ xs) ++ encodes ys) (size width (x ∷ xs) - 1) 0 =
+        let b : getD s (i - 1) 0 ≡ getD (encodes (x ∷ xs) ++ (encodes ys ++ z)) (size width (x ∷ xs) - 1) 0 =
         ap (λ (n : ℕ). getD s n 0) (sym m) ∙ sym (getD-drop at s (size width (x ∷ xs) - 1) 0)
-        ∙ ap (λ (u : Text). getD u (size width (x ∷ xs) - 1) 0) (d ∙ encodes-append (x ∷ xs) ys) in
-        last-byte false x xs (encodes ys) ∙ ap (λ (n : ℕ). eqb n 46) (sym b)
+        ∙ ap (λ (u : Text). getD u (size width (x ∷ xs) - 1) 0)
+        (d ∙ ap (λ (u : Text). u ++ z) (encodes-append (x ∷ xs) ys) ∙ append-assoc (encodes (x ∷ xs)) (encodes ys) z) in
+        last-byte false x xs (encodes ys ++ z) ∙ ap (λ (n : ℕ). eqb n 46) (sym b)
         ∙ sym (ap (λ (v : Bool). cond v (eqb (getD s (i - 1) 0) 46) false) (lt-ltb at i (omega arith)))
 
 -- ---- Two states, within a run and after a dot there

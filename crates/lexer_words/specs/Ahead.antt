@@ -11,7 +11,7 @@ use Rattle.utf8.specs.Utf8.{width, decode, first-bad}
 use Rattle.token.specs.Kind.{kind-code, «PNAME_NS», «PNAME_LN»}
 use Rattle.token.specs.Regular.{Match, nothing, hit, size}
 use Rattle.token.specs.Terminals.{token-at}
-use Rattle.automaton.specs.Run.{tok, answer}
+use Rattle.automaton.specs.Run.{tok, answer, Front}
 use Rattle.automaton.specs.declared.Next.{Next}
 
 abbrev pub prefixed : ℕ → Bool
@@ -34,10 +34,12 @@ abbrev pub next : ℕ → ℕ → ℕ → Next
 next k n clear = record { kind = k; len = n; clear = clear }
 
 -- The token at the front of s, where its first `clear` bytes begin no prefixed name, and how far none begins in what follows.
+-- Where nothing is known ahead, also the token before a bad sequence, as `TokenAt` has it; `Clear` says nothing of such a text.
 pub record NextAt (s : Text) (clear : ℕ) (r : Next) : Type 0 where
   pub within : r .len ≤ length s
   pub right : first-bad s ≡ none → Clear s clear → tok (r .kind) (r .len) ≡ answer (token-at (decode s))
   pub ahead : first-bad s ≡ none → Clear s clear → Clear (drop (r .len) s) (r .clear)
+  pub front : clear ≡ 0 → (cs : List ℕ) (z : Text) → Front s cs z → r .len < size width cs → tok (r .kind) (r .len) ≡ answer (token-at cs)
 
 -- A token that ends at `at`, where no name begins from there to i; nothing, where the kind is 0.
 abbrev pub settled : ℕ → ℕ → ℕ → Next
