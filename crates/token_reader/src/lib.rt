@@ -39,7 +39,7 @@ pub fn next_token_from(document: &[u8], place: usize) -> TokenAt
     }
     let start = place + lexer::skip_blanks(&document[place..]);
     let t = lexer::next_token(&document[start..], 0);
-    if t.kind != 0 {
+    if t.len != 0 {
         return TokenAt {
             kind: t.kind,
             start: start,
