@@ -22,7 +22,7 @@ use Rattle.iri.specs.Code.{before}
 use Rattle.iri.specs.declared.Resolution.{Resolution}
 use Rattle.iri.specs.declared.Resolution.the-variants.{Written, Long, NoBase}
 use Rattle.scope.specs.Environment.{lookup}
-use Rattle.scope.specs.Code.{in-force, Usable, FoundIn}
+use Rattle.scope.specs.Code.{environment-in, Usable, FoundIn}
 use Rattle.scope.specs.declared.Found.{Found}
 use Rattle.scope.specs.declared.Found.the-variants.{At, Missing}
 use Rattle.dataset.specs.Constructors.{inner, iri-of, nothing, awaiting}
@@ -35,7 +35,7 @@ use Rattle.address.proofs.Refused.{iriref-iri, iri-bad, iri-no-base, ir
 
 -- A refused token.
 pub refused : (kind : ℕ) (token work : Text) (st : List ℕ) (buffer : Text) (n : ℕ) (r : Address) → 0 < n → r ≡ refused-address n
-    → (Usable work st → Sound (in-force work st) → (kind ≡ 1 → getD token 0 0 ≡ 60) → (at : ℕ) → n ≡ iri-refusal (awaiting nothing (in-force work st)) (token-as kind at token))
+    → (Usable work st → Sound (environment-in work st) → (kind ≡ 1 → getD token 0 0 ≡ 60) → (at : ℕ) → n ≡ iri-refusal (awaiting nothing (environment-in work st)) (token-as kind at token))
     → Addresses kind token work st buffer r
 refused kind token work st buffer n r h e f =
     subst (λ (x : Address). Addresses kind token work st buffer x) (sym e)
@@ -51,7 +51,7 @@ refused kind token work st buffer n r h e f =
 
 module _ (token work : Text) (st : List ℕ) (buffer : Text) where
   pub refused-bad : (b : Bool) (r : Address) → b ≡ bad-escape token → b ≡ true → r ≡ refused-address 7 → Addresses 1 token work st buffer r
-  refused-bad b r eb h e = refused 1 token work st buffer 7 r (omega arith) e (λ u s g at. iri-bad (in-force work st) at token (sym eb ∙ h))
+  refused-bad b r eb h e = refused 1 token work st buffer 7 r (omega arith) e (λ u s g at. iri-bad (environment-in work st) at token (sym eb ∙ h))
 
   module _ (b : Bool) (eb : b ≡ bad-escape token) (good : b ≡ false) (text : Text) (et : text ≡ inner 1 token) where
     right : bad-escape token ≡ false
@@ -71,7 +71,7 @@ module _ (token work : Text) (st : List ℕ) (buffer : Text) where
       pub refused-long : iri-limit < n → (r : Address) → r ≡ refused-address 11 → Addresses 1 token work st buffer r
       refused-long l r e =
           refused 1 token work st buffer 11 r (omega arith) e
-          (λ u s g at. iri-long (in-force work st) at token right (long-outcome l (in-force work st .base)))
+          (λ u s g at. iri-long (environment-in work st) at token right (long-outcome l (environment-in work st .base)))
 
       pub token-long : 2 ≤ length token
       token-long = scheme-inside token own-scheme
@@ -92,27 +92,27 @@ module _ (token work : Text) (st : List ℕ) (buffer : Text) where
         back-order = omega (arith, token-long);
         back-inside = omega arith;
         stands = λ u s g at. record {
-          refusal = iri-written (in-force work st) at token right _ (short-outcome l (in-force work st .base));
-          iri = λ z. iriref-iri (in-force work st) at token ∙ rw (inside-read token token-long) (as-is (in-force work st .base));
+          refusal = iri-written (environment-in work st) at token right _ (short-outcome l (environment-in work st .base));
+          iri = λ z. iriref-iri (environment-in work st) at token ∙ rw (inside-read token token-long) (as-is (environment-in work st .base));
           right = λ z. rw (inside-read token token-long) (inside-good token (g refl) right);
-          short = λ z. rw (iriref-iri (in-force work st) at token, as-is (in-force work st .base)) (omega (arith, own-length));
+          short = λ z. rw (iriref-iri (environment-in work st) at token, as-is (environment-in work st .base)) (omega (arith, own-length));
         };
       }
 
     -- A reference without a scheme.
     module _ (a : Resolution) (w : WritesReference text work st buffer a) where
-      is-outcome : Usable work st → Sound (in-force work st) → getD token 0 0 ≡ 60 → a ≡ outcome (in-force work st .base) (unescape (inner 1 token))
-      is-outcome u s g = w .resolves u s (ap bad-escape et ∙ inside-good token g right) .is ∙ ap (λ (x : Text). outcome (in-force work st .base) (unescape x)) et
+      is-outcome : Usable work st → Sound (environment-in work st) → getD token 0 0 ≡ 60 → a ≡ outcome (environment-in work st .base) (unescape (inner 1 token))
+      is-outcome u s g = w .resolves u s (ap bad-escape et ∙ inside-good token g right) .is ∙ ap (λ (x : Text). outcome (environment-in work st .base) (unescape x)) et
 
       pub refused-no-base : a ≡ NoBase → (r : Address) → r ≡ refused-address 10 → Addresses 1 token work st buffer r
       refused-no-base ea r e =
           refused 1 token work st buffer 10 r (omega arith) e
-          (λ u s g at. iri-no-base (in-force work st) at token right (sym ea ∙ is-outcome u s (g refl)))
+          (λ u s g at. iri-no-base (environment-in work st) at token right (sym ea ∙ is-outcome u s (g refl)))
 
       pub refused-over : a ≡ Long → (r : Address) → r ≡ refused-address 11 → Addresses 1 token work st buffer r
       refused-over ea r e =
           refused 1 token work st buffer 11 r (omega arith) e
-          (λ u s g at. iri-long (in-force work st) at token right (sym ea ∙ is-outcome u s (g refl)))
+          (λ u s g at. iri-long (environment-in work st) at token right (sym ea ∙ is-outcome u s (g refl)))
 
       pub resolved-there : (k : ℕ) → a ≡ Written k → length buffer ≡ iri-limit → Addresses 1 token work st buffer (record { refused = 0; start = 0; end = 0; form = Plain; from = 0; to = k; buffered = true })
       unfolding joined undo bad
@@ -123,42 +123,42 @@ module _ (token work : Text) (st : List ℕ) (buffer : Text) where
         back-inside = w .inside k ea;
         stands = λ u s g at.
             let same-end : k ≡ k - 0 = omega arith in
-            let o : Written k ≡ outcome (in-force work st .base) (unescape (inner 1 token)) = sym ea ∙ is-outcome u s (g refl) in
-            let same : iri-of (in-force work st) (token-as 1 at token) ≡ take (k - 0) buffer =
-            iriref-iri (in-force work st) at token ∙ ap (λ (x : Text). resolved (in-force work st .base) (unescape x)) (sym et)
+            let o : Written k ≡ outcome (environment-in work st .base) (unescape (inner 1 token)) = sym ea ∙ is-outcome u s (g refl) in
+            let same : iri-of (environment-in work st) (token-as 1 at token) ≡ take (k - 0) buffer =
+            iriref-iri (environment-in work st) at token ∙ ap (λ (x : Text). resolved (environment-in work st .base) (unescape x)) (sym et)
             ∙ sym (w .resolves u s (ap bad-escape et ∙ inside-good token (g refl) right) .front k ea) ∙ ap (λ (n : ℕ). take n buffer) same-end in
             record {
-              refusal = iri-written (in-force work st) at token right k o;
+              refusal = iri-written (environment-in work st) at token right k o;
               iri = λ z. same;
               right = λ z. refl;
-              short = λ z. rw (iriref-iri (in-force work st) at token, ← outcome-written (in-force work st .base) (unescape (inner 1 token)) k o .size) (omega (arith, w .inside k ea));
+              short = λ z. rw (iriref-iri (environment-in work st) at token, ← outcome-written (environment-in work st .base) (unescape (inner 1 token)) k o .size) (omega (arith, w .inside k ea));
             };
       }
 
 -- ---- A prefixed name
 
 -- Where a namespace was found.
-pub found-inside : (p work : Text) (st : List ℕ) (f : Found) (start n : ℕ) → FoundIn p (in-force work st) work f → f ≡ At start n → (start + n ≤ work-size) × (n ≤ iri-limit)
+pub found-inside : (p work : Text) (st : List ℕ) (f : Found) (start n : ℕ) → FoundIn p (environment-in work st) work f → f ≡ At start n → (start + n ≤ work-size) × (n ≤ iri-limit)
 unfolding FoundIn
-found-inside p work st f start n h e = subst (FoundIn p (in-force work st) work) e h .1
+found-inside p work st f start n h e = subst (FoundIn p (environment-in work st) work) e h .1
 
-found-is : (p work : Text) (st : List ℕ) (f : Found) (start n : ℕ) → FoundIn p (in-force work st) work f → f ≡ At start n → lookup p (in-force work st .namespaces) ≡ some (take n (drop start work))
+found-is : (p work : Text) (st : List ℕ) (f : Found) (start n : ℕ) → FoundIn p (environment-in work st) work f → f ≡ At start n → lookup p (environment-in work st .namespaces) ≡ some (take n (drop start work))
 unfolding FoundIn
-found-is p work st f start n h e = subst (FoundIn p (in-force work st) work) e h .0
+found-is p work st f start n h e = subst (FoundIn p (environment-in work st) work) e h .0
 
-found-none : (p work : Text) (st : List ℕ) (f : Found) → FoundIn p (in-force work st) work f → f ≡ Missing → lookup p (in-force work st .namespaces) ≡ none
+found-none : (p work : Text) (st : List ℕ) (f : Found) → FoundIn p (environment-in work st) work f → f ≡ Missing → lookup p (environment-in work st .namespaces) ≡ none
 unfolding FoundIn
-found-none p work st f h e = subst (FoundIn p (in-force work st) work) e h
+found-none p work st f h e = subst (FoundIn p (environment-in work st) work) e h
 
 module _ (kind : ℕ) (token work : Text) (st : List ℕ) (buffer : Text) where
   pub refused-unusable : (r : Address) → length work < work-size → r ≡ refused-address 9 → Addresses kind token work st buffer r
   refused-unusable r h e = refused kind token work st buffer 9 r (omega arith) e (λ u s g at. absurd (omega (arith, u .room)))
 
-  module _ (least : 2 ≤ kind) (most : kind ≤ 3) (i : ℕ) (colon : i ≡ before (is ":") token) (f : Found) (look : work-size ≤ length work → FoundIn (take i token) (in-force work st) work f) where
+  module _ (least : 2 ≤ kind) (most : kind ≤ 3) (i : ℕ) (colon : i ≡ before (is ":") token) (f : Found) (look : work-size ≤ length work → FoundIn (take i token) (environment-in work st) work f) where
     pub refused-missing : f ≡ Missing → (r : Address) → r ≡ refused-address 9 → Addresses kind token work st buffer r
     refused-missing ef r e =
         refused kind token work st buffer 9 r (omega arith) e
-        (λ u s g at. name-missing (in-force work st) kind at token least most i colon (found-none (take i token) work st f (look (u .room)) ef))
+        (λ u s g at. name-missing (environment-in work st) kind at token least most i colon (found-none (take i token) work st f (look (u .room)) ef))
 
     module _ (start n : ℕ) (ef : f ≡ At start n) (room : work-size ≤ length work) (from : ℕ) (behind : LocalFrom token i from) (m : ℕ) (em : m ≡ length (unreserve (take (length token - from) (drop from token)))) where
       bounds : (start + n ≤ work-size) × (n ≤ iri-limit)
@@ -167,7 +167,7 @@ module _ (kind : ℕ) (token work : Text) (st : List ℕ) (buffer : Text) where
       back-is : take (length token - from) (drop from token) ≡ drop 1 (drop i token)
       back-is = rest-all token from ∙ behind .part
 
-      is-found : lookup (take i token) (in-force work st .namespaces) ≡ some (take n (drop start work))
+      is-found : lookup (take i token) (environment-in work st .namespaces) ≡ some (take n (drop start work))
       is-found = found-is (take i token) work st f start n (look room) ef
 
       joined-size : length (take n (drop start work) ++ unreserve (drop 1 (drop i token))) ≡ n + m
@@ -178,7 +178,7 @@ module _ (kind : ℕ) (token work : Text) (st : List ℕ) (buffer : Text) where
       pub refused-joined : iri-limit - n < m → (r : Address) → r ≡ refused-address 11 → Addresses kind token work st buffer r
       refused-joined h r e =
           refused kind token work st buffer 11 r (omega arith) e
-          (λ u s g at. over (name-refused (in-force work st) kind at token least most i colon (take n (drop start work)) is-found))
+          (λ u s g at. over (name-refused (environment-in work st) kind at token least most i colon (take n (drop start work)) is-found))
         where
           over : {x : ℕ} → cond (ltb iri-limit (length (take n (drop start work) ++ unreserve (drop 1 (drop i token))))) 11 0 ≡ x → 11 ≡ x
           over q = rw (joined-size, lt-ltb iri-limit (n + m) (omega (arith, bounds .1))) at q
@@ -191,10 +191,10 @@ module _ (kind : ℕ) (token work : Text) (st : List ℕ) (buffer : Text) where
         back-order = behind .inside;
         back-inside = omega arith;
         stands = λ u s g at. record {
-          refusal = within (name-refused (in-force work st) kind at token least most i colon (take n (drop start work)) is-found);
-          iri = λ z. name-iri (in-force work st) kind at token least most i colon (take n (drop start work)) is-found ∙ rw (back-is, size);
+          refusal = within (name-refused (environment-in work st) kind at token least most i colon (take n (drop start work)) is-found);
+          iri = λ z. name-iri (environment-in work st) kind at token least most i colon (take n (drop start work)) is-found ∙ rw (back-is, size);
           right = λ z. refl;
-          short = λ z. rw (name-iri (in-force work st) kind at token least most i colon (take n (drop start work)) is-found, joined-size) (omega (arith, bounds .1));
+          short = λ z. rw (name-iri (environment-in work st) kind at token least most i colon (take n (drop start work)) is-found, joined-size) (omega (arith, bounds .1));
         };
       }
         where

@@ -20,7 +20,7 @@ use Rattle.iri.specs.Resolve.{resolve, resolve-with-dots, resolved}
 use Rattle.iri.specs.Code.{reference, answer, relative-answer, Resolved}
 use Rattle.iri.specs.declared.Resolution.{Resolution}
 use Rattle.iri.specs.declared.Resolution.the-variants.{Written, Long, NoBase}
-use Rattle.scope.specs.Code.{in-force, Usable}
+use Rattle.scope.specs.Code.{environment-in, Usable}
 use Rattle.address.specs.Tests.{Sound, outcome}
 use Rattle.address.specs.Addresses.{Resolves, WritesReference}
 use Rattle.address.proofs.Bases.{no-base-written, long-written}
@@ -89,8 +89,8 @@ module _ (b s : Text) where
         }
 
 -- The answers of `write_reference`; the base is the one in force.
-module _ (s work : Text) (st : List ℕ) (b : Text) (eb : Usable work st → b ≡ in-force work st .base) (l : Bool) (el : l ≡ (not (has-scheme (unescape s)) && empty b)) where
-  at-base : (y : Text) (a : Resolution) → Usable work st → Resolves b s y a → Resolves (in-force work st .base) s y a
+module _ (s work : Text) (st : List ℕ) (b : Text) (eb : Usable work st → b ≡ environment-in work st .base) (l : Bool) (el : l ≡ (not (has-scheme (unescape s)) && empty b)) where
+  at-base : (y : Text) (a : Resolution) → Usable work st → Resolves b s y a → Resolves (environment-in work st .base) s y a
   at-base y a u r = subst (λ (x : Text). Resolves x s y a) (eb u) r
 
   pub writes-none : l ≡ true → (y : Text) → WritesReference s work st y NoBase
@@ -109,5 +109,5 @@ module _ (s work : Text) (st : List ℕ) (b : Text) (eb : Usable work st → b �
       resolves = λ u sound good. at-base z a u (reference-resolved b s (sym el ∙ based) (sound-at u sound) x _ z n a room en h (over-part (iri-limit - n) (unescape s) x w k ek (written .text good)) r);
     }
       where
-        sound-at : Usable work st → Sound (in-force work st) → (empty b || has-scheme b) ≡ true
+        sound-at : Usable work st → Sound (environment-in work st) → (empty b || has-scheme b) ≡ true
         sound-at u sound = subst (λ (x : Text). (empty x || has-scheme x) ≡ true) (sym (eb u)) sound

@@ -16,7 +16,7 @@ use Rattle.iri.specs.Iri.{has-scheme}
 use Rattle.iri.specs.declared.Resolution.{Resolution}
 use Rattle.iri.specs.declared.Resolution.the-variants.{Written, Long, NoBase}
 use Rattle.scope.specs.Environment.{Environment}
-use Rattle.scope.specs.Code.{in-force, is-declared, declare-answer, after-declare, Usable, Beside, Declares, SetsBase}
+use Rattle.scope.specs.Code.{environment-in, is-declared, declare-answer, after-declare, Usable, Beside, Declares, SetsBase}
 use Rattle.scope.specs.declared.Declared.{Declared}
 use Rattle.scope.specs.declared.Declared.the-variants.{Done, TooLong, TooMany}
 use Rattle.dataset.specs.Constructors.{inner, iri-of, namespace-of, awaiting}
@@ -58,14 +58,14 @@ module _ (e : Environment) (p ns : Text) (hp : length p ≤ prefix-limit) (hn : 
 -- A bad escape.
 module _ (token work : Text) (st : List ℕ) (b : Bool) (eb : b ≡ bad-escape token) (h : b ≡ true) where
   pub namespace-refused-bad : (p : Text) → DeclaresNamespace token p work work st st 7
-  namespace-refused-bad p = record { refusal = λ at. namespace-bad (in-force work st) at token (sym eb ∙ h) p; leaves = λ z. absurd (omega arith); beside = nothing-changed work st; words = refl }
+  namespace-refused-bad p = record { refusal = λ at. namespace-bad (environment-in work st) at token (sym eb ∙ h) p; leaves = λ z. absurd (omega arith); beside = nothing-changed work st; words = refl }
 
   pub base-refused-bad : DeclaresBase token work work st st 7
-  base-refused-bad = record { refusal = λ at. base-bad (in-force work st) at token (sym eb ∙ h); leaves = λ z. absurd (omega arith); beside = nothing-changed work st; words = refl }
+  base-refused-bad = record { refusal = λ at. base-bad (environment-in work st) at token (sym eb ∙ h); leaves = λ z. absurd (omega arith); beside = nothing-changed work st; words = refl }
 
-module _ (token work : Text) (st : List ℕ) (u : Usable work st) (sound : Sound (in-force work st)) (g : GoodReference token) (text : Text) (et : text ≡ inner 1 token) (lent : Text) (el : lent ≡ work) (buffer : Text) (a : Resolution) (w : WritesReference text lent st buffer a) where
+module _ (token work : Text) (st : List ℕ) (u : Usable work st) (sound : Sound (environment-in work st)) (g : GoodReference token) (text : Text) (et : text ≡ inner 1 token) (lent : Text) (el : lent ≡ work) (buffer : Text) (a : Resolution) (w : WritesReference text lent st buffer a) where
   abbrev e : Environment
-  e = in-force work st
+  e = environment-in work st
 
   resolves : Resolves (e .base) (inner 1 token) buffer a
   resolves =

@@ -15,7 +15,7 @@ use Rattle.iri.specs.Resolve.{resolved}
 use Rattle.iri.specs.declared.Resolution.{Resolution}
 use Rattle.iri.specs.declared.Resolution.the-variants.{Written}
 use Rattle.scope.specs.Environment.{Environment, declare, set-base}
-use Rattle.scope.specs.Code.{in-force, Usable, Beside}
+use Rattle.scope.specs.Code.{environment-in, Usable, Beside}
 use Rattle.dataset.specs.Constructors.{iri-of, nothing, new-base, namespace-of, awaiting}
 use Rattle.address.specs.Tests.{token-as, Sound, iri-refusal, namespace-refusal, base-refusal, outcome}
 use Rattle.address.specs.declared.Address.{Address}
@@ -44,8 +44,8 @@ pub record Addresses (kind : ℕ) (token work : Text) (st : List ℕ) (buffer : 
   pub inside : r .end ≤ work-size
   pub back-order : r .from ≤ r .to
   pub back-inside : r .to ≤ length (cond (r .buffered) buffer token)
-  pub stands : Usable work st → Sound (in-force work st) → (kind ≡ 1 → getD token 0 0 ≡ 60) → (at : ℕ)
-      → StandsFor (in-force work st) (token-as kind at token) r (front-of r work) (back-of r token buffer)
+  pub stands : Usable work st → Sound (environment-in work st) → (kind ≡ 1 → getD token 0 0 ≡ 60) → (at : ℕ)
+      → StandsFor (environment-in work st) (token-as kind at token) r (front-of r work) (back-of r token buffer)
 
 -- The same address with its back in a form that reads the same.
 abbrev pub with-form : Address → Form → Address
@@ -64,7 +64,7 @@ pub record Resolves (base s buffer : Text) (a : Resolution) : Type 0 where
 
 pub record WritesReference (s work : Text) (st : List ℕ) (buffer : Text) (a : Resolution) : Type 0 where
   pub inside : (k : ℕ) → a ≡ Written k → k ≤ length buffer
-  pub resolves : Usable work st → Sound (in-force work st) → bad-escape s ≡ false → Resolves (in-force work st .base) s buffer a
+  pub resolves : Usable work st → Sound (environment-in work st) → bad-escape s ≡ false → Resolves (environment-in work st .base) s buffer a
 
 -- The local part, where the colon stands at a place, begins at r.
 pub record LocalFrom (s : Text) (colon r : ℕ) : Type 0 where
@@ -78,18 +78,18 @@ pub record GoodReference (token : Text) : Type 0 where
 
 -- What a directive leaves where it is not refused.
 pub record Leaves (e : Environment) (work : Text) (st : List ℕ) : Type 0 where
-  pub after : in-force work st ≡ e
+  pub after : environment-in work st ≡ e
   pub usable : Usable work st
   pub sound : Sound e
 
 pub record DeclaresNamespace (token p work work' : Text) (st st' : List ℕ) (r : ℕ) : Type 0 where
-  pub refusal : (at : ℕ) → r ≡ namespace-refusal (awaiting (namespace-of p) (in-force work st)) (token-as 1 at token)
-  pub leaves : r ≡ 0 → (at : ℕ) → Leaves (declare p (iri-of (in-force work st) (token-as 1 at token)) (in-force work st)) work' st'
+  pub refusal : (at : ℕ) → r ≡ namespace-refusal (awaiting (namespace-of p) (environment-in work st)) (token-as 1 at token)
+  pub leaves : r ≡ 0 → (at : ℕ) → Leaves (declare p (iri-of (environment-in work st) (token-as 1 at token)) (environment-in work st)) work' st'
   pub beside : Beside work work' st st'
   pub words : length st' ≡ length st
 
 pub record DeclaresBase (token work work' : Text) (st st' : List ℕ) (r : ℕ) : Type 0 where
-  pub refusal : (at : ℕ) → r ≡ base-refusal (awaiting new-base (in-force work st)) (token-as 1 at token)
-  pub leaves : r ≡ 0 → (at : ℕ) → Leaves (set-base (iri-of (in-force work st) (token-as 1 at token)) (in-force work st)) work' st'
+  pub refusal : (at : ℕ) → r ≡ base-refusal (awaiting new-base (environment-in work st)) (token-as 1 at token)
+  pub leaves : r ≡ 0 → (at : ℕ) → Leaves (set-base (iri-of (environment-in work st) (token-as 1 at token)) (environment-in work st)) work' st'
   pub beside : Beside work work' st st'
   pub words : length st' ≡ length st

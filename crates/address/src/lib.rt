@@ -9,7 +9,7 @@ ghost use Rattle.limits.specs.Limits.{iri-limit, prefix-limit};
 ghost use Rattle.escape.specs.Escape.{unescape};
 ghost use Rattle.iri.specs.Iri.{has-scheme};
 ghost use Rattle.iri.specs.Code.{before};
-ghost use Rattle.scope.specs.Code.{in-force, Usable};
+ghost use Rattle.scope.specs.Code.{environment-in, Usable};
 ghost use Rattle.dataset.specs.Constructors.{inner};
 ghost use Rattle.address.specs.Tests.{Sound};
 ghost use Rattle.address.specs.Addresses.{refused-address, Addresses, Lightened, WritesReference, LocalFrom, GoodReference, DeclaresNamespace, DeclaresBase};
@@ -236,7 +236,7 @@ fn declare_written(
     st: &mut [usize; Layout::WORDS],
     buffer: &mut [u8],
 ) -> u8
-    requires { ⌜ (length (now buffer) ≡ iri-limit) × ((length (now prefix) ≤ prefix-limit) × (GoodReference (now token) × (Usable (now work) (now st) × Sound (in-force (now work) (now st))))) ⌝ }
+    requires { ⌜ (length (now buffer) ≡ iri-limit) × ((length (now prefix) ≤ prefix-limit) × (GoodReference (now token) × (Usable (now work) (now st) × Sound (environment-in (now work) (now st))))) ⌝ }
     ensures { λ r. ⌜ DeclaresNamespace (now (token .entry)) (now (prefix .entry)) (now (work .entry)) (now (work .exit)) (now (st .entry)) (now (st .exit)) r ⌝ }
 {
     let text = inside(token);
@@ -262,7 +262,7 @@ pub fn declare_namespace(
     work: &mut [u8],
     st: &mut [usize; Layout::WORDS],
 ) -> u8
-    requires { ⌜ (getD (now token) 0 0 ≡ 60) × ((length (now prefix) ≤ prefix-limit) × (Usable (now work) (now st) × Sound (in-force (now work) (now st)))) ⌝ }
+    requires { ⌜ (getD (now token) 0 0 ≡ 60) × ((length (now prefix) ≤ prefix-limit) × (Usable (now work) (now st) × Sound (environment-in (now work) (now st)))) ⌝ }
     ensures { λ r. ⌜ DeclaresNamespace (now (token .entry)) (now (prefix .entry)) (now (work .entry)) (now (work .exit)) (now (st .entry)) (now (st .exit)) r ⌝ }
 {
     if escape::has_bad_escape(token) {
@@ -279,7 +279,7 @@ fn set_written(
     st: &mut [usize; Layout::WORDS],
     buffer: &mut [u8],
 ) -> u8
-    requires { ⌜ (length (now buffer) ≡ iri-limit) × (GoodReference (now token) × (Usable (now work) (now st) × Sound (in-force (now work) (now st)))) ⌝ }
+    requires { ⌜ (length (now buffer) ≡ iri-limit) × (GoodReference (now token) × (Usable (now work) (now st) × Sound (environment-in (now work) (now st)))) ⌝ }
     ensures { λ r. ⌜ DeclaresBase (now (token .entry)) (now (work .entry)) (now (work .exit)) (now (st .entry)) (now (st .exit)) r ⌝ }
 {
     let text = inside(token);
@@ -298,7 +298,7 @@ fn set_written(
 
 // Sets the base to the IRI of an IRIREF: 0, or the first of the refusals 7, 10 and 11.
 pub fn declare_base(token: &[u8], work: &mut [u8], st: &mut [usize; Layout::WORDS]) -> u8
-    requires { ⌜ (getD (now token) 0 0 ≡ 60) × (Usable (now work) (now st) × Sound (in-force (now work) (now st))) ⌝ }
+    requires { ⌜ (getD (now token) 0 0 ≡ 60) × (Usable (now work) (now st) × Sound (environment-in (now work) (now st))) ⌝ }
     ensures { λ r. ⌜ DeclaresBase (now (token .entry)) (now (work .entry)) (now (work .exit)) (now (st .entry)) (now (st .exit)) r ⌝ }
 {
     if escape::has_bad_escape(token) {

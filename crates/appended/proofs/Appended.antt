@@ -9,7 +9,7 @@ use Rattle.machine.specs.Read.{Lent, Answer, success, mode-of, read}
 use Rattle.machine.proofs.Demands.{zero-meets, meets-answer}
 use Rattle.machine.proofs.Extends.{Extends}
 use Rattle.machine.proofs.Joined.{joined-tables}
-use Rattle.readback.specs.ReadBack.{left}
+use Rattle.readback.specs.ReadBack.{slices-after}
 use Rattle.readback.proofs.RoundTrip.{made, made-kept}
 use Rattle.appended.specs.Appended.{with-text-added, Begins}
 use Rattle.appended.proofs.Parts.{added, more-utf8, both-tokens}
@@ -20,7 +20,7 @@ use Rattle.appended.proofs.Words.{begins}
 pub appended : (doc more : Text) (mode : ℕ) (base : Text) (lent lent′ : Lent)
     → read doc mode base lent .number ≡ 0 → read (with-text-added doc more) mode base lent′ .number ≡ 0
     → (rows rows′ terms terms′ : List ℕ) (store store′ : Text)
-    → Begins (left (read doc mode base lent) rows terms store) (left (read (with-text-added doc more) mode base lent′) rows′ terms′ store′)
+    → Begins (slices-after (read doc mode base lent) rows terms store) (slices-after (read (with-text-added doc more) mode base lent′) rows′ terms′ store′)
 appended doc more mode base lent lent′ e f rows rows′ terms terms′ store store′ =
     let whole = with-text-added doc more in
     let x = zero-meets doc mode base lent e in
@@ -28,6 +28,6 @@ appended doc more mode base lent lent′ e f rows rows′ terms terms′ store s
     let longer : Extends (made doc mode base lent x) (made whole mode base lent′ y) =
     joined-tables (mode-of mode) base (x .derivation .0) (y .derivation .0) (added doc more)
     (y .derivation .1 ∙ both-tokens doc more mode base lent x (more-utf8 doc more (y .utf8)) ∙ ap (λ (l : List Token). l ++ added doc more) (sym (x .derivation .1))) in
-    subst (λ (a : Answer). Begins (left a rows terms store) (left (read whole mode base lent′) rows′ terms′ store′)) (sym (meets-answer doc mode base lent x))
-    (subst (λ (a : Answer). Begins (left (success (length doc) (made doc mode base lent x)) rows terms store) (left a rows′ terms′ store′)) (sym (meets-answer whole mode base lent′ y))
+    subst (λ (a : Answer). Begins (slices-after a rows terms store) (slices-after (read whole mode base lent′) rows′ terms′ store′)) (sym (meets-answer doc mode base lent x))
+    (subst (λ (a : Answer). Begins (slices-after (success (length doc) (made doc mode base lent x)) rows terms store) (slices-after a rows′ terms′ store′)) (sym (meets-answer whole mode base lent′ y))
     (begins (length doc) (length whole) (made doc mode base lent x) (made whole mode base lent′ y) (made-kept doc mode base lent x .terms) longer rows rows′ terms terms′ store store′))

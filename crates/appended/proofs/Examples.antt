@@ -8,7 +8,7 @@ use Rattle.limits.specs.Limits.{work-size}
 use Rattle.token.specs.Tokens.{lexemes}
 use Rattle.table.specs.LongForm.{long-form}
 use Rattle.machine.specs.Read.{Lent, Answer, read, computing}
-use Rattle.readback.specs.ReadBack.{left}
+use Rattle.readback.specs.ReadBack.{slices-after}
 use Rattle.appended.specs.Appended.{with-text-added, IsBeginning, Begins}
 use Rattle.appended.specs.Parts.{moved, MeetsBehind}
 use Rattle.appended.proofs.Parts.{told-from-parts}
@@ -60,7 +60,7 @@ unfolding computing
 accepted = (refl, refl, refl)
 
 -- The first call may be lent less than the second, and other slices.
-begins : (rows terms : List ℕ) (store : Text) → Begins (left (read commented 0 [] little) rows terms store) (left (joined commented more) [] [] [])
+begins : (rows terms : List ℕ) (store : Text) → Begins (slices-after (read commented 0 [] little) rows terms store) (slices-after (joined commented more) [] [] [])
 unfolding computing
 begins rows terms store = appended commented more 0 [] little lent refl refl rows [] terms [] store []
 
@@ -73,7 +73,7 @@ abbrev spare : Text
 spare = ascii "@prefix m: <x:n#> .\nm:41 m:stop \"shut\" ."
 
 abbrev statements-of : Answer → Text
-statements-of a = long-form (left a [] [] [])
+statements-of a = long-form (slices-after a [] [] [])
 
 line-by-line :
     (statements-of (answered motor) ≡ ascii "<x:m#41> <x:m#stop> \"open\" .\n")

@@ -15,7 +15,7 @@ use Rattle.terms.proofs.Words.{words-append, words-length, words-more}
 use Rattle.machine.specs.Memory.{Memory}
 use Rattle.machine.specs.Read.{written, contents, success}
 use Rattle.machine.proofs.Extends.{Extends}
-use Rattle.readback.specs.ReadBack.{left}
+use Rattle.readback.specs.ReadBack.{slices-after}
 use Rattle.readback.proofs.Kept.{Fine, AllFine}
 use Rattle.readback.proofs.Laid.{fine-at}
 use Rattle.appended.specs.Appended.{IsBeginning, Begins}
@@ -46,7 +46,7 @@ written-begins a b rest old old′ n m l k e = (
 )
 
 pub begins : (n n′ : ℕ) (m m′ : Memory) → AllFine (m .terms) 1 (m .terms) → Extends m m′ → (rows rows′ terms terms′ : List ℕ) (store store′ : Text)
-    → Begins (left (success n m) rows terms store) (left (success n′ m′) rows′ terms′ store′)
+    → Begins (slices-after (success n m) rows terms store) (slices-after (success n′ m′) rows′ terms′ store′)
 unfolding terms-words
 begins n n′ m m′ f x rows rows′ terms terms′ store store′ =
     let (more-terms, p) = terms-begin (m .terms) (x .new-terms) f in

@@ -11,7 +11,7 @@ use Rattle.machine.specs.Demand.{Meets}
 use Rattle.machine.proofs.Demands.{accepted-iff-meets}
 use Rattle.reader.specs.Reader.{LentSlices, lengths, Contract}
 use Rattle.reader.specs.declared.Reading.{Reading}
-use Rattle.readback.specs.ReadBack.{left, RoundTrip}
+use Rattle.readback.specs.ReadBack.{slices-after, RoundTrip}
 use Rattle.readback.specs.HandedOver.{HandedOver}
 use Rattle.readback.proofs.RoundTrip.{written-again}
 use Rattle.readback.proofs.HandedOver.{handed-over}
@@ -26,7 +26,7 @@ use Rattle.calls.specs.Calls.{accepted, handed}
 -- One call.
 module _ (doc : Text) (mode : ℕ) (base : Text) (old new : LentSlices) (r : Reading) (c : Contract doc mode base old new r) where
   -- The slices after it are those that the answer leaves.
-  same-slices : left (read doc mode base (lengths old)) (old .rows) (old .terms) (old .store) ≡ handed new r
+  same-slices : slices-after (read doc mode base (lengths old)) (old .rows) (old .terms) (old .store) ≡ handed new r
   same-slices =
       λ i. record {
         rows = sym (c .rows) i;
@@ -67,7 +67,7 @@ module _ (doc more : Text) (mode : ℕ) (base : Text) (old new old′ new′ : L
   pub text-added : r .number ≡ accepted → r′ .number ≡ accepted → Begins (handed new r) (handed new′ r′)
   text-added e f =
       subst (λ (s : Slices). Begins s (handed new′ r′)) (same-slices doc mode base old new r c)
-      (subst (Begins (left (read doc mode base (lengths old)) (old .rows) (old .terms) (old .store))) (same-slices (with-text-added doc more) mode base old′ new′ r′ d)
+      (subst (Begins (slices-after (read doc mode base (lengths old)) (old .rows) (old .terms) (old .store))) (same-slices (with-text-added doc more) mode base old′ new′ r′ d)
       (appended doc more mode base (lengths old) (lengths old′) (sym (c .number) ∙ e) (sym (d .number) ∙ f) (old .rows) (old′ .rows) (old .terms) (old′ .terms) (old .store) (old′ .store)))
 
   -- The second is accepted exactly if the further text meets the conditions under the first's prefixes and base.

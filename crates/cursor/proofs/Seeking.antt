@@ -20,7 +20,7 @@ use Rattle.lexer.proofs.Cutting.{Cut, read-token, read-nothing, read-end}
 use Rattle.lexer_words.specs.Ahead.{Clear, NextAt}
 use Rattle.token.specs.Tokens.{Lexeme, token, unreadable}
 use Rattle.state.specs.Words.{kind-word, at-word, len-word, clear-word}
-use Rattle.state.specs.Cursor.{ahead, token-of, Cursor, TokenHere, StaysBeside, Sought, end-kind, unreadable-kind, left}
+use Rattle.state.specs.Cursor.{ahead, token-of, Cursor, TokenHere, StaysBeside, Sought, end-kind, unreadable-kind, remaining}
 use Rattle.cursor.specs.Code.{put-token, kind-there}
 
 -- The words after they are put.

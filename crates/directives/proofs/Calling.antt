@@ -16,7 +16,7 @@ use Rattle.token.specs.Terminals.{token-at}
 use Rattle.utf8.specs.Utf8.{decode}
 use Rattle.iri.specs.Code.{before}
 use Rattle.iri.proofs.Places.{until-take}
-use Rattle.scope.specs.Code.{in-force, Usable, Beside}
+use Rattle.scope.specs.Code.{environment-in, Usable, Beside}
 use Rattle.scope.proofs.Directives.{in-force-words}
 use Rattle.state.specs.Words.{kind-word, at-word, len-word}
 use Rattle.state.specs.Cursor.{Cursor, TokenHere}
@@ -58,11 +58,11 @@ module _ (doc work : Text) (st : List ℕ) (a : Able doc work st) where
         getD-take ((getD st at-word 0 + getD st len-word 0) - getD st at-word 0) (drop (getD st at-word 0) doc) 0 0 (omega (arith, t .some-byte))
         ∙ iriref-begins (drop (getD st at-word 0) doc) (t .here-valid) (getD st len-word 0) (subst (λ (k : ℕ). token-at (decode (drop (getD st at-word 0) doc)) ≡ hit k (getD st len-word 0)) e (t .matched))
 
-    pub base-call : (getD (take ((getD st at-word 0 + getD st len-word 0) - getD st at-word 0) (drop (getD st at-word 0) doc)) 0 0 ≡ 60) × (Usable work st × Sound (in-force work st))
+    pub base-call : (getD (take ((getD st at-word 0 + getD st len-word 0) - getD st at-word 0) (drop (getD st at-word 0) doc)) 0 0 ≡ 60) × (Usable work st × Sound (environment-in work st))
     base-call = (begun, (a .usable, a .sound))
 
     pub namespace-call : (start end : ℕ) → Prefix doc start end
-        → (getD (take ((getD st at-word 0 + getD st len-word 0) - getD st at-word 0) (drop (getD st at-word 0) doc)) 0 0 ≡ 60) × ((length (take (end - start) (drop start doc)) ≤ 64) × (Usable work st × Sound (in-force work st)))
+        → (getD (take ((getD st at-word 0 + getD st len-word 0) - getD st at-word 0) (drop (getD st at-word 0) doc)) 0 0 ≡ 60) × ((length (take (end - start) (drop start doc)) ≤ 64) × (Usable work st × Sound (environment-in work st)))
     namespace-call start end p = (begun, (rw (length-take-le (end - start) (drop start doc) (omega (arith, p .order, p .inside, length-drop start doc))) (p .short), (a .usable, a .sound)))
 
 -- The part of the document is the token.

@@ -15,7 +15,7 @@ use Rattle.token.specs.Kind.{Kind, kind-code, kind-of-code, IRIREF, «PNAME_NS�
 use Rattle.token.specs.Tokens.{Token}
 use Rattle.grammar.specs.Productions.{Mode, trig}
 use Rattle.scope.specs.Environment.{Environment, declare, set-base}
-use Rattle.scope.specs.Code.{in-force, Beside}
+use Rattle.scope.specs.Code.{environment-in, Beside}
 use Rattle.dataset.specs.Constructors.{prefix, iri-of, awaiting, namespace-of as namespace-awaited, new-base as base-awaited}
 use Rattle.table.specs.Tables.{or-zero}
 use Rattle.machine.specs.Memory.{Memory, Write, return, in-environment}
@@ -95,8 +95,8 @@ behind dotted = cond dotted (directive last-dot) (statement [])
 -- What is in force after the token t, and the refusal at it.
 module _ (f : Token → Environment → Environment) (ref : Environment → Token → ℕ) where
   record Sets (token work work' : Text) (st st' : List ℕ) (r : ℕ) : Type 0 where
-    refusal : (at : ℕ) → r ≡ ref (in-force work st) (token-as 1 at token)
-    leaves : r ≡ 0 → (at : ℕ) → Leaves (f (token-as 1 at token) (in-force work st)) work' st'
+    refusal : (at : ℕ) → r ≡ ref (environment-in work st) (token-as 1 at token)
+    leaves : r ≡ 0 → (at : ℕ) → Leaves (f (token-as 1 at token) (environment-in work st)) work' st'
     beside : Beside work work' st st'
     words : length st' ≡ length st
 
@@ -119,8 +119,8 @@ module _ (f : Token → Environment → Environment) (ref : Environment → Toke
       rule : (tied : Bool) → find-rule IRIREF (rules (here doc a) tied mode (directive d)) ≡ some v
       rule tied = ap (find-rule IRIREF) (awaits mode (here doc a) tied)
 
-      left : r ≡ 0 → Leaves (f (here doc a) (in-force (work .now) st)) work' st'
-      left z = subst (λ (t : Token). Leaves (f t (in-force (work .now) st)) work' st') (sym here-iri) (S .leaves z (getD st at-word 0))
+      left : r ≡ 0 → Leaves (f (here doc a) (environment-in (work .now) st)) work' st'
+      left z = subst (λ (t : Token). Leaves (f t (environment-in (work .now) st)) work' st') (sym here-iri) (S .leaves z (getD st at-word 0))
 
       refuses : (old : Tables) (m : Memory) → Holding old m a → (v : Write Open) (s s′ : State) → s .open-now ≡ directive d → s .memory ≡ m → Fits (room-in (tables-of a)) (s′ .memory) → r ≡ or-zero (first-refusal (tests (room-in (tables-of a)) s (here doc a) (some v) s′))
       refuses old m h v s s′ o em fits =

@@ -12,7 +12,7 @@ use Rattle.token.specs.Kind.{kind-of-code, among, open-bracket, open-paren, clo
 use Rattle.lexer.specs.Rest.{rest}
 use Rattle.grammar.specs.Productions.{Mode}
 use Rattle.scope.specs.Environment.{Environment}
-use Rattle.scope.specs.Code.{in-force, Beside}
+use Rattle.scope.specs.Code.{environment-in, Beside}
 use Rattle.table.specs.Tables.{or-zero}
 use Rattle.machine.specs.Memory.{Memory, Write, return, in-environment}
 use Rattle.machine.specs.Frame.{Open}
@@ -119,7 +119,7 @@ module _ (mode : Mode) (doc : Text) (o p : Open) (work rows terms store : RefT (
 
   -- The rule changes what is in force, as f says. The code has done so, or refuses.
   module _ (f : Environment → Environment) (rule : (tied : Bool) → find-rule (kind-of-code k) (rules (here doc a) tied mode o) ≡ some (λ m. (p, in-environment (f (m .environment)) m .1)))
-      (work' st' : List ℕ) (r : ℕ) (b : Beside (work .now) work' st st') (n : length st' ≡ length st) (l : r ≡ 0 → Leaves (f (in-force (work .now) st)) work' st')
+      (work' st' : List ℕ) (r : ℕ) (b : Beside (work .now) work' st st') (n : length st' ≡ length st) (l : r ≡ 0 → Leaves (f (environment-in (work .now) st)) work' st')
       (refusal : (old : Tables) (m : Memory) → Holding old m a → r ≡ or-zero (first-refusal (tests (room-in (tables-of a)) (before-it m) (here doc a) (some (λ m. (p, in-environment (f (m .environment)) m .1))) (behind-it (in-environment (f (m .environment)) m .1))))) where
     abbrev after : List ℕ → Held
     after st'' = held (at-last work work') rows terms store st''

@@ -8,7 +8,7 @@ use Rattle.text.specs.Text.{Text, is, until}
 use Rattle.limits.specs.Limits.{prefix-limit}
 use Rattle.token.specs.Kind.{Kind, at-prefix, at-base, PREFIX, BASE}
 use Rattle.grammar.specs.Productions.{Mode}
-use Rattle.scope.specs.Code.{in-force, Usable}
+use Rattle.scope.specs.Code.{environment-in, Usable}
 use Rattle.machine.specs.Frame.{Open, statement}
 use Rattle.state.specs.Words.{at-word, depth-word}
 use Rattle.state.specs.Cursor.{Cursor}
@@ -23,7 +23,7 @@ directive-kinds = at-prefix ∷ at-base ∷ PREFIX ∷ BASE ∷ []
 pub record Able (doc work : Text) (st : List ℕ) : Type 0 where
   pub cursor : Cursor doc st
   pub usable : Usable work st
-  pub sound : Sound (in-force work st)
+  pub sound : Sound (environment-in work st)
 
 -- A prefix that may be declared stands here in the document.
 pub record Prefix (doc : Text) (start end : ℕ) : Type 0 where

@@ -15,7 +15,7 @@ use Rattle.machine.specs.Memory.{Memory, Write}
 use Rattle.machine.specs.Refusals.{too-deep, new-depth}
 use Rattle.state.specs.Words.{kind-word, depth-word, graph-word}
 use Rattle.state.specs.Cursor.{Cursor, TokenHere}
-use Rattle.state.specs.Represents.{Tables, tables, Puts}
+use Rattle.state.specs.Represents.{Tables, lent-tables, Puts}
 use Rattle.state.specs.Writes.{placed, closed}
 use Rattle.reading.specs.Reading.{Held, held, tables-of, here, Ready, Same, Gives}
 use Rattle.nodes.specs.Nodes.{term-kinds, spot-of, Spotted, Numbers, Closes, Passed}
@@ -35,7 +35,7 @@ abbrev pub after : Held → List ℕ → List ℕ → List ℕ → List ℕ → 
 after a work' rows' terms' store' st' = held (at-last (a .work) work') (at-last (a .rows) rows') (at-last (a .terms) terms') (at-last (a .store) store') st'
 
 module _ (doc : Text) (w : Write ℕ) (a : Held) (work' rows' terms' store' st' : List ℕ) (r : ℕ)
-    (P : PutsToken (here doc a) w (a .work .now) work' (tables-of a) (tables rows' terms' store') (a .st) st' r)
+    (P : PutsToken (here doc a) w (a .work .now) work' (tables-of a) (lent-tables rows' terms' store') (a .st) st' r)
     (lw : length work' ≡ length (a .work .now)) (lr : length rows' ≡ length (a .rows .now)) (lt : length terms' ≡ length (a .terms .now)) (ls : length store' ≡ length (a .store .now)) where
   same-after : (st'' : List ℕ) → length st'' ≡ length (a .st) → Same a (after a work' rows' terms' store' st'')
   same-after st'' n = record { work = refl; rows = refl; terms = refl; store = refl; work-length = lw; rows-length = lr; terms-length = lt; store-length = ls; words = n }
@@ -59,7 +59,7 @@ module _ (doc : Text) (w : Write ℕ) (a : Held) (work' rows' terms' store' st' 
         later = omega (arith, p .later, P .stays 72 (omega arith));
         depth = p .depth-is ∙ ed;
         spot = λ k h. p .spot k h ∙ P .stays k (omega arith);
-        holding = λ old m h. represents-words old (w m .1) work' (tables rows' terms' store') st' st'' (p .before) (p .graph-is) (p .words) (P .wrote e .represents old m h);
+        holding = λ old m h. represents-words old (w m .1) work' (lent-tables rows' terms' store') st' st'' (p .before) (p .graph-is) (p .words) (P .wrote e .represents old m h);
       };
     };
     node = λ z old m h. p .before 70 (omega arith) ∙ P .wrote e .node old m h;
@@ -123,10 +123,10 @@ module _ (doc : Text) (w : Write ℕ) (a : Held) (k : ℕ) (e : getD (a .st) kin
       (refused-deep (here doc a) w (a .work .now) (tables-of a) (a .st) k (ap kind-of-code e) q o l) refl refl refl refl (λ z. omega arith)
 
   module _ (work' rows' terms' store' st' : List ℕ) (r : ℕ) (d : too-deep (getD (a .st) depth-word 0) (here doc a) ≡ false)
-      (p : Puts w (a .work .now) work' (tables-of a) (tables rows' terms' store') (a .st) st' r)
+      (p : Puts w (a .work .now) work' (tables-of a) (lent-tables rows' terms' store') (a .st) st' r)
       (lw : length work' ≡ length (a .work .now)) (lr : length rows' ≡ length (a .rows .now)) (lt : length terms' ≡ length (a .terms .now)) (ls : length store' ≡ length (a .store .now)) where
-    puts-here : PutsToken (here doc a) w (a .work .now) work' (tables-of a) (tables rows' terms' store') (a .st) st' r
-    puts-here = puts-plain (here doc a) w (a .work .now) work' (tables-of a) (tables rows' terms' store') (a .st) st' r k (ap kind-of-code e) q d p
+    puts-here : PutsToken (here doc a) w (a .work .now) work' (tables-of a) (lent-tables rows' terms' store') (a .st) st' r
+    puts-here = puts-plain (here doc a) w (a .work .now) work' (tables-of a) (lent-tables rows' terms' store') (a .st) st' r k (ap kind-of-code e) q d p
 
     pub plain-refused : (r ≡ 0 → ⊥) → Gives doc w a (after a work' rows' terms' store' st') r
     plain-refused z = put-refused doc w a work' rows' terms' store' st' r puts-here lw lr lt ls z

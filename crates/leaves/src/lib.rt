@@ -13,7 +13,7 @@ ghost use Rattle.machine.specs.Memory.{term, new-term, typed, iri-term};
 ghost use Rattle.address.specs.Tests.{token-as};
 ghost use Rattle.state.specs.Words.{kind-word, at-word, depth-word, graph-word};
 ghost use Rattle.state.specs.Cursor.{Cursor, TokenHere};
-ghost use Rattle.state.specs.Represents.{tables, Puts};
+ghost use Rattle.state.specs.Represents.{lent-tables, Puts};
 ghost use Rattle.state.specs.Writes.{node-write, placed, opened-at, NodeFits};
 ghost use Rattle.reading.specs.Reading.{code-among, held, Ready, Does};
 ghost use Rattle.nodes.specs.Nodes.{term-kinds, spot-of, Spotted, Numbers, PutsTerm, Closes, Passed};
@@ -59,8 +59,8 @@ fn place_node(
     back: &[u8],
     text: &[u8],
 ) -> u8
-    requires { ⌜ PutReady (now work) (tables (now rows) (now terms) (now store)) (now st) × NodeFits node (now work) (now back) (now text) (now text) ⌝ }
-    ensures { λ r. ⌜ Puts (placed (spot-in (now (st .entry))) (node-write node (now (work .entry)) (now (back .entry)) (now (text .entry)) (now (text .entry)) (getD (now (st .entry)) at-word 0))) (now (work .entry)) (now (work .exit)) (tables (now (rows .entry)) (now (terms .entry)) (now (store .entry))) (tables (now (rows .exit)) (now (terms .exit)) (now (store .exit))) (now (st .entry)) (now (st .exit)) r ⌝ }
+    requires { ⌜ PutReady (now work) (lent-tables (now rows) (now terms) (now store)) (now st) × NodeFits node (now work) (now back) (now text) (now text) ⌝ }
+    ensures { λ r. ⌜ Puts (placed (spot-in (now (st .entry))) (node-write node (now (work .entry)) (now (back .entry)) (now (text .entry)) (now (text .entry)) (getD (now (st .entry)) at-word 0))) (now (work .entry)) (now (work .exit)) (lent-tables (now (rows .entry)) (now (terms .entry)) (now (store .entry))) (lent-tables (now (rows .exit)) (now (terms .exit)) (now (store .exit))) (now (st .entry)) (now (st .exit)) r ⌝ }
 {
     let spot = spot_here(st);
     placing::place(work, rows, terms, store, st, spot, node, back, text, text)
@@ -74,8 +74,8 @@ fn place_bracket(
     store: &mut [u8],
     st: &mut [usize; Layout::WORDS],
 ) -> u8
-    requires { ⌜ PutReady (now work) (tables (now rows) (now terms) (now store)) (now st) ⌝ }
-    ensures { λ r. ⌜ Puts (placed (spot-in (now (st .entry))) (new-term (blank (bracket (getD (now (st .entry)) at-word 0))))) (now (work .entry)) (now (work .exit)) (tables (now (rows .entry)) (now (terms .entry)) (now (store .entry))) (tables (now (rows .exit)) (now (terms .exit)) (now (store .exit))) (now (st .entry)) (now (st .exit)) r ⌝ }
+    requires { ⌜ PutReady (now work) (lent-tables (now rows) (now terms) (now store)) (now st) ⌝ }
+    ensures { λ r. ⌜ Puts (placed (spot-in (now (st .entry))) (new-term (blank (bracket (getD (now (st .entry)) at-word 0))))) (now (work .entry)) (now (work .exit)) (lent-tables (now (rows .entry)) (now (terms .entry)) (now (store .entry))) (lent-tables (now (rows .exit)) (now (terms .exit)) (now (store .exit))) (now (st .entry)) (now (st .exit)) r ⌝ }
 {
     let byte = [0u8; 1];
     let none = &byte[..0];
@@ -106,8 +106,8 @@ fn place_type(
     st: &mut [usize; Layout::WORDS],
     token: &[u8],
 ) -> u8
-    requires { ⌜ PutReady (now work) (tables (now rows) (now terms) (now store)) (now st) × (length (now token) ≤ document-limit) ⌝ }
-    ensures { λ r. ⌜ Puts (placed (spot-in (now (st .entry))) (term (iri rdf-type))) (now (work .entry)) (now (work .exit)) (tables (now (rows .entry)) (now (terms .entry)) (now (store .entry))) (tables (now (rows .exit)) (now (terms .exit)) (now (store .exit))) (now (st .entry)) (now (st .exit)) r ⌝ }
+    requires { ⌜ PutReady (now work) (lent-tables (now rows) (now terms) (now store)) (now st) × (length (now token) ≤ document-limit) ⌝ }
+    ensures { λ r. ⌜ Puts (placed (spot-in (now (st .entry))) (term (iri rdf-type))) (now (work .entry)) (now (work .exit)) (lent-tables (now (rows .entry)) (now (terms .entry)) (now (store .entry))) (lent-tables (now (rows .exit)) (now (terms .exit)) (now (store .exit))) (now (st .entry)) (now (st .exit)) r ⌝ }
 {
     place_node(
         work,
@@ -136,8 +136,8 @@ fn place_label(
     st: &mut [usize; Layout::WORDS],
     token: &[u8],
 ) -> u8
-    requires { ⌜ PutReady (now work) (tables (now rows) (now terms) (now store)) (now st) × ((length (now token) ≤ document-limit) × (2 < length (now token))) ⌝ }
-    ensures { λ r. ⌜ Puts (placed (spot-in (now (st .entry))) (term (blank (label (drop 2 (now (token .entry))))))) (now (work .entry)) (now (work .exit)) (tables (now (rows .entry)) (now (terms .entry)) (now (store .entry))) (tables (now (rows .exit)) (now (terms .exit)) (now (store .exit))) (now (st .entry)) (now (st .exit)) r ⌝ }
+    requires { ⌜ PutReady (now work) (lent-tables (now rows) (now terms) (now store)) (now st) × ((length (now token) ≤ document-limit) × (2 < length (now token))) ⌝ }
+    ensures { λ r. ⌜ Puts (placed (spot-in (now (st .entry))) (term (blank (label (drop 2 (now (token .entry))))))) (now (work .entry)) (now (work .exit)) (lent-tables (now (rows .entry)) (now (terms .entry)) (now (store .entry))) (lent-tables (now (rows .exit)) (now (terms .exit)) (now (store .exit))) (now (st .entry)) (now (st .exit)) r ⌝ }
 {
     place_node(
         work,
@@ -192,8 +192,8 @@ fn place_literal(
     token: &[u8],
     kind: usize,
 ) -> u8
-    requires { ⌜ PutReady (now work) (tables (now rows) (now terms) (now store)) (now st) × (length (now token) ≤ document-limit) ⌝ }
-    ensures { λ r. ⌜ Puts (placed (spot-in (now (st .entry))) (typed (now (token .entry)) (datatype-of kind))) (now (work .entry)) (now (work .exit)) (tables (now (rows .entry)) (now (terms .entry)) (now (store .entry))) (tables (now (rows .exit)) (now (terms .exit)) (now (store .exit))) (now (st .entry)) (now (st .exit)) r ⌝ }
+    requires { ⌜ PutReady (now work) (lent-tables (now rows) (now terms) (now store)) (now st) × (length (now token) ≤ document-limit) ⌝ }
+    ensures { λ r. ⌜ Puts (placed (spot-in (now (st .entry))) (typed (now (token .entry)) (datatype-of kind))) (now (work .entry)) (now (work .exit)) (lent-tables (now (rows .entry)) (now (terms .entry)) (now (store .entry))) (lent-tables (now (rows .exit)) (now (terms .exit)) (now (store .exit))) (now (st .entry)) (now (st .exit)) r ⌝ }
 {
     let name = datatype(kind);
     let n = datatype_size(kind);
@@ -226,8 +226,8 @@ fn place_address(
     kind: usize,
     buffer: &mut [u8],
 ) -> u8
-    requires { ⌜ PutReady (now work) (tables (now rows) (now terms) (now store)) (now st) × (((1 ≤ kind) × (kind ≤ 3)) × ((kind ≡ 1 → getD (now token) 0 0 ≡ 60) × (length (now token) ≤ document-limit))) × (length (now buffer) ≡ iri-limit) ⌝ }
-    ensures { λ r. ⌜ PutsToken (token-as kind (getD (now (st .entry)) at-word 0) (now (token .entry))) (placed (spot-in (now (st .entry))) (iri-term (token-as kind (getD (now (st .entry)) at-word 0) (now (token .entry))))) (now (work .entry)) (now (work .exit)) (tables (now (rows .entry)) (now (terms .entry)) (now (store .entry))) (tables (now (rows .exit)) (now (terms .exit)) (now (store .exit))) (now (st .entry)) (now (st .exit)) r ⌝ }
+    requires { ⌜ PutReady (now work) (lent-tables (now rows) (now terms) (now store)) (now st) × (((1 ≤ kind) × (kind ≤ 3)) × ((kind ≡ 1 → getD (now token) 0 0 ≡ 60) × (length (now token) ≤ document-limit))) × (length (now buffer) ≡ iri-limit) ⌝ }
+    ensures { λ r. ⌜ PutsToken (token-as kind (getD (now (st .entry)) at-word 0) (now (token .entry))) (placed (spot-in (now (st .entry))) (iri-term (token-as kind (getD (now (st .entry)) at-word 0) (now (token .entry))))) (now (work .entry)) (now (work .exit)) (lent-tables (now (rows .entry)) (now (terms .entry)) (now (store .entry))) (lent-tables (now (rows .exit)) (now (terms .exit)) (now (store .exit))) (now (st .entry)) (now (st .exit)) r ⌝ }
 {
     let a = address::address_of(token, kind, &work[0..], st, buffer);
     let refused = a.refused;
@@ -259,8 +259,8 @@ fn place_iri(
     token: &[u8],
     kind: usize,
 ) -> u8
-    requires { ⌜ PutReady (now work) (tables (now rows) (now terms) (now store)) (now st) × (((1 ≤ kind) × (kind ≤ 3)) × ((kind ≡ 1 → getD (now token) 0 0 ≡ 60) × (length (now token) ≤ document-limit))) ⌝ }
-    ensures { λ r. ⌜ PutsToken (token-as kind (getD (now (st .entry)) at-word 0) (now (token .entry))) (placed (spot-in (now (st .entry))) (iri-term (token-as kind (getD (now (st .entry)) at-word 0) (now (token .entry))))) (now (work .entry)) (now (work .exit)) (tables (now (rows .entry)) (now (terms .entry)) (now (store .entry))) (tables (now (rows .exit)) (now (terms .exit)) (now (store .exit))) (now (st .entry)) (now (st .exit)) r ⌝ }
+    requires { ⌜ PutReady (now work) (lent-tables (now rows) (now terms) (now store)) (now st) × (((1 ≤ kind) × (kind ≤ 3)) × ((kind ≡ 1 → getD (now token) 0 0 ≡ 60) × (length (now token) ≤ document-limit))) ⌝ }
+    ensures { λ r. ⌜ PutsToken (token-as kind (getD (now (st .entry)) at-word 0) (now (token .entry))) (placed (spot-in (now (st .entry))) (iri-term (token-as kind (getD (now (st .entry)) at-word 0) (now (token .entry))))) (now (work .entry)) (now (work .exit)) (lent-tables (now (rows .entry)) (now (terms .entry)) (now (store .entry))) (lent-tables (now (rows .exit)) (now (terms .exit)) (now (store .exit))) (now (st .entry)) (now (st .exit)) r ⌝ }
 {
     let mut buffer = [0u8; Limits::IRI];
     place_address(work, rows, terms, store, st, token, kind, &mut buffer)
@@ -275,8 +275,8 @@ fn place_term(
     store: &mut [u8],
     st: &mut [usize; Layout::WORDS],
 ) -> u8
-    requires { ⌜ PutReady (now work) (tables (now rows) (now terms) (now store)) (now st) × ((Cursor (now doc) (now st) × TokenHere (now doc) (now st)) × (code-among (kw-a ∷ term-kinds) (getD (now st) kind-word 0) ≡ true)) ⌝ }
-    ensures { λ r. ⌜ PutsNode (now (doc .entry)) (now (work .entry)) (now (work .exit)) (tables (now (rows .entry)) (now (terms .entry)) (now (store .entry))) (tables (now (rows .exit)) (now (terms .exit)) (now (store .exit))) (now (st .entry)) (now (st .exit)) r ⌝ }
+    requires { ⌜ PutReady (now work) (lent-tables (now rows) (now terms) (now store)) (now st) × ((Cursor (now doc) (now st) × TokenHere (now doc) (now st)) × (code-among (kw-a ∷ term-kinds) (getD (now st) kind-word 0) ≡ true)) ⌝ }
+    ensures { λ r. ⌜ PutsNode (now (doc .entry)) (now (work .entry)) (now (work .exit)) (lent-tables (now (rows .entry)) (now (terms .entry)) (now (store .entry))) (lent-tables (now (rows .exit)) (now (terms .exit)) (now (store .exit))) (now (st .entry)) (now (st .exit)) r ⌝ }
 {
     let kind = st[Words::KIND];
     let at = st[Words::AT];

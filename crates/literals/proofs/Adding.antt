@@ -11,8 +11,8 @@ use Rattle.lexer.specs.Rest.{rest}
 use Rattle.machine.specs.Memory.{Memory, Write}
 use Rattle.machine.specs.Refusals.{new-depth}
 use Rattle.state.specs.Words.{at-word, depth-word, graph-word}
-use Rattle.state.specs.Cursor.{left}
-use Rattle.state.specs.Represents.{Tables, tables, room-in, Represented, room-refusal, Puts}
+use Rattle.state.specs.Cursor.{remaining}
+use Rattle.state.specs.Represents.{Tables, lent-tables, room-in, Represented, room-refusal, Puts}
 use Rattle.reading.specs.Reading.{Held, held, tables-of, here, Holding, Same, token-refusal, Does}
 use Rattle.reading.proofs.Compose.{same-both}
 use Rattle.nodes.specs.Nodes.{Passed}
@@ -68,7 +68,7 @@ module _ (a : Held) (work rows terms store st1 : List ℕ) (lw : length work ≡
   same-later n st2 m = same-both a later-held (after a work rows terms store st2) (same-after n) (same-words (later-held .work) (later-held .rows) (later-held .terms) (later-held .store) st1 st2 m)
 
   -- w was done, then the cursor went on.
-  module _ (doc : Text) (w : Write ℕ) (r : ℕ) (O : Obeys doc w (a .work .now) work (tables-of a) (tables rows terms store) (a .st) st1 r) where
+  module _ (doc : Text) (w : Write ℕ) (r : ℕ) (O : Obeys doc w (a .work .now) work (tables-of a) (lent-tables rows terms store) (a .st) st1 r) where
     pub obeys-stop : (r ≡ 0 → ⊥) → Does doc w a later-held r
     obeys-stop z = record { same = same-after (O .words); refusal = λ old m h. O .refusal old m h; place = λ e. O .stays 72 (omega arith); done = λ e. absurd (z e) }
 
@@ -82,16 +82,16 @@ module _ (a : Held) (work rows terms store st1 : List ℕ) (lw : length work ≡
           done = λ e.
               record {
                 cursor = p .cursor;
-                tokens = subst (λ (n : ℕ). rest doc n ≡ left doc st2) (let e1 = O .stays 72 (omega arith) in let e2 = O .stays 73 (omega arith) in omega arith) (p .tokens);
+                tokens = subst (λ (n : ℕ). rest doc n ≡ remaining doc st2) (let e1 = O .stays 72 (omega arith) in let e2 = O .stays 73 (omega arith) in omega arith) (p .tokens);
                 later = let e1 = O .stays 72 (omega arith) in omega (arith, p .later);
                 depth = p .depth-is ∙ (O .stays 75 (omega arith) ∙ sym d);
                 spot = λ k h. p .spot k h ∙ O .stays k (omega arith);
-                holding = λ old m h. represents-words old (w m .1) work (tables rows terms store) st1 st2 (p .before) (p .graph-is) (p .words) (O .wrote z .represents old m h);
+                holding = λ old m h. represents-words old (w m .1) work (lent-tables rows terms store) st1 st2 (p .before) (p .graph-is) (p .words) (O .wrote z .represents old m h);
               };
         }
 
   -- What was put, behind the references.
-  module _ (w : Write ℕ) (r : ℕ) (P : Puts w (a .work .now) work (tables-of a) (tables rows terms store) (a .st) st1 r) where
+  module _ (w : Write ℕ) (r : ℕ) (P : Puts w (a .work .now) work (tables-of a) (lent-tables rows terms store) (a .st) st1 r) where
     pub puts-adds : r ≡ 0 → (at : ℕ) → Adds w a later-held at 0
     puts-adds z at = record { same = same-after (P .words); room = λ old m h. sym z ∙ P .room old m h; place = λ e. absurd (e refl); stays = λ e. P .stays; holding = λ e old m h. P .wrote z .represents old m h }
 

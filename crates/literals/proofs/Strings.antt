@@ -22,7 +22,7 @@ use Rattle.machine.specs.Refusals.{no-character, undeclared, no-base, too-long,
 use Rattle.machine.specs.Step.{Room, tied-to}
 use Rattle.scope.specs.Environment.{Environment}
 use Rattle.state.specs.Words.{terms-word, kind-word, at-word, len-word, list-word, x-word, y-word}
-use Rattle.state.specs.Cursor.{token-of, left, Cursor, TokenHere}
+use Rattle.state.specs.Cursor.{token-of, remaining, Cursor, TokenHere}
 use Rattle.state.specs.Represents.{Tables, room-refusal}
 use Rattle.state.specs.Writes.{place-of, begin, placed, opened-at}
 use Rattle.cursor.proofs.Seeking.{ahead-token, ahead-none, ahead-end}
@@ -62,7 +62,7 @@ unfolding string-text
 text-same doc at len k h = each-string (λ (j : ℕ). string-text (token-of doc j at len) ≡ text-of doc at len (quotes-of j)) refl refl refl refl k h
 
 -- Does what the cursor holds tie the token before it?
-pub tied-left : (doc : Text) (st : List ℕ) → Cursor doc st → tied-to (left doc st) ≡ code-among ties (getD st kind-word 0)
+pub tied-left : (doc : Text) (st : List ℕ) → Cursor doc st → tied-to (remaining doc st) ≡ code-among ties (getD st kind-word 0)
 tied-left doc st c =
     by (eqb (getD st kind-word 0) 0) (λ p. let e = eqb-true (getD st kind-word 0) 0 p in rw (e, ahead-end doc (getD st at-word 0) (getD st len-word 0)))
     (λ p. by (eqb (getD st kind-word 0) 31) (λ q. let e = eqb-true (getD st kind-word 0) 31 q in rw (e, ahead-none doc (getD st at-word 0) (getD st len-word 0)))

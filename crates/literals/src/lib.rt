@@ -16,7 +16,7 @@ ghost use Rattle.machine.specs.Memory.{term, typed, typed-by};
 ghost use Rattle.machine.specs.Frame.{suffix, datatype};
 ghost use Rattle.state.specs.Words.{terms-word, kind-word, at-word, len-word};
 ghost use Rattle.state.specs.Cursor.{token-of, Cursor, TokenHere};
-ghost use Rattle.state.specs.Represents.{tables, Represented, Puts};
+ghost use Rattle.state.specs.Represents.{lent-tables, Represented, Puts};
 ghost use Rattle.state.specs.Writes.{place-of, placed, opened-at, SpotFits};
 ghost use Rattle.address.specs.Addresses.{front-of, back-of};
 ghost use Rattle.reading.specs.Reading.{code-among, held, here, Ready, Reads, Does};
@@ -124,8 +124,8 @@ fn place_plain(
     len: usize,
     quotes: usize,
 ) -> u8
-    requires { ⌜ Represented (now work) (tables (now rows) (now terms) (now store)) (now st) × (SpotFits (spot-at (now st) at) × Quoted (now doc) at len quotes) ⌝ }
-    ensures { λ r. ⌜ Puts (placed (spot-at (now (st .entry)) at) (typed (text-of (now (doc .entry)) at len quotes) xsd-string)) (now (work .entry)) (now (work .exit)) (tables (now (rows .entry)) (now (terms .entry)) (now (store .entry))) (tables (now (rows .exit)) (now (terms .exit)) (now (store .exit))) (now (st .entry)) (now (st .exit)) r ⌝ }
+    requires { ⌜ Represented (now work) (lent-tables (now rows) (now terms) (now store)) (now st) × (SpotFits (spot-at (now st) at) × Quoted (now doc) at len quotes) ⌝ }
+    ensures { λ r. ⌜ Puts (placed (spot-at (now (st .entry)) at) (typed (text-of (now (doc .entry)) at len quotes) xsd-string)) (now (work .entry)) (now (work .exit)) (lent-tables (now (rows .entry)) (now (terms .entry)) (now (store .entry))) (lent-tables (now (rows .exit)) (now (terms .exit)) (now (store .exit))) (now (st .entry)) (now (st .exit)) r ⌝ }
 {
     let end = at + len;
     let text = inside(&doc[at..end], quotes);
@@ -165,8 +165,8 @@ fn place_tagged(
     x: usize,
     y: usize,
 ) -> u8
-    requires { ⌜ (Represented (now work) (tables (now rows) (now terms) (now store)) (now st) × (SpotFits (own-spot x y at) × Quoted (now doc) at len quotes)) × ((Cursor (now doc) (now st) × TokenHere (now doc) (now st)) × (getD (now st) kind-word 0 ≡ 7)) ⌝ }
-    ensures { λ r. ⌜ Obeys (now (doc .entry)) (placed (own-spot x y at) (term (tagged (text-of (now (doc .entry)) at len quotes) (tag (token-of (now (doc .entry)) (getD (now (st .entry)) kind-word 0) (getD (now (st .entry)) at-word 0) (getD (now (st .entry)) len-word 0)))))) (now (work .entry)) (now (work .exit)) (tables (now (rows .entry)) (now (terms .entry)) (now (store .entry))) (tables (now (rows .exit)) (now (terms .exit)) (now (store .exit))) (now (st .entry)) (now (st .exit)) r ⌝ }
+    requires { ⌜ (Represented (now work) (lent-tables (now rows) (now terms) (now store)) (now st) × (SpotFits (own-spot x y at) × Quoted (now doc) at len quotes)) × ((Cursor (now doc) (now st) × TokenHere (now doc) (now st)) × (getD (now st) kind-word 0 ≡ 7)) ⌝ }
+    ensures { λ r. ⌜ Obeys (now (doc .entry)) (placed (own-spot x y at) (term (tagged (text-of (now (doc .entry)) at len quotes) (tag (token-of (now (doc .entry)) (getD (now (st .entry)) kind-word 0) (getD (now (st .entry)) at-word 0) (getD (now (st .entry)) len-word 0)))))) (now (work .entry)) (now (work .exit)) (lent-tables (now (rows .entry)) (now (terms .entry)) (now (store .entry))) (lent-tables (now (rows .exit)) (now (terms .exit)) (now (store .exit))) (now (st .entry)) (now (st .exit)) r ⌝ }
 {
     let end = at + len;
     let text = inside(&doc[at..end], quotes);
@@ -214,8 +214,8 @@ fn place_address(
     spot: Spot,
     a: Address,
 ) -> u8
-    requires { ⌜ Represented (now work) (tables (now rows) (now terms) (now store)) (now st) × (SpotFits spot × Located a (now token) (now text) (now buffer) (now work)) ⌝ }
-    ensures { λ r. ⌜ Puts (placed spot (typed (unescape (now (text .entry))) (joined (front-of a (now (work .entry))) (a .form) (back-of a (now (token .entry)) (now (buffer .entry)))))) (now (work .entry)) (now (work .exit)) (tables (now (rows .entry)) (now (terms .entry)) (now (store .entry))) (tables (now (rows .exit)) (now (terms .exit)) (now (store .exit))) (now (st .entry)) (now (st .exit)) r ⌝ }
+    requires { ⌜ Represented (now work) (lent-tables (now rows) (now terms) (now store)) (now st) × (SpotFits spot × Located a (now token) (now text) (now buffer) (now work)) ⌝ }
+    ensures { λ r. ⌜ Puts (placed spot (typed (unescape (now (text .entry))) (joined (front-of a (now (work .entry))) (a .form) (back-of a (now (token .entry)) (now (buffer .entry)))))) (now (work .entry)) (now (work .exit)) (lent-tables (now (rows .entry)) (now (terms .entry)) (now (store .entry))) (lent-tables (now (rows .exit)) (now (terms .exit)) (now (store .exit))) (now (st .entry)) (now (st .exit)) r ⌝ }
 {
     let form = a.form;
     let node = Node {
@@ -270,8 +270,8 @@ fn place_written(
     y: usize,
     buffer: &mut [u8],
 ) -> u8
-    requires { ⌜ ((Represented (now work) (tables (now rows) (now terms) (now store)) (now st) × (SpotFits (own-spot x y at) × Quoted (now doc) at len quotes)) × ((Cursor (now doc) (now st) × TokenHere (now doc) (now st)) × (code-among iris (getD (now st) kind-word 0) ≡ true))) × (length (now buffer) ≡ iri-limit) ⌝ }
-    ensures { λ r. ⌜ Obeys (now (doc .entry)) (placed (own-spot x y at) (typed-by (text-of (now (doc .entry)) at len quotes) (token-of (now (doc .entry)) (getD (now (st .entry)) kind-word 0) (getD (now (st .entry)) at-word 0) (getD (now (st .entry)) len-word 0)))) (now (work .entry)) (now (work .exit)) (tables (now (rows .entry)) (now (terms .entry)) (now (store .entry))) (tables (now (rows .exit)) (now (terms .exit)) (now (store .exit))) (now (st .entry)) (now (st .exit)) r ⌝ }
+    requires { ⌜ ((Represented (now work) (lent-tables (now rows) (now terms) (now store)) (now st) × (SpotFits (own-spot x y at) × Quoted (now doc) at len quotes)) × ((Cursor (now doc) (now st) × TokenHere (now doc) (now st)) × (code-among iris (getD (now st) kind-word 0) ≡ true))) × (length (now buffer) ≡ iri-limit) ⌝ }
+    ensures { λ r. ⌜ Obeys (now (doc .entry)) (placed (own-spot x y at) (typed-by (text-of (now (doc .entry)) at len quotes) (token-of (now (doc .entry)) (getD (now (st .entry)) kind-word 0) (getD (now (st .entry)) at-word 0) (getD (now (st .entry)) len-word 0)))) (now (work .entry)) (now (work .exit)) (lent-tables (now (rows .entry)) (now (terms .entry)) (now (store .entry))) (lent-tables (now (rows .exit)) (now (terms .exit)) (now (store .exit))) (now (st .entry)) (now (st .exit)) r ⌝ }
 {
     let from = st[Words::AT];
     let to = from + st[Words::LEN];
@@ -317,8 +317,8 @@ fn place_typed(
     x: usize,
     y: usize,
 ) -> u8
-    requires { ⌜ (Represented (now work) (tables (now rows) (now terms) (now store)) (now st) × (SpotFits (own-spot x y at) × Quoted (now doc) at len quotes)) × ((Cursor (now doc) (now st) × TokenHere (now doc) (now st)) × (code-among iris (getD (now st) kind-word 0) ≡ true)) ⌝ }
-    ensures { λ r. ⌜ Obeys (now (doc .entry)) (placed (own-spot x y at) (typed-by (text-of (now (doc .entry)) at len quotes) (token-of (now (doc .entry)) (getD (now (st .entry)) kind-word 0) (getD (now (st .entry)) at-word 0) (getD (now (st .entry)) len-word 0)))) (now (work .entry)) (now (work .exit)) (tables (now (rows .entry)) (now (terms .entry)) (now (store .entry))) (tables (now (rows .exit)) (now (terms .exit)) (now (store .exit))) (now (st .entry)) (now (st .exit)) r ⌝ }
+    requires { ⌜ (Represented (now work) (lent-tables (now rows) (now terms) (now store)) (now st) × (SpotFits (own-spot x y at) × Quoted (now doc) at len quotes)) × ((Cursor (now doc) (now st) × TokenHere (now doc) (now st)) × (code-among iris (getD (now st) kind-word 0) ≡ true)) ⌝ }
+    ensures { λ r. ⌜ Obeys (now (doc .entry)) (placed (own-spot x y at) (typed-by (text-of (now (doc .entry)) at len quotes) (token-of (now (doc .entry)) (getD (now (st .entry)) kind-word 0) (getD (now (st .entry)) at-word 0) (getD (now (st .entry)) len-word 0)))) (now (work .entry)) (now (work .exit)) (lent-tables (now (rows .entry)) (now (terms .entry)) (now (store .entry))) (lent-tables (now (rows .exit)) (now (terms .exit)) (now (store .exit))) (now (st .entry)) (now (st .exit)) r ⌝ }
 {
     let mut buffer = [0u8; Limits::IRI];
     place_written(
@@ -349,7 +349,7 @@ fn put_plain(
     len: usize,
     quotes: usize,
 ) -> u8
-    requires { ⌜ Represented (now (now work)) (tables (now (now rows)) (now (now terms)) (now (now store))) (now st) × (SpotFits (spot-at (now st) at) × Quoted (now (now doc)) at len quotes) ⌝ }
+    requires { ⌜ Represented (now (now work)) (lent-tables (now (now rows)) (now (now terms)) (now (now store))) (now st) × (SpotFits (spot-at (now st) at) × Quoted (now (now doc)) at len quotes) ⌝ }
     ensures { λ r. ⌜ Adds (placed (spot-at (now (st .entry)) at) (typed (text-of (now (now (doc .entry))) at len quotes) xsd-string)) (held (now (work .entry)) (now (rows .entry)) (now (terms .entry)) (now (store .entry)) (now (st .entry))) (held (now (work .exit)) (now (rows .exit)) (now (terms .exit)) (now (store .exit)) (now (st .exit))) at r ⌝ }
 {
     let r = place_plain(*doc, *work, *rows, *terms, *store, st, at, len, quotes);
@@ -369,7 +369,7 @@ fn put_place(
     st: &mut [usize; Layout::WORDS],
     at: usize,
 ) -> u8
-    requires { ⌜ Represented (now (now work)) (tables (now (now rows)) (now (now terms)) (now (now store))) (now st) × SpotFits (spot-at (now st) at) ⌝ }
+    requires { ⌜ Represented (now (now work)) (lent-tables (now (now rows)) (now (now terms)) (now (now store))) (now st) × SpotFits (spot-at (now st) at) ⌝ }
     ensures { λ r. ⌜ Adds (opened-at (spot-at (now (st .entry)) at)) (held (now (work .entry)) (now (rows .entry)) (now (terms .entry)) (now (store .entry)) (now (st .entry))) (held (now (work .exit)) (now (rows .exit)) (now (terms .exit)) (now (store .exit)) (now (st .exit))) at r ⌝ }
 {
     let spot = spot_at(st, at);

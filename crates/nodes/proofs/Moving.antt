@@ -9,7 +9,7 @@ use lib.Seq.{getD-set-same, getD-set-other}
 use Rattle.text.specs.Text.{Text}
 use Rattle.lexer.specs.Rest.{rest}
 use Rattle.state.specs.Words.{kind-word, at-word, len-word, clear-word}
-use Rattle.state.specs.Cursor.{ahead, left, Cursor, TokenHere, Sought}
+use Rattle.state.specs.Cursor.{ahead, remaining, Cursor, TokenHere, Sought}
 use Rattle.nodes.specs.Nodes.{Aimed, Passed}
 
 -- The cursor is in four words.
@@ -34,7 +34,7 @@ module _ (doc : Text) (st st' : List ℕ) (same : (k : ℕ) → kind-word ≤ k 
         token = λ x y. token-words (c .token (λ e. x (same 71 (omega arith) (omega arith) ∙ e)) (λ e. y (same 71 (omega arith) (omega arith) ∙ e)));
       }
 
-  pub left-words : left doc st' ≡ left doc st
+  pub left-words : remaining doc st' ≡ remaining doc st
   left-words = rw (same 71 (omega arith) (omega arith), same 72 (omega arith) (omega arith), same 73 (omega arith) (omega arith))
 
 module _ (doc : Text) (st st' : List ℕ) (t : TokenHere doc st) (s : Sought doc (getD st 72 0 + getD st 73 0) st st') where

@@ -15,7 +15,7 @@ use Rattle.limits.specs.Limits.{work-size}
 use Rattle.token.specs.Kind.{kind-of-code, among, names, strings, IRIREF, open-bracket, open-paren, close-bracket, close-paren}
 use Rattle.token.specs.Tokens.{Token}
 use Rattle.grammar.specs.Productions.{Mode}
-use Rattle.scope.specs.Code.{in-force}
+use Rattle.scope.specs.Code.{environment-in}
 use Rattle.scope.proofs.Directives.{in-force-words}
 use Rattle.dataset.specs.Constructors.{nothing, awaiting}
 use Rattle.machine.specs.Memory.{Memory, Write, enter}
@@ -26,7 +26,7 @@ use Rattle.machine.specs.Step.{awaited-by}
 use Rattle.machine.specs.Demand.{Fits}
 use Rattle.state.specs.Words.{kind-word, at-word, len-word, depth-word, graph-word}
 use Rattle.state.specs.Cursor.{TokenHere}
-use Rattle.state.specs.Represents.{Tables, tables, room-in, Represents}
+use Rattle.state.specs.Represents.{Tables, lent-tables, room-in, Represents}
 use Rattle.reading.specs.Reading.{Held, held, tables-of, here, Holding, Ready, Same, Comes, token-refusal, Done, Does}
 use Rattle.reading.proofs.Compose.{same-all}
 use Rattle.reading.proofs.Steps.{does-comes, tied-here}
@@ -36,7 +36,7 @@ use Rattle.nodes.specs.Nodes.{Passed}
 pub represents-words : (old : Tables) (m : Memory) (work : Text) (t : Tables) (st st' : List ℕ) → ((k : ℕ) → k < kind-word → getD st' k 0 ≡ getD st k 0) → getD st' graph-word 0 ≡ getD st graph-word 0 → length st' ≡ length st
     → Represents old m work t st → Represents old m work t st'
 represents-words old m work t st st' same eg n r =
-    let e : in-force work st' ≡ in-force work st = in-force-words work st st' (λ k h. same k (omega arith)) in
+    let e : environment-in work st' ≡ environment-in work st = in-force-words work st st' (λ k h. same k (omega arith)) in
     record {
       usable = record { room = r .usable .room; words = n ∙ r .usable .words };
       environment = e ∙ r .environment;
@@ -55,7 +55,7 @@ represents-words old m work t st st' same eg n r =
 represents-graph : (old : Tables) (m : Memory) (work : Text) (t : Tables) (st st' : List ℕ) (g : ℕ) → ((k : ℕ) → k < kind-word → getD st' k 0 ≡ getD st k 0) → getD st' graph-word 0 ≡ g → g < 4294967296 → length st' ≡ length st
     → Represents old m work t st → Represents old (enter g m .1) work t st'
 represents-graph old m work t st st' g same eg small n r =
-    let e : in-force work st' ≡ in-force work st = in-force-words work st st' (λ k h. same k (omega arith)) in
+    let e : environment-in work st' ≡ environment-in work st = in-force-words work st st' (λ k h. same k (omega arith)) in
     record {
       usable = record { room = r .usable .room; words = n ∙ r .usable .words };
       environment = e ∙ r .environment;

@@ -15,7 +15,7 @@ use Rattle.machine.specs.Frame.{Ending, Place, top, subject-before, object-of, 
 use Rattle.machine.specs.Rules.{Rule, _⇒_, find-rule, after-node, after-properties, Opening, label-term, end-rules, verb-rules, object-rules, frame-rules}
 use Rattle.state.specs.Words.{terms-word, node-word, kind-word, at-word, len-word, depth-word, graph-word, list-word, x-word, y-word, opened-word, last-word}
 use Rattle.lexer.specs.Rest.{rest}
-use Rattle.state.specs.Cursor.{Cursor, TokenHere, left}
+use Rattle.state.specs.Cursor.{Cursor, TokenHere, remaining}
 use Rattle.state.specs.Represents.{Tables}
 use Rattle.state.specs.Writes.{place-of, begin, placed, closed}
 use Rattle.state.specs.declared.Spot.{Spot}
@@ -135,7 +135,7 @@ pub record Aimed (st st' : List ℕ) (list x y opened last : ℕ) : Type 0 where
 -- The cursor is behind a token that writes nothing; so many brackets are open then, in this graph.
 pub record Passed (doc : Text) (st st' : List ℕ) (depth graph : ℕ) : Type 0 where
   pub cursor : Cursor doc st'
-  pub tokens : rest doc (getD st at-word 0 + getD st len-word 0) ≡ left doc st'
+  pub tokens : rest doc (getD st at-word 0 + getD st len-word 0) ≡ remaining doc st'
   pub later : getD st at-word 0 < getD st' at-word 0
   pub depth-is : getD st' depth-word 0 ≡ depth
   pub graph-is : getD st' graph-word 0 ≡ graph

@@ -16,7 +16,7 @@ use lib.Seq.{take-all}
 use Rattle.text.specs.Text.{Text}
 use Rattle.machine.specs.Memory.{Memory, Write}
 use Rattle.state.specs.Words.{Stays}
-use Rattle.state.specs.Represents.{Tables, tables, room-in, Represents, Represented, room-refusal, Wrote, Puts}
+use Rattle.state.specs.Represents.{Tables, lent-tables, room-in, Represents, Represented, room-refusal, Wrote, Puts}
 use Rattle.state.specs.Writes.{node-write, placed, NodeFits}
 use Rattle.state.specs.declared.Spot.{Spot}
 use Rattle.state.specs.declared.Node.{Node}
@@ -27,22 +27,22 @@ whole : (x : List ℕ) → take (length x - 0) (drop 0 x) ≡ x
 whole x = take-all (length x - 0) x (omega arith)
 
 module _ (w : Write ℕ) (work : Text) (rows terms : List ℕ) (store : Text) (st : List ℕ) (r : ℕ)
-    (a : Answers (take (length work - 0) (drop 0 work)) (tables (take (length rows - 0) (drop 0 rows)) (take (length terms - 0) (drop 0 terms)) (take (length store - 0) (drop 0 store))) st w r) where
-  pub answered : Answers work (tables rows terms store) st w r
-  answered = subst (λ (x : Text). Answers x (tables rows terms store) st w r) (whole work)
-      (subst (λ (x : List ℕ). Answers (take (length work - 0) (drop 0 work)) (tables x terms store) st w r) (whole rows)
-      (subst (λ (x : List ℕ). Answers (take (length work - 0) (drop 0 work)) (tables (take (length rows - 0) (drop 0 rows)) x store) st w r) (whole terms)
-      (subst (λ (x : Text). Answers (take (length work - 0) (drop 0 work)) (tables (take (length rows - 0) (drop 0 rows)) (take (length terms - 0) (drop 0 terms)) x) st w r) (whole store) a)))
+    (a : Answers (take (length work - 0) (drop 0 work)) (lent-tables (take (length rows - 0) (drop 0 rows)) (take (length terms - 0) (drop 0 terms)) (take (length store - 0) (drop 0 store))) st w r) where
+  pub answered : Answers work (lent-tables rows terms store) st w r
+  answered = subst (λ (x : Text). Answers x (lent-tables rows terms store) st w r) (whole work)
+      (subst (λ (x : List ℕ). Answers (take (length work - 0) (drop 0 work)) (lent-tables x terms store) st w r) (whole rows)
+      (subst (λ (x : List ℕ). Answers (take (length work - 0) (drop 0 work)) (lent-tables (take (length rows - 0) (drop 0 rows)) x store) st w r) (whole terms)
+      (subst (λ (x : Text). Answers (take (length work - 0) (drop 0 work)) (lent-tables (take (length rows - 0) (drop 0 rows)) (take (length terms - 0) (drop 0 terms)) x) st w r) (whole store) a)))
 
-  pub put-refused : (r ≡ 0 → ⊥) → Puts w work work (tables rows terms store) (tables rows terms store) st st r
+  pub put-refused : (r ≡ 0 → ⊥) → Puts w work work (lent-tables rows terms store) (lent-tables rows terms store) st st r
   put-refused z = record { room = answered; wrote = λ e. absurd (z e); stays = λ k h. refl; words = refl }
 
-  pub put-written : r ≡ 0 → (work' : Text) (t' : Tables) (st' : List ℕ) → Wrote w work work' (tables rows terms store) t' st st' × (Stays st st' × (length st' ≡ length st)) → Puts w work work' (tables rows terms store) t' st st' 0
+  pub put-written : r ≡ 0 → (work' : Text) (t' : Tables) (st' : List ℕ) → Wrote w work work' (lent-tables rows terms store) t' st st' × (Stays st st' × (length st' ≡ length st)) → Puts w work work' (lent-tables rows terms store) t' st st' 0
   put-written z work' t' st' x = record { room = λ old m h. sym z ∙ answered old m h; wrote = λ e. x .0; stays = x .1 .0; words = x .1 .1 }
 
 -- What the test of room and the write ask for.
-pub put-asked : (work : Text) (rows terms : List ℕ) (store : Text) (st : List ℕ) → Represented work (tables rows terms store) st
-    → Represented (take (length work - 0) (drop 0 work)) (tables (take (length rows - 0) (drop 0 rows)) (take (length terms - 0) (drop 0 terms)) (take (length store - 0) (drop 0 store))) st
+pub put-asked : (work : Text) (rows terms : List ℕ) (store : Text) (st : List ℕ) → Represented work (lent-tables rows terms store) st
+    → Represented (take (length work - 0) (drop 0 work)) (lent-tables (take (length rows - 0) (drop 0 rows)) (take (length terms - 0) (drop 0 terms)) (take (length store - 0) (drop 0 store))) st
 put-asked work rows terms store st R = rw (whole work, whole rows, whole terms, whole store) R
 
 room-fits : (room : Room) (m : Memory) → 0 ≡ room-refusal room m → Fits room m
@@ -57,27 +57,27 @@ room-fits room m e =
     zero-not n x = omega arith
 
 pub put-ready : (w : Write ℕ) (work : Text) (rows terms : List ℕ) (store : Text) (st : List ℕ) (r : ℕ)
-    → Answers (take (length work - 0) (drop 0 work)) (tables (take (length rows - 0) (drop 0 rows)) (take (length terms - 0) (drop 0 terms)) (take (length store - 0) (drop 0 store))) st w r
-    → r ≡ 0 → Represented work (tables rows terms store) st → Ready w work (tables rows terms store) st
-put-ready w work rows terms store st r a z R = ready w work (tables rows terms store) st R (λ old m h. room-fits (room-in (tables rows terms store)) (w m .1) (sym z ∙ answered w work rows terms store st r a old m h))
+    → Answers (take (length work - 0) (drop 0 work)) (lent-tables (take (length rows - 0) (drop 0 rows)) (take (length terms - 0) (drop 0 terms)) (take (length store - 0) (drop 0 store))) st w r
+    → r ≡ 0 → Represented work (lent-tables rows terms store) st → Ready w work (lent-tables rows terms store) st
+put-ready w work rows terms store st r a z R = ready w work (lent-tables rows terms store) st R (λ old m h. room-fits (room-in (lent-tables rows terms store)) (w m .1) (sym z ∙ answered w work rows terms store st r a old m h))
 
 -- The same for a node, whose IRI may stand in the work slice.
 pub put-node : (n : Node) (work back text tag : Text) → NodeFits n work back text tag → NodeFits n (take (length work - 0) (drop 0 work)) back text tag
 put-node n work back text tag f = rw (whole work) f
 
 module _ (s : Spot) (n : Node) (back text tag work : Text) (rows terms : List ℕ) (store : Text) (st : List ℕ) (r : ℕ)
-    (a : Answers (take (length work - 0) (drop 0 work)) (tables (take (length rows - 0) (drop 0 rows)) (take (length terms - 0) (drop 0 terms)) (take (length store - 0) (drop 0 store))) st (placed s (node-write n (take (length work - 0) (drop 0 work)) back text tag (s .at))) r) where
+    (a : Answers (take (length work - 0) (drop 0 work)) (lent-tables (take (length rows - 0) (drop 0 rows)) (take (length terms - 0) (drop 0 terms)) (take (length store - 0) (drop 0 store))) st (placed s (node-write n (take (length work - 0) (drop 0 work)) back text tag (s .at))) r) where
   abbrev w : Write ℕ
   w = placed s (node-write n work back text tag (s .at))
 
-  there : Answers (take (length work - 0) (drop 0 work)) (tables (take (length rows - 0) (drop 0 rows)) (take (length terms - 0) (drop 0 terms)) (take (length store - 0) (drop 0 store))) st w r
-  there = subst (λ (x : Text). Answers (take (length work - 0) (drop 0 work)) (tables (take (length rows - 0) (drop 0 rows)) (take (length terms - 0) (drop 0 terms)) (take (length store - 0) (drop 0 store))) st (placed s (node-write n x back text tag (s .at))) r) (whole work) a
+  there : Answers (take (length work - 0) (drop 0 work)) (lent-tables (take (length rows - 0) (drop 0 rows)) (take (length terms - 0) (drop 0 terms)) (take (length store - 0) (drop 0 store))) st w r
+  there = subst (λ (x : Text). Answers (take (length work - 0) (drop 0 work)) (lent-tables (take (length rows - 0) (drop 0 rows)) (take (length terms - 0) (drop 0 terms)) (take (length store - 0) (drop 0 store))) st (placed s (node-write n x back text tag (s .at))) r) (whole work) a
 
-  pub put-refused-node : (r ≡ 0 → ⊥) → Puts w work work (tables rows terms store) (tables rows terms store) st st r
+  pub put-refused-node : (r ≡ 0 → ⊥) → Puts w work work (lent-tables rows terms store) (lent-tables rows terms store) st st r
   put-refused-node z = put-refused w work rows terms store st r there z
 
-  pub put-written-node : r ≡ 0 → (work' : Text) (t' : Tables) (st' : List ℕ) → Wrote w work work' (tables rows terms store) t' st st' × (Stays st st' × (length st' ≡ length st)) → Puts w work work' (tables rows terms store) t' st st' 0
+  pub put-written-node : r ≡ 0 → (work' : Text) (t' : Tables) (st' : List ℕ) → Wrote w work work' (lent-tables rows terms store) t' st st' × (Stays st st' × (length st' ≡ length st)) → Puts w work work' (lent-tables rows terms store) t' st st' 0
   put-written-node z work' t' st' x = put-written w work rows terms store st r there z work' t' st' x
 
-  pub put-ready-node : r ≡ 0 → Represented work (tables rows terms store) st → Ready w work (tables rows terms store) st
+  pub put-ready-node : r ≡ 0 → Represented work (lent-tables rows terms store) st → Ready w work (lent-tables rows terms store) st
   put-ready-node z R = put-ready w work rows terms store st r there z R

@@ -1,6 +1,6 @@
 // A node at its place: whether there is room for all that one token writes is decided first, then it is written.
 ghost use mathlib.Core.Path.{_≡_};
-ghost use Rattle.state.specs.Represents.{tables, Represented, Puts};
+ghost use Rattle.state.specs.Represents.{lent-tables, Represented, Puts};
 ghost use Rattle.state.specs.Writes.{node-write, placed, opened-at, closed, SpotFits, NodeFits};
 use scope::Layout;
 use state::Node;
@@ -19,8 +19,8 @@ pub fn place(
     text: &[u8],
     tag: &[u8],
 ) -> u8
-    requires { ⌜ Represented (now work) (tables (now rows) (now terms) (now store)) (now st) × (SpotFits spot × NodeFits node (now work) (now back) (now text) (now tag)) ⌝ }
-    ensures { λ r. ⌜ Puts (placed spot (node-write node (now (work .entry)) (now (back .entry)) (now (text .entry)) (now (tag .entry)) (spot .at))) (now (work .entry)) (now (work .exit)) (tables (now (rows .entry)) (now (terms .entry)) (now (store .entry))) (tables (now (rows .exit)) (now (terms .exit)) (now (store .exit))) (now (st .entry)) (now (st .exit)) r ⌝ }
+    requires { ⌜ Represented (now work) (lent-tables (now rows) (now terms) (now store)) (now st) × (SpotFits spot × NodeFits node (now work) (now back) (now text) (now tag)) ⌝ }
+    ensures { λ r. ⌜ Puts (placed spot (node-write node (now (work .entry)) (now (back .entry)) (now (text .entry)) (now (tag .entry)) (spot .at))) (now (work .entry)) (now (work .exit)) (lent-tables (now (rows .entry)) (now (terms .entry)) (now (store .entry))) (lent-tables (now (rows .exit)) (now (terms .exit)) (now (store .exit))) (now (st .entry)) (now (st .exit)) r ⌝ }
 {
     let r = room::room_to_place(
         &work[0..],
@@ -50,8 +50,8 @@ pub fn open(
     st: &mut [usize; Layout::WORDS],
     spot: Spot,
 ) -> u8
-    requires { ⌜ Represented (now work) (tables (now rows) (now terms) (now store)) (now st) × SpotFits spot ⌝ }
-    ensures { λ r. ⌜ Puts (opened-at spot) (now (work .entry)) (now (work .exit)) (tables (now (rows .entry)) (now (terms .entry)) (now (store .entry))) (tables (now (rows .exit)) (now (terms .exit)) (now (store .exit))) (now (st .entry)) (now (st .exit)) r ⌝ }
+    requires { ⌜ Represented (now work) (lent-tables (now rows) (now terms) (now store)) (now st) × SpotFits spot ⌝ }
+    ensures { λ r. ⌜ Puts (opened-at spot) (now (work .entry)) (now (work .exit)) (lent-tables (now (rows .entry)) (now (terms .entry)) (now (store .entry))) (lent-tables (now (rows .exit)) (now (terms .exit)) (now (store .exit))) (now (st .entry)) (now (st .exit)) r ⌝ }
 {
     let r = room::room_to_open(&work[0..], &rows[0..], &terms[0..], &store[0..], st, spot);
     if r != 0 {
@@ -70,8 +70,8 @@ pub fn close(
     st: &mut [usize; Layout::WORDS],
     spot: Spot,
 ) -> u8
-    requires { ⌜ Represented (now work) (tables (now rows) (now terms) (now store)) (now st) × SpotFits spot ⌝ }
-    ensures { λ r. ⌜ Puts (closed spot) (now (work .entry)) (now (work .exit)) (tables (now (rows .entry)) (now (terms .entry)) (now (store .entry))) (tables (now (rows .exit)) (now (terms .exit)) (now (store .exit))) (now (st .entry)) (now (st .exit)) r ⌝ }
+    requires { ⌜ Represented (now work) (lent-tables (now rows) (now terms) (now store)) (now st) × SpotFits spot ⌝ }
+    ensures { λ r. ⌜ Puts (closed spot) (now (work .entry)) (now (work .exit)) (lent-tables (now (rows .entry)) (now (terms .entry)) (now (store .entry))) (lent-tables (now (rows .exit)) (now (terms .exit)) (now (store .exit))) (now (st .entry)) (now (st .exit)) r ⌝ }
 {
     let r = room::room_to_close(&work[0..], &rows[0..], &terms[0..], &store[0..], st, spot);
     if r != 0 {

@@ -10,7 +10,7 @@ use Rattle.table.specs.Layout.{Slices}
 use Rattle.table.specs.Usable.{usable}
 use Rattle.table.specs.LongForm.{long-form}
 use Rattle.machine.specs.Read.{Lent, read, computing}
-use Rattle.readback.specs.ReadBack.{long-form-mode, left, RoundTrip}
+use Rattle.readback.specs.ReadBack.{long-form-mode, slices-after, RoundTrip}
 use Rattle.readback.proofs.RoundTrip.{written-again}
 
 abbrev utf8 : String → Text
@@ -25,7 +25,7 @@ lent = record { work = work-size; rows = 1000; terms = 1000; store = 10000 }
 
 -- The tables that a document makes.
 abbrev tables-of : Text → Slices
-tables-of doc = left (read doc long-form-mode [] lent) [] [] []
+tables-of doc = slices-after (read doc long-form-mode [] lent) [] [] []
 
 -- Each escape, each kind of term, a named graph; a blank node as subject, object and graph.
 abbrev document : Text

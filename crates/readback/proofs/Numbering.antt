@@ -14,7 +14,7 @@ use Rattle.utf8.proofs.Tests.{split}
 use Rattle.dataset.specs.Terms.{Blank, label, bracket, cell, numbered, Term, iri, blank, literal, tagged, Quad}
 use Rattle.table.specs.Layout.{Row, row-at, Entry, iri-kind, blank-kind, literal-kind, Slices, span}
 use Rattle.table.specs.Tables.{number, or-zero, or-nil, is-blank, term-of, graph-of, quad-of, quads}
-use Rattle.table.specs.Usable.{the, text, tag, term, graph, quad, quads-from, held}
+use Rattle.table.specs.Usable.{the, text, tag, term, graph, quad, quads-from, quads-held}
 use Rattle.table.proofs.Numbers.{Known, found-known}
 use Rattle.readback.specs.ReadBack.{label-of-number, renamed-blank, renamed, word-limit, with-blanks-term, with-blanks-graph, with-blanks}
 use Rattle.readback.proofs.Renaming.{labels-apart}
@@ -225,17 +225,17 @@ module _ (ts : List Term) (rs : List Row) (x y : List ℕ) (z : Text) (fine : Al
         ap₂ (λ (a : Quad) (l : List Quad). a ∷ l) (ap (λ (a : Row). with-blanks from (quad s a)) e ∙ row-same r (f .0))
         (quads-same us (suc i) (f .1) (λ j l. ap (row-at (s .rows)) (let q : suc i + j ≡ i + suc j = omega arith in q) ∙ h (suc j) (omega arith)))
 
-    held-renamed : map (with-blanks from) (held s) ≡ map (with-blanks to) (quads ts rs)
-    unfolding held
+    held-renamed : map (with-blanks from) (quads-held s) ≡ map (with-blanks to) (quads ts rs)
+    unfolding quads-held
     held-renamed = quads-same rs 0 rows (λ j l. ap (row-at (s .rows)) (let q : 0 + j ≡ j = omega arith in q) ∙ row-here rs x j l)
 
   -- As they are read again,
-  pub held-same : map renamed (held s) ≡ map (with-blanks (new-label ts)) (quads ts rs)
+  pub held-same : map renamed (quads-held s) ≡ map (with-blanks (new-label ts)) (quads ts rs)
   held-same = held-renamed renamed-blank (new-label ts) (λ n b k. rw (own n (blank b) k) refl)
 
   -- and as they stand there.
-  pub held-numbered : held s ≡ map (with-blanks (by-number ts)) (quads ts rs)
-  held-numbered = sym (unnamed (held s)) ∙ held-renamed (λ b. b) (by-number ts) (λ n b k. rw (own n (blank b) k) refl)
+  pub held-numbered : quads-held s ≡ map (with-blanks (by-number ts)) (quads ts rs)
+  held-numbered = sym (unnamed (quads-held s)) ∙ held-renamed (λ b. b) (by-number ts) (λ n b k. rw (own n (blank b) k) refl)
     where
       plain : (t : Term) → with-blanks-term (λ b. b) t ≡ t
       plain (iri t) = refl

@@ -18,7 +18,7 @@ use Rattle.token.specs.Tokens.{lexemes, tokens-of, readable}
 use Rattle.grammar.specs.Ebnf.{leaves}
 use Rattle.grammar.specs.Productions.{trig, production, kind-of}
 use Rattle.table.specs.Layout.{Slices}
-use Rattle.table.specs.Usable.{usable, held}
+use Rattle.table.specs.Usable.{usable, quads-held}
 use Rattle.table.specs.LongForm.{long-form, Written, write}
 use Rattle.machine.specs.Step.{first-refusal}
 use Rattle.machine.specs.Read.{Lent, bad-base, first-checks}
@@ -48,30 +48,30 @@ read-back s u l = record {
   accepted = λ lent w room.
       record {
         usable = checked (long-form s) lent l w;
-        utf8 = ap first-bad text ∙ valid-encodes (points (parts (held s))) (sound-scalars (parts (held s)) sound);
+        utf8 = ap first-bad text ∙ valid-encodes (points (parts (quads-held s))) (sound-scalars (parts (quads-held s)) sound);
         cuts = subst T (sym (ap (λ (x : Text). readable (lexemes x)) text ∙ cut .1)) tt;
         derivation = (d .derivation, tokens);
-        fair = subst (Fair [] []) (sym cut-tokens) (harmless-fair (tokens-at 0 (parts (held s))) (sound-harmless (parts (held s)) 0 sound));
+        fair = subst (Fair [] []) (sym cut-tokens) (harmless-fair (tokens-at 0 (parts (quads-held s))) (sound-harmless (parts (quads-held s)) 0 sound));
         room = room;
       };
 }
   where
-    good : GoodQuads (held s)
+    good : GoodQuads (quads-held s)
     good = held-good s u
 
-    d : Derived (held s)
-    d = derived (held s) good
+    d : Derived (quads-held s)
+    d = derived (quads-held s) good
 
-    sound : Sound (parts (held s))
-    sound = parts-sound (held s) good
+    sound : Sound (parts (quads-held s))
+    sound = parts-sound (quads-held s) good
 
-    text : long-form s ≡ bytes (parts (held s))
-    text = long-form-text s ∙ sym (parts-bytes (held s) good)
+    text : long-form s ≡ bytes (parts (quads-held s))
+    text = long-form-text s ∙ sym (parts-bytes (quads-held s) good)
 
-    cut : (tokens-of (lexemes (bytes (parts (held s)))) ≡ tokens-at 0 (parts (held s))) × (readable (lexemes (bytes (parts (held s)))) ≡ true)
-    cut = cut-whole (parts (held s)) (sound-cut (parts (held s)) sound) (sound-scalars (parts (held s)) sound)
+    cut : (tokens-of (lexemes (bytes (parts (quads-held s)))) ≡ tokens-at 0 (parts (quads-held s))) × (readable (lexemes (bytes (parts (quads-held s)))) ≡ true)
+    cut = cut-whole (parts (quads-held s)) (sound-cut (parts (quads-held s)) sound) (sound-scalars (parts (quads-held s)) sound)
 
-    cut-tokens : document-tokens (long-form s) ≡ tokens-at 0 (parts (held s))
+    cut-tokens : document-tokens (long-form s) ≡ tokens-at 0 (parts (quads-held s))
     cut-tokens = ap (λ (x : Text). document-tokens x) text ∙ cut .0
 
     tokens : leaves kind-of (production trig) (d .derivation) ≡ document-tokens (long-form s)

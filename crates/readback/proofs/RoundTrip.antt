@@ -29,7 +29,7 @@ use Rattle.machine.proofs.Constructed.{tables-hold}
 use Rattle.machine.proofs.Demands.{passed, meets-run, meets-answer, zero-meets}
 use Rattle.machine.proofs.Distinct.{one-number}
 use Rattle.machine.proofs.Sizes.{sizes}
-use Rattle.readback.specs.ReadBack.{long-form-mode, ReadAgain, word-limit, left, with-blanks, SameStatements, RoundTrip}
+use Rattle.readback.specs.ReadBack.{long-form-mode, ReadAgain, word-limit, slices-after, with-blanks, SameStatements, RoundTrip}
 use Rattle.readback.proofs.Tables.{none-bad}
 use Rattle.readback.proofs.ReadBack.{written-form, read-again}
 use Rattle.readback.proofs.Kept.{Kept}
@@ -94,7 +94,7 @@ module _ (doc : Text) (mode : ℕ) (base : Text) (lent : Lent) (x : Meets doc mo
 
   -- The tables that the document makes, in slices that held these.
   abbrev made-slices : List ℕ → List ℕ → Text → Slices
-  made-slices rows terms store = left (success (length doc) made) rows terms store
+  made-slices rows terms store = slices-after (success (length doc) made) rows terms store
 
   made-usable : (rows terms : List ℕ) (store : Text) → usable (made-slices rows terms store) ≡ true
   made-usable rows terms store = laid-usable (made .terms) (made .rows) _ _ _ (made-kept .terms) (made-kept .rows)
@@ -133,17 +133,17 @@ module _ (doc : Text) (mode : ℕ) (base : Text) (lent : Lent) (e : read doc mod
   abbrev meets : Meets doc mode base lent
   meets = zero-meets doc mode base lent e
 
-  answered : left (read doc mode base lent) rows terms store ≡ made-slices doc mode base lent meets rows terms store
-  answered = ap (λ (a : Answer). left a rows terms store) (meets-answer doc mode base lent meets)
+  answered : slices-after (read doc mode base lent) rows terms store ≡ made-slices doc mode base lent meets rows terms store
+  answered = ap (λ (a : Answer). slices-after a rows terms store) (meets-answer doc mode base lent meets)
 
   -- Whatever stood in the lent slices, what the reader leaves there when it accepts is usable.
-  pub read-usable : usable (left (read doc mode base lent) rows terms store) ≡ true
+  pub read-usable : usable (slices-after (read doc mode base lent) rows terms store) ≡ true
   read-usable = ap usable answered ∙ made-usable doc mode base lent meets rows terms store
 
   -- Demand 2's second sentence, over documents.
-  pub written-again : RoundTrip doc mode base (left (read doc mode base lent) rows terms store)
+  pub written-again : RoundTrip doc mode base (slices-after (read doc mode base lent) rows terms store)
   written-again =
-      let s = left (read doc mode base lent) rows terms store in
+      let s = slices-after (read doc mode base lent) rows terms store in
       record {
         usable = read-usable;
         never = λ out n. not-eighteen s out read-usable n;

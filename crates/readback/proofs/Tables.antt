@@ -16,7 +16,7 @@ use Rattle.utf8.proofs.Tests.{by, split, between-true}
 use Rattle.iri.specs.Iri.{has-scheme}
 use Rattle.dataset.specs.Terms.{numbered, Term, iri, blank, literal, tagged}
 use Rattle.table.specs.Layout.{Row, row-at, iri-kind, blank-kind, literal-kind, tagged-kind, Slices}
-use Rattle.table.specs.Usable.{each, is-tag, the, text, tag, inside, counts-fit, has-kind, good-iri, good-datatype, good-tag, good-term, present, resource, good-row, usable, term, graph, quad, quads-from, held}
+use Rattle.table.specs.Usable.{each, is-tag, the, text, tag, inside, counts-fit, has-kind, good-iri, good-datatype, good-tag, good-term, present, resource, good-row, usable, term, graph, quad, quads-from, quads-held}
 use Rattle.table.specs.LongForm.{term-form, triple-form, line, lines-from, long-form}
 use Rattle.readback.proofs.Forms.{GoodIri, Good, GoodPredicate, GoodResource, GoodGraph, GoodQuad, GoodQuads, form, triple-text, line-text, text-of}
 
@@ -56,8 +56,8 @@ module _ (s : Slices) where
   lines-text zero i = refl
   lines-text (suc n) i = ap₂ (λ (a b : Text). a ++ b) (row-line (row-at (s .rows) i)) (lines-text n (suc i))
 
-  pub long-form-text : long-form s ≡ text-of (held s)
-  unfolding long-form held
+  pub long-form-text : long-form s ≡ text-of (quads-held s)
+  unfolding long-form quads-held
   long-form-text = lines-text (s .row-count) 0
 
 -- ---- Usable tables
@@ -191,6 +191,6 @@ module _ (s : Slices) (u : usable s ≡ true) where
       let p : ℕ → Bool = λ i. good-row s (row-at (s .rows) i) in
       (row-good (row-at (s .rows) from) (and-left (p from) (each p (suc from) n) e), rows-good n (suc from) (and-right (p from) (each p (suc from) n) e))
 
-  pub held-good : GoodQuads (held s)
-  unfolding usable held
+  pub held-good : GoodQuads (quads-held s)
+  unfolding usable quads-held
   held-good = rows-good (s .row-count) 0 (and-right (counts-fit s && each (good-term s) 1 (s .term-count)) (each (λ i. good-row s (row-at (s .rows) i)) 0 (s .row-count)) u)

@@ -8,7 +8,7 @@ use Rattle.grammar.specs.Productions.{production, kind-of, Derivation}
 use Rattle.dataset.specs.Terms.{Blank}
 use Rattle.dataset.specs.Statements.{statements}
 use Rattle.table.specs.Layout.{Slices}
-use Rattle.table.specs.Usable.{held}
+use Rattle.table.specs.Usable.{quads-held}
 use Rattle.machine.specs.Read.{mode-of}
 use Rattle.machine.specs.Demand.{document-tokens}
 use Rattle.readback.specs.ReadBack.{with-blanks}
@@ -21,4 +21,4 @@ pub record HandedOver (doc : Text) (mode : ℕ) (base : Text) (s : Slices) : Typ
   pub only : (x : Derivation (mode-of mode)) → leaves kind-of (production (mode-of mode)) x ≡ document-tokens doc → x ≡ derivation
   pub rename : Blank → Blank
   pub apart : (b c : Blank) → rename b ≡ rename c → b ≡ c
-  pub same : held s ≡ map (with-blanks rename) (statements (mode-of mode) derivation base)
+  pub same : quads-held s ≡ map (with-blanks rename) (statements (mode-of mode) derivation base)

@@ -13,7 +13,7 @@ use Rattle.dataset.specs.Terms.{Blank, label, bracket, cell, numbered, Term, ir
 use Rattle.dataset.specs.Statements.{statements}
 use Rattle.table.specs.Layout.{Slices}
 use Rattle.table.specs.Tables.{quads}
-use Rattle.table.specs.Usable.{usable, term, held}
+use Rattle.table.specs.Usable.{usable, term, quads-held}
 use Rattle.table.specs.LongForm.{decimal, long-form, write}
 use Rattle.machine.specs.Memory.{Memory}
 use Rattle.machine.specs.Read.{Lent, contents, Answer, mode-of, room-of, success, read}
@@ -87,21 +87,21 @@ pub record KeepsApart (s : Slices) : Type 0 where
 pub record ReadsBack (s : Slices) : Type 0 where
   pub derivation : Derivation trig
   pub tokens : leaves kind-of (production trig) derivation ≡ document-tokens (long-form s)
-  pub same : statements trig derivation [] ≡ map renamed (held s)
+  pub same : statements trig derivation [] ≡ map renamed (quads-held s)
   pub accepted : (lent : Lent) → work-size ≤ lent .work → Fits (room-of lent) (tables trig derivation []) → Meets (long-form s) long-form-mode [] lent
 
 -- The same of the reader's answer: where there is room for what it writes, it accepts, and its tables hold the statements, renamed.
 pub record ReadAgain (s : Slices) : Type 0 where
   pub memory : Memory
-  pub same : quads (memory .terms) (memory .rows) ≡ map renamed (held s)
+  pub same : quads (memory .terms) (memory .rows) ≡ map renamed (quads-held s)
   pub answer :
       (lent : Lent) → work-size ≤ lent .work → Fits (room-of lent) memory → read (long-form s) long-form-mode [] lent ≡ success (length (long-form s)) memory
 
 -- ---- Over documents
 
 -- What the reader's answer leaves in slices that held these before, with its counts: what is handed to the writer.
-abbrev pub left : Answer → List ℕ → List ℕ → Text → Slices
-left a rows terms store =
+abbrev pub slices-after : Answer → List ℕ → List ℕ → Text → Slices
+slices-after a rows terms store =
     record {
       rows = contents (a .rows) rows;
       row-count = a .row-count;

@@ -19,7 +19,7 @@ use Rattle.lexer_words.specs.Ahead.{Clear}
 use Rattle.lexer_words.proofs.Clearing.{clear-none}
 use Rattle.iri.specs.Iri.{has-scheme, forbidden}
 use Rattle.scope.specs.Environment.{start-environment}
-use Rattle.scope.specs.Code.{words-size, in-force, listed, base-cell, cell, Usable, SetsBase}
+use Rattle.scope.specs.Code.{words-size, environment-in, listed, base-cell, cell, Usable, SetsBase}
 use Rattle.scope.proofs.Directives.{in-force-words}
 use Rattle.clear.proofs.Zeros.{zeros, zero-at}
 use Rattle.table.specs.Tables.{rows-words, store-size}
@@ -60,8 +60,8 @@ drop-zeros zero n = let e : n - 0 ≡ n = omega arith in rw e
 drop-zeros (suc k) zero = let e : 0 - suc k ≡ 0 = omega arith in rw e
 drop-zeros (suc k) (suc n) = let e : suc n - suc k ≡ n - k = omega arith in rw e (drop-zeros k n)
 
-nothing-in-force : (work : Text) → in-force work (zeros words-size) ≡ start-environment []
-unfolding in-force listed base-cell cell
+nothing-in-force : (work : Text) → environment-in work (zeros words-size) ≡ start-environment []
+unfolding environment-in listed base-cell cell
 nothing-in-force work = refl
 
 from-first : (doc : Text) → lexemes doc ≡ rest doc 0
@@ -79,10 +79,10 @@ module _ {doc base work work₁ work₂ : Text} {st st₁ : List ℕ} {b : Bool}
   pub can-seek : ((length doc ≤ document-limit) × (0 ≤ length doc)) × ((first-bad (drop 0 doc) ≡ none) × (Clear (drop 0 doc) 0 × (length st₁ ≡ words-size)))
   can-seek = ((K .size, omega arith), (K .utf8, (clear-none doc, set .usable .words)))
 
-  based : in-force work₂ st₁ ≡ start-environment base
+  based : environment-in work₂ st₁ ≡ start-environment base
   based =
       let true-is : b ≡ true = set .answer ∙ le-leb (length base) iri-limit (short-base base (K .good-base)) in
-      let none-yet : in-force work₁ st ≡ start-environment [] = ap (in-force work₁) f ∙ nothing-in-force work₁ in
+      let none-yet : environment-in work₁ st ≡ start-environment [] = ap (environment-in work₁) f ∙ nothing-in-force work₁ in
       set .after ∙ rw (true-is, none-yet)
 
   -- The cursor goes to the first token.

@@ -10,10 +10,10 @@ use Rattle.limits.specs.Limits.{document-limit, work-size}
 use Rattle.utf8.specs.Utf8.{first-bad}
 use Rattle.token.specs.Tokens.{lexemes}
 use Rattle.scope.specs.Environment.{start-environment}
-use Rattle.scope.specs.Code.{in-force, Usable}
+use Rattle.scope.specs.Code.{environment-in, Usable}
 use Rattle.machine.specs.Read.{bad-base}
 use Rattle.state.specs.Words.{rows-word, terms-word, used-word, blanks-word, at-word, depth-word, graph-word}
-use Rattle.state.specs.Cursor.{Cursor, left}
+use Rattle.state.specs.Cursor.{Cursor, remaining}
 use Rattle.reader.specs.declared.Reading.{Reading}
 use Rattle.reader.specs.Reader.{LentSlices}
 
@@ -28,7 +28,7 @@ pub record Checked (doc base work : Text) : Type 0 where
 pub record Started (doc base old work : Text) (st : List ℕ) : Type 0 where
   pub long : length work ≡ length old
   pub usable : Usable work st
-  pub environment : in-force work st ≡ start-environment base
+  pub environment : environment-in work st ≡ start-environment base
   pub index : drop work-size work ≡ replicate (length work - work-size) 0
   pub rows : getD st rows-word 0 ≡ 0
   pub terms : getD st terms-word 0 ≡ 0
@@ -37,7 +37,7 @@ pub record Started (doc base old work : Text) (st : List ℕ) : Type 0 where
   pub depth : getD st depth-word 0 ≡ 0
   pub graph : getD st graph-word 0 ≡ 0
   pub cursor : Cursor doc st
-  pub tokens : lexemes doc ≡ left doc st
+  pub tokens : lexemes doc ≡ remaining doc st
 
 -- Zeros in all slices.
 pub record Cleared (old new : LentSlices) : Type 0 where

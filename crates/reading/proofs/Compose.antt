@@ -10,7 +10,7 @@ use Rattle.grammar.specs.Productions.{Mode, trig}
 use Rattle.machine.specs.Memory.{Memory}
 use Rattle.machine.specs.Frame.{Frame, Open, statement}
 use Rattle.machine.specs.Step.{Room, Outcome, refused}
-use Rattle.state.specs.Represents.{Tables, tables, room-in, Represents, Represented}
+use Rattle.state.specs.Represents.{Tables, lent-tables, room-in, Represents, Represented}
 use Rattle.reading.specs.Reading.{Held, tables-of, Holding, goes, Ready, Same, Onward, Comes}
 
 at-both : (x y z : RefT (List ℕ)) → z ≡ at-last y (z .now) → y ≡ at-last x (y .now) → z ≡ at-last x (z .now)

@@ -23,7 +23,7 @@ use Rattle.machine.specs.Rules.{find-rule, rules}
 use Rattle.machine.specs.Refusals.{no-character, undeclared, no-base, too-long, one-prefix-more, too-deep, new-depth, opens, closes}
 use Rattle.machine.specs.Step.{Room, State, Test, _when_, first-refusal, awaited-by, in-force-now, Next, go, stop, obeyed, tests, answer, step, tied-to, Outcome, refused, at-end, onward, run}
 use Rattle.state.specs.Words.{node-word, kind-word, at-word, len-word, depth-word}
-use Rattle.state.specs.Cursor.{token-of, ahead, left, Cursor, TokenHere}
+use Rattle.state.specs.Cursor.{token-of, ahead, remaining, Cursor, TokenHere}
 use Rattle.state.specs.Represents.{Tables, room-in, Represented}
 use Rattle.cursor.proofs.Seeking.{ahead-token, ahead-none, ahead-end}
 use Rattle.reading.specs.Reading.{Held, tables-of, here, Holding, goes, Ready, Same, Onward, Comes, token-refusal, Does, Done, escaped-kind, refusal-here}
@@ -66,7 +66,7 @@ module _ (mode : Mode) (room : Room) (o : Open) (depth : ℕ) (m : Memory) (t : 
 -- ---- The run at the cursor
 
 module _ (doc : Text) (a : Held) (h : TokenHere doc (a .st)) (z : getD (a .st) kind-word 0 ≡ 0 → ⊥) where
-  left-here : left doc (a .st) ≡ token (here doc a) ∷ rest doc (getD (a .st) at-word 0 + getD (a .st) len-word 0)
+  left-here : remaining doc (a .st) ≡ token (here doc a) ∷ rest doc (getD (a .st) at-word 0 + getD (a .st) len-word 0)
   left-here = ahead-token doc (getD (a .st) kind-word 0) (getD (a .st) at-word 0) (getD (a .st) len-word 0) z (h .known)
 
   -- A tag or ^^ follows the token.
@@ -108,7 +108,7 @@ module _ {I : Type 0} (doc : Text) (w : Write ℕ) (F G : I → Open) (a b : Hel
       record { cursor = D .done e .cursor; holds = (old, (w m .1, D .done e .holding old m x)); depth = depth-kept e m old x }
 
   goes-now : (mode : Mode) (o : Open) (m : Memory) (e : r ≡ 0)
-      → goes mode doc b o m ≡ run mode (room-in (tables-of a)) (length doc) (left doc (b .st)) (record { open-now = o; depth = new-depth (getD (a .st) depth-word 0) (here doc a); memory = m })
+      → goes mode doc b o m ≡ run mode (room-in (tables-of a)) (length doc) (remaining doc (b .st)) (record { open-now = o; depth = new-depth (getD (a .st) depth-word 0) (here doc a); memory = m })
   unfolding goes
   goes-now mode o m e = rw (room-same a b (D .same), D .done e .depth)
 

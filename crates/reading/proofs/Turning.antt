@@ -21,7 +21,7 @@ use Rattle.machine.specs.Rules.{find-rule, rules}
 use Rattle.machine.specs.Refusals.{new-depth}
 use Rattle.machine.specs.Step.{Room, State, Test, first-refusal, awaited-by, tests, answer, step, Next, go, stop, refused, at-end, onward, run}
 use Rattle.state.specs.Words.{kind-word, at-word, len-word, depth-word}
-use Rattle.state.specs.Cursor.{left, Cursor, TokenHere}
+use Rattle.state.specs.Cursor.{remaining, Cursor, TokenHere}
 use Rattle.state.specs.Represents.{Tables, room-in}
 use Rattle.reading.specs.Reading.{Held, tables-of, here, Holding, goes, Ready, Same, Comes, TurnsTo, Turns, refusal-here, token-refusal, Does}
 use Rattle.reading.proofs.Tests.{positive, refusal-none, refusal-some}
@@ -91,7 +91,7 @@ unfolding step
 step-rule mode room s t tied v e = rw e
 
 goes-from : (mode : Mode) (doc : Text) (a b : Held) (o : Open) (m : Memory) → Same a b → getD (b .st) depth-word 0 ≡ new-depth (getD (a .st) depth-word 0) (here doc a)
-    → goes mode doc b o m ≡ run mode (room-in (tables-of a)) (length doc) (left doc (b .st)) (record { open-now = o; depth = new-depth (getD (a .st) depth-word 0) (here doc a); memory = m })
+    → goes mode doc b o m ≡ run mode (room-in (tables-of a)) (length doc) (remaining doc (b .st)) (record { open-now = o; depth = new-depth (getD (a .st) depth-word 0) (here doc a); memory = m })
 unfolding goes
 goes-from mode doc a b o m s e = rw (room-same a b s, e)
 
@@ -111,7 +111,7 @@ module _ (mode : Mode) (doc : Text) (o p : Open) (a b : Held) (r : ℕ) (h : Tok
     pub place : (r ≡ 0 → ⊥) → getD (b .st) at-word 0 ≡ getD (a .st) at-word 0
     pub ready : r ≡ 0 → Ready doc b
     pub later : r ≡ 0 → getD (a .st) at-word 0 ≤ getD (b .st) at-word 0
-    pub tokens : r ≡ 0 → rest doc (getD (a .st) at-word 0 + getD (a .st) len-word 0) ≡ left doc (b .st)
+    pub tokens : r ≡ 0 → rest doc (getD (a .st) at-word 0 + getD (a .st) len-word 0) ≡ remaining doc (b .st)
     pub depth : r ≡ 0 → getD (b .st) depth-word 0 ≡ new-depth (getD (a .st) depth-word 0) (here doc a)
     pub result : r ≡ 0 → (old : Tables) (m : Memory) → Holding old m a → v m .0 ≡ p
     pub holding : r ≡ 0 → (old : Tables) (m : Memory) → Holding old m a → Holding old (v m .1) b
@@ -128,7 +128,7 @@ module _ (mode : Mode) (doc : Text) (o p : Open) (a b : Held) (r : ℕ) (h : Tok
       stepped : (m : Memory) → step mode (room-in (tables-of a)) (state-at m) (here doc a) (tied-here doc a h z) ≡ answer (first-refusal (tests (room-in (tables-of a)) (state-at m) (here doc a) (some v) (state-then v m))) (here doc a .start) (state-then v m)
       stepped m = step-rule mode (room-in (tables-of a)) (state-at m) (here doc a) (tied-here doc a h z) v (t .rule)
 
-      goes-then : (m : Memory) (e : r ≡ 0) → goes mode doc b p m ≡ run mode (room-in (tables-of a)) (length doc) (left doc (b .st)) (record { open-now = p; depth = new-depth (getD (a .st) depth-word 0) (here doc a); memory = m })
+      goes-then : (m : Memory) (e : r ≡ 0) → goes mode doc b p m ≡ run mode (room-in (tables-of a)) (length doc) (remaining doc (b .st)) (record { open-now = p; depth = new-depth (getD (a .st) depth-word 0) (here doc a); memory = m })
       goes-then m e = goes-from mode doc a b p m (t .same) (t .depth e)
 
       on-one : r ≡ 0 → (old : Tables) (m : Memory) → Holding old m a → goes mode doc a o m ≡ goes mode doc b p (v m .1)

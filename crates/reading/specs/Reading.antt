@@ -21,8 +21,8 @@ use Rattle.machine.specs.Frame.{Frame, Open, statement}
 use Rattle.machine.specs.Refusals.{no-character, undeclared, no-base, too-long, too-deep, new-depth}
 use Rattle.machine.specs.Step.{Room, State, _when_, Test, first-refusal, Outcome, refused, run}
 use Rattle.state.specs.Words.{node-word, kind-word, at-word, len-word, depth-word, list-word}
-use Rattle.state.specs.Cursor.{token-of, unreadable-kind, Cursor, left}
-use Rattle.state.specs.Represents.{Tables, tables, room-in, Represents, Represented}
+use Rattle.state.specs.Cursor.{token-of, unreadable-kind, Cursor, remaining}
+use Rattle.state.specs.Represents.{Tables, lent-tables, room-in, Represents, Represented}
 
 -- The lent slices behind their references, and the array.
 pub record Held : Type 0 where
@@ -36,7 +36,7 @@ abbrev pub held : RefT (List ℕ) → RefT (List ℕ) → RefT (List ℕ) → Re
 held work rows terms store st = record { work = work; rows = rows; terms = terms; store = store; st = st }
 
 abbrev pub tables-of : Held → Tables
-tables-of h = tables (h .rows .now) (h .terms .now) (h .store .now)
+tables-of h = lent-tables (h .rows .now) (h .terms .now) (h .store .now)
 
 -- Words of the array.
 abbrev pub word : ℕ → Held → ℕ
@@ -60,7 +60,7 @@ Holding old m h = Represents old m (h .work .now) (tables-of h) (h .st)
 
 -- How the machine goes on from the cursor where this is open.
 unfoldable pub goes : Mode → Text → Held → Open → Memory → Outcome
-goes mode doc h o m = run mode (room-in (tables-of h)) (length doc) (left doc (h .st)) (record { open-now = o; depth = getD (h .st) depth-word 0; memory = m })
+goes mode doc h o m = run mode (room-in (tables-of h)) (length doc) (remaining doc (h .st)) (record { open-now = o; depth = getD (h .st) depth-word 0; memory = m })
 
 -- What a routine may be called with.
 pub record Ready (doc : Text) (h : Held) : Type 0 where
@@ -125,7 +125,7 @@ token-refusal room depth e t m =
 -- What a token leaves that is not refused.
 pub record Done (doc : Text) (w : Write ℕ) (a b : Held) : Type 0 where
   pub cursor : Cursor doc (b .st)
-  pub tokens : rest doc (getD (a .st) at-word 0 + getD (a .st) len-word 0) ≡ left doc (b .st)
+  pub tokens : rest doc (getD (a .st) at-word 0 + getD (a .st) len-word 0) ≡ remaining doc (b .st)
   pub later : getD (a .st) at-word 0 < getD (b .st) at-word 0
   pub depth : getD (b .st) depth-word 0 ≡ new-depth (getD (a .st) depth-word 0) (here doc a)
   pub spot : (k : ℕ) → list-word ≤ k → getD (b .st) k 0 ≡ getD (a .st) k 0

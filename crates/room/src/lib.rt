@@ -1,4 +1,4 @@
-// Whether the tables have room for all that one token writes, decided before anything is written: 14 where rows are
+// Whether the lent tables have room for all that one token writes, decided before anything is written: 14 where rows are
 // missing, 15 terms, 16 bytes of the store, else 0. Nothing is changed. Terms are looked for only where a safe bound
 // of what is new does not fit.
 ghost use mathlib.Core.Path.{_≡_};
@@ -8,7 +8,7 @@ ghost use Rattle.limits.specs.Limits.{work-size};
 ghost use Rattle.form.specs.Form.{undo, joined};
 ghost use Rattle.dataset.specs.Terms.{iri, blank, label, literal, tagged};
 ghost use Rattle.index.specs.Holds.{Finds};
-ghost use Rattle.state.specs.Represents.{counted as at-most, tables, room-in, Represented};
+ghost use Rattle.state.specs.Represents.{counted as at-most, lent-tables, room-in, Represented};
 ghost use Rattle.state.specs.Writes.{place-of, node-iri, node-write, placed, opened-at, closed, NodeFits};
 ghost use Rattle.room.specs.Asks.{supplied, place-iri, place-rows, before-iri, before-rows, behind-iri, behind-rows, close-rows};
 ghost use Rattle.room.specs.Counting.{tally, more, count-term, count-supply, is-supplied, count-iri, count-node, asks-first, count-behind, count-before, count-place, count-close, Held, Numbers, Tallies, LiteralTallies, Answers, Small, Named, rows-in, tally-in, refusal-of};
@@ -592,7 +592,7 @@ fn at_most(n: usize) -> usize
 
 // The answer where there would be so many rows, and so many terms and bytes.
 fn refusal(rows: &[u32], terms: &[u32], store: &[u8], count: usize, t: Tally) -> u8
-    ensures { λ r. ⌜ r ≡ refusal-of (room-in (tables (now (rows .entry)) (now (terms .entry)) (now (store .entry)))) count t ⌝ }
+    ensures { λ r. ⌜ r ≡ refusal-of (room-in (lent-tables (now (rows .entry)) (now (terms .entry)) (now (store .entry)))) count t ⌝ }
 {
     if at_most(rows.len() / 5) < count {
         return 14;
@@ -645,8 +645,8 @@ pub fn room_to_place(
     text: &[u8],
     tag: &[u8],
 ) -> u8
-    requires { ⌜ Represented (now work) (tables (now rows) (now terms) (now store)) (now st) × NodeFits node (now work) (now back) (now text) (now tag) ⌝ }
-    ensures { λ r. ⌜ Answers (now (work .entry)) (tables (now (rows .entry)) (now (terms .entry)) (now (store .entry))) (now (st .entry)) (placed spot (node-write node (now (work .entry)) (now (back .entry)) (now (text .entry)) (now (tag .entry)) (spot .at))) r ⌝ }
+    requires { ⌜ Represented (now work) (lent-tables (now rows) (now terms) (now store)) (now st) × NodeFits node (now work) (now back) (now text) (now tag) ⌝ }
+    ensures { λ r. ⌜ Answers (now (work .entry)) (lent-tables (now (rows .entry)) (now (terms .entry)) (now (store .entry))) (now (st .entry)) (placed spot (node-write node (now (work .entry)) (now (back .entry)) (now (text .entry)) (now (tag .entry)) (spot .at))) r ⌝ }
 {
     let count = rows_in(st) + (before_rows(spot) + behind_rows(spot));
     let t = tally_in(st);
@@ -678,8 +678,8 @@ pub fn room_to_open(
     st: &[usize; Layout::WORDS],
     spot: Spot,
 ) -> u8
-    requires { ⌜ Represented (now work) (tables (now rows) (now terms) (now store)) (now st) ⌝ }
-    ensures { λ r. ⌜ Answers (now (work .entry)) (tables (now (rows .entry)) (now (terms .entry)) (now (store .entry))) (now (st .entry)) (opened-at spot) r ⌝ }
+    requires { ⌜ Represented (now work) (lent-tables (now rows) (now terms) (now store)) (now st) ⌝ }
+    ensures { λ r. ⌜ Answers (now (work .entry)) (lent-tables (now (rows .entry)) (now (terms .entry)) (now (store .entry))) (now (st .entry)) (opened-at spot) r ⌝ }
 {
     let count = rows_in(st) + before_rows(spot);
     let t = tally_in(st);
@@ -700,8 +700,8 @@ pub fn room_to_close(
     st: &[usize; Layout::WORDS],
     spot: Spot,
 ) -> u8
-    requires { ⌜ Represented (now work) (tables (now rows) (now terms) (now store)) (now st) ⌝ }
-    ensures { λ r. ⌜ Answers (now (work .entry)) (tables (now (rows .entry)) (now (terms .entry)) (now (store .entry))) (now (st .entry)) (closed spot) r ⌝ }
+    requires { ⌜ Represented (now work) (lent-tables (now rows) (now terms) (now store)) (now st) ⌝ }
+    ensures { λ r. ⌜ Answers (now (work .entry)) (lent-tables (now (rows .entry)) (now (terms .entry)) (now (store .entry))) (now (st .entry)) (closed spot) r ⌝ }
 {
     let count = rows_in(st) + close_rows(spot);
     let t = tally_in(st);

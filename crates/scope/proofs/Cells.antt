@@ -16,7 +16,7 @@ use Rattle.text.specs.Slice.{over-at}
 use Rattle.text.proofs.Compare.{by}
 use Rattle.text.proofs.Over.{over-front, over-at-length, over-at-before, over-at-back, over-at-from}
 use Rattle.scope.specs.Environment.{bind}
-use Rattle.scope.specs.Code.{at-most, cell, binding, count, listed, place, base-cell, in-force, FoundIn, Usable, WroteBinding, Beside}
+use Rattle.scope.specs.Code.{at-most, cell, binding, count, listed, place, base-cell, environment-in, FoundIn, Usable, WroteBinding, Beside}
 use Rattle.scope.specs.declared.Found.the-variants.{At, Missing}
 use Rattle.scope.proofs.Bindings.{lookup-at, lookup-none}
 
@@ -36,8 +36,8 @@ names work lens i = refl
 
 -- The namespace of the binding that was found.
 pub found-at : (p work : Text) (lens : List ℕ) (n i m : ℕ) → n ≡ count lens → i ≡ place p (listed (binding work lens) 0 n) → i < n → n ≤ 32 → m ≡ at-most (getD lens (32 + i) 0) 1024 → m ≤ 1024 → 35840 ≤ length work
-    → FoundIn p (in-force work lens) work (At (i * 1088 + 64) m)
-unfolding FoundIn in-force
+    → FoundIn p (environment-in work lens) work (At (i * 1088 + 64) m)
+unfolding FoundIn environment-in
 found-at p work lens n i m en ei h h32 em hm room =
     let z : 0 + i ≡ i = omega arith in (
       rw (← en) (lookup-at p (binding work lens) 0 n i ei h ∙ ap some (rw z (read work lens i m em))),
@@ -47,8 +47,8 @@ found-at p work lens n i m en ei h h32 em hm room =
     read : (work : Text) (lens : List ℕ) (i m : ℕ) → m ≡ at-most (getD lens (32 + i) 0) 1024 → binding work lens i .namespace ≡ take m (drop (i * 1088 + 64) work)
     read work lens i m e = names work lens i ∙ rw e
 
-pub missing : (p work : Text) (lens : List ℕ) (n i : ℕ) → n ≡ count lens → i ≡ place p (listed (binding work lens) 0 n) → n ≤ i → FoundIn p (in-force work lens) work Missing
-unfolding FoundIn in-force
+pub missing : (p work : Text) (lens : List ℕ) (n i : ℕ) → n ≡ count lens → i ≡ place p (listed (binding work lens) 0 n) → n ≤ i → FoundIn p (environment-in work lens) work Missing
+unfolding FoundIn environment-in
 missing p work lens n i en ei h = rw (← en) (lookup-none p (binding work lens) 0 n (omega arith))
 
 take-drop : (m s : ℕ) (l : Text) → take m (drop s l) ≡ drop s (take (s + m) l)

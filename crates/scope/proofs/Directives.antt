@@ -12,7 +12,7 @@ use Rattle.text.specs.Text.{Text, cond}
 use Rattle.text.specs.Slice.{over, over-at}
 use Rattle.text.proofs.Over.{over-at-length, over-at-back, over-part}
 use Rattle.scope.specs.Environment.{Binding, bind, bound, start-environment}
-use Rattle.scope.specs.Code.{is-declared, declare-answer, after-declare, at-most, cell, binding, count, listed, place, base-cell, in-force, Usable, WroteBinding, Beside, Declares, SetsBase}
+use Rattle.scope.specs.Code.{is-declared, declare-answer, after-declare, at-most, cell, binding, count, listed, place, base-cell, environment-in, Usable, WroteBinding, Beside, Declares, SetsBase}
 use Rattle.scope.specs.declared.Declared.the-variants.{Done, TooLong, TooMany}
 use Rattle.scope.proofs.Bindings.{not-declared, declared-at, listed-length, listed-same, declare-again, declare-new}
 use Rattle.scope.proofs.Cells.{cell-read, most-at, most-small, cell-new, kept-before, front-cell, binding-new, binding-other, base-stays, count-stays, written-usable, written-beside}
@@ -56,11 +56,11 @@ module _ (work : Text) (lens : List ℕ) (p ns : Text) (u : Usable work lens) wh
       abbrev f : ℕ → Binding
       f = binding work lens
 
-      namespaces-are : in-force work lens .namespaces ≡ listed f 0 n
-      unfolding in-force
+      namespaces-are : environment-in work lens .namespaces ≡ listed f 0 n
+      unfolding environment-in
       namespaces-are = rw en
 
-      answer-by : (known : Bool) → is-declared p (listed f 0 n) ≡ known → declare-answer (in-force work lens) p ns ≡ cond (not known && leb 32 n) TooMany Done
+      answer-by : (known : Bool) → is-declared p (listed f 0 n) ≡ known → declare-answer (environment-in work lens) p ns ≡ cond (not known && leb 32 n) TooMany Done
       unfolding declare-answer
       answer-by known e = rw (le-ltb 64 (length p) hp, le-ltb 1024 (length ns) hn, namespaces-are, e, listed-length p f 0 n)
 
@@ -76,7 +76,7 @@ module _ (work : Text) (lens : List ℕ) (p ns : Text) (u : Usable work lens) wh
       -- The binding is written at the prefix's place.
       module _ (work' : Text) (lens' : List ℕ) (w : WroteBinding work work' lens lens' i p ns) (small : i < 32) where
         pub declared-again : i < n → n ≤ 32 → Declares work work' lens lens' p ns Done
-        unfolding after-declare in-force
+        unfolding after-declare environment-in
         declared-again h h32 =
             let z : 0 + i ≡ i = omega arith in
             let c : count lens' ≡ n = rw (count-stays work work' lens lens' i p ns w u small hp hn) (sym en) in
@@ -91,7 +91,7 @@ module _ (work : Text) (lens : List ℕ) (p ns : Text) (u : Usable work lens) wh
             }
 
         pub declared-first : (lens'' : List ℕ) → n ≤ i → lens'' ≡ set lens' 64 (n + 1) → Declares work work' lens lens'' p ns Done
-        unfolding after-declare in-force
+        unfolding after-declare environment-in
         declared-first lens'' h e'' =
             let words : length lens' ≡ 212 = written-usable work work' lens lens' i p ns w u small hp hn .words in
             let words'' : length lens'' ≡ 212 = ap length e'' ∙ (length-set lens' 64 (n + 1) ∙ words) in
@@ -134,7 +134,7 @@ module _ (work : Text) (lens : List ℕ) (iri : Text) (u : Usable work lens) whe
   base-too-long h = record { answer = sym (lt-leb (length iri) 1024 h); after = refl; usable = u; beside = beside-same work lens }
 
   pub base-set : (work' : Text) (lens' : List ℕ) → length iri ≤ 1024 → work' ≡ over-at 34816 iri work → lens' ≡ set lens 65 (length iri) → SetsBase work work' lens lens' iri true
-  unfolding in-force
+  unfolding environment-in
   base-set work' lens' h ew el =
       let long : getD lens' 65 0 ≡ length iri = ap (λ (l : List ℕ). getD l 65 0) el ∙ getD-set-same lens 65 (length iri) 0 (omega (arith, u .words)) in
       let same : (k : ℕ) → (k ≡ 65 → ⊥) → getD lens' k 0 ≡ getD lens k 0 = λ k q. ap (λ (l : List ℕ). getD l k 0) el ∙ getD-set-other lens 65 k (length iri) 0 q in
@@ -157,17 +157,17 @@ module _ (work : Text) (lens : List ℕ) (iri : Text) (u : Usable work lens) whe
       }
 
 -- The base is read from its cell.
-pub base-read : (work : Text) (lens : List ℕ) (r : ℕ) → r ≡ at-most (getD lens 65 0) 1024 → take (34816 + r - 34816) (drop 34816 work) ≡ in-force work lens .base
-unfolding in-force base-cell
+pub base-read : (work : Text) (lens : List ℕ) (r : ℕ) → r ≡ at-most (getD lens 65 0) 1024 → take (34816 + r - 34816) (drop 34816 work) ≡ environment-in work lens .base
+unfolding environment-in base-cell
 base-read work lens r e = cell-read work 34816 1024 (getD lens 65 0) r e
 
 -- The count is of the bindings, and a fresh array holds nothing.
-pub count-is : (work : Text) (lens : List ℕ) → length (in-force work lens .namespaces) ≡ count lens
-unfolding in-force
+pub count-is : (work : Text) (lens : List ℕ) → length (environment-in work lens .namespaces) ≡ count lens
+unfolding environment-in
 count-is work lens = listed-length work (binding work lens) 0 (count lens)
 
-pub fresh-is : (work : Text) → in-force work (replicate 66 0) ≡ start-environment []
-unfolding in-force listed base-cell cell
+pub fresh-is : (work : Text) → environment-in work (replicate 66 0) ≡ start-environment []
+unfolding environment-in listed base-cell cell
 fresh-is work = refl
 
 bound-words : (work : Text) (lens lens' : List ℕ) (j : ℕ) → getD lens' j 0 ≡ getD lens j 0 → getD lens' (32 + j) 0 ≡ getD lens (32 + j) 0 → binding work lens' j ≡ binding work lens j
@@ -179,8 +179,8 @@ unfolding binding
 front-binding work work' lens j e h = rw (front-cell work work' (j * 1088) 64 (getD lens j 0) e (omega arith), front-cell work work' (j * 1088 + 64) 1024 (getD lens (32 + j) 0) e (omega arith))
 
 -- The environment depends on the words before the caller's own, and on the front of the work slice.
-pub in-force-words : (work : Text) (lens lens' : List ℕ) → ((k : ℕ) → k < 66 → getD lens' k 0 ≡ getD lens k 0) → in-force work lens' ≡ in-force work lens
-unfolding in-force base-cell
+pub in-force-words : (work : Text) (lens lens' : List ℕ) → ((k : ℕ) → k < 66 → getD lens' k 0 ≡ getD lens k 0) → environment-in work lens' ≡ environment-in work lens
+unfolding environment-in base-cell
 in-force-words work lens lens' same =
     let c : count lens' ≡ count lens = rw (same 64 (omega arith)) in
     let bs : listed (binding work lens') 0 (count lens) ≡ listed (binding work lens) 0 (count lens) =
@@ -190,8 +190,8 @@ in-force-words work lens lens' same =
     by-words : (work : Text) (lens lens' : List ℕ) → ((k : ℕ) → k < 66 → getD lens' k 0 ≡ getD lens k 0) → (j : ℕ) → j < 32 → binding work lens' j ≡ binding work lens j
     by-words work lens lens' same j h = bound-words work lens lens' j (same j (omega arith)) (same (32 + j) (omega arith))
 
-pub in-force-front : (work work' : Text) (lens : List ℕ) → take 35840 work' ≡ take 35840 work → in-force work' lens ≡ in-force work lens
-unfolding in-force base-cell
+pub in-force-front : (work work' : Text) (lens : List ℕ) → take 35840 work' ≡ take 35840 work → environment-in work' lens ≡ environment-in work lens
+unfolding environment-in base-cell
 in-force-front work work' lens e =
     let bs : listed (binding work' lens) 0 (count lens) ≡ listed (binding work lens) 0 (count lens) =
     listed-same [] (binding work lens) [] (binding work' lens) 0 (count lens) (λ j l m. front-binding work work' lens j e (omega (arith, most-at (getD lens 64 0) 32))) in

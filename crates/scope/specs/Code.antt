@@ -60,8 +60,8 @@ unfoldable pub base-cell : Text → List ℕ → Text
 base-cell work lens = cell work base-place iri-limit (getD lens base-word 0)
 
 -- What the work slice and the array hold.
-unfoldable pub in-force : Text → List ℕ → Environment
-in-force work lens = record { namespaces = listed (binding work lens) 0 (count lens); base = base-cell work lens }
+unfoldable pub environment-in : Text → List ℕ → Environment
+environment-in work lens = record { namespaces = listed (binding work lens) 0 (count lens); base = base-cell work lens }
 
 -- The place of a prefix among the bindings, their number where it has none.
 unfoldable pub place : Text → List Binding → ℕ
@@ -106,14 +106,14 @@ pub record Beside (work work' : Text) (lens lens' : List ℕ) : Type 0 where
 
 -- What a declaration answers and leaves.
 pub record Declares (work work' : Text) (lens lens' : List ℕ) (p ns : Text) (r : Declared) : Type 0 where
-  pub answer : r ≡ declare-answer (in-force work lens) p ns
-  pub after : in-force work' lens' ≡ after-declare r (in-force work lens) p ns
+  pub answer : r ≡ declare-answer (environment-in work lens) p ns
+  pub after : environment-in work' lens' ≡ after-declare r (environment-in work lens) p ns
   pub usable : Usable work' lens'
   pub beside : Beside work work' lens lens'
 
 -- What setting the base answers and leaves.
 pub record SetsBase (work work' : Text) (lens lens' : List ℕ) (iri : Text) (r : Bool) : Type 0 where
   pub answer : r ≡ leb (length iri) iri-limit
-  pub after : in-force work' lens' ≡ cond r (set-base iri (in-force work lens)) (in-force work lens)
+  pub after : environment-in work' lens' ≡ cond r (set-base iri (environment-in work lens)) (environment-in work lens)
   pub usable : Usable work' lens'
   pub beside : Beside work work' lens lens'

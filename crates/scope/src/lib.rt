@@ -3,7 +3,7 @@ ghost use mathlib.Core.Path.{_≡_};
 ghost use Prim.Native.Nat.{_+_, _≤_, _<_};
 ghost use lib.ListN.{length, replicate};
 ghost use Rattle.limits.specs.Limits.{prefixes-limit, work-size};
-ghost use Rattle.scope.specs.Code.{words-size, at-most, binding, count, listed, place, in-force, Usable, FoundIn, WroteBinding, Declares, SetsBase};
+ghost use Rattle.scope.specs.Code.{words-size, at-most, binding, count, listed, place, environment-in, Usable, FoundIn, WroteBinding, Declares, SetsBase};
 use limits::Limits;
 
 // Where things stand: in the work slice a cell for each prefix and its namespace, and one for the base; in the array the
@@ -73,7 +73,7 @@ fn find(work: &[u8], lens: &[usize; Layout::WORDS], prefix: &[u8], n: usize) -> 
 
 // Where the namespace of a prefix stands.
 pub fn look_up(work: &[u8], lens: &[usize; Layout::WORDS], prefix: &[u8]) -> Found
-    ensures { λ r. ⌜ ((work-size ≤ length (now (work .entry))) → FoundIn (now (prefix .entry)) (in-force (now (work .entry)) (now (lens .entry))) (now (work .entry)) r) ⌝ }
+    ensures { λ r. ⌜ ((work-size ≤ length (now (work .entry))) → FoundIn (now (prefix .entry)) (environment-in (now (work .entry)) (now (lens .entry))) (now (work .entry)) r) ⌝ }
 {
     if work.len() < Limits::WORK {
         return Found::Missing;
@@ -163,7 +163,7 @@ pub fn set_base(work: &mut [u8], lens: &mut [usize; Layout::WORDS], iri: &[u8]) 
 
 // The base in force; empty where there is none.
 pub fn base<'a>(work: &'a [u8], lens: &[usize; Layout::WORDS]) -> &'a [u8]
-    ensures { λ r. ⌜ (Usable (now (work .entry)) (now (lens .entry)) → now r ≡ in-force (now (work .entry)) (now (lens .entry)) .base) ⌝ }
+    ensures { λ r. ⌜ (Usable (now (work .entry)) (now (lens .entry)) → now r ≡ environment-in (now (work .entry)) (now (lens .entry)) .base) ⌝ }
 {
     if work.len() < Limits::WORK {
         return &work[0..0];

@@ -50,8 +50,8 @@ pub record Cursor (doc : Text) (st : List ℕ) : Type 0 where
   pub token : (getD st kind-word 0 ≡ end-kind → ⊥) → (getD st kind-word 0 ≡ unreadable-kind → ⊥) → TokenHere doc st
 
 -- The tokens from the cursor on.
-abbrev pub left : Text → List ℕ → List Lexeme
-left doc st = ahead doc (getD st kind-word 0) (getD st at-word 0) (getD st len-word 0)
+abbrev pub remaining : Text → List ℕ → List Lexeme
+remaining doc st = ahead doc (getD st kind-word 0) (getD st at-word 0) (getD st len-word 0)
 
 -- What moving the cursor leaves alone.
 abbrev pub StaysBeside : List ℕ → List ℕ → Type 0
@@ -60,7 +60,7 @@ StaysBeside st st' = (k : ℕ) → (k < kind-word) ⊎ (clear-word < k) → getD
 -- The cursor has gone to the first token from a place on.
 pub record Sought (doc : Text) (at : ℕ) (st st' : List ℕ) : Type 0 where
   pub cursor : Cursor doc st'
-  pub tokens : rest doc at ≡ left doc st'
+  pub tokens : rest doc at ≡ remaining doc st'
   pub later : at ≤ getD st' at-word 0
   pub beside : StaysBeside st st'
   pub words : length st' ≡ length st

@@ -8,7 +8,7 @@ use lib.ListN.{length, getD, drop}
 use Rattle.text.specs.Text.{Text, cond, empty}
 use Rattle.limits.specs.Limits.{work-size}
 use Rattle.iri.specs.Iri.{has-scheme}
-use Rattle.scope.specs.Code.{in-force, Usable}
+use Rattle.scope.specs.Code.{environment-in, Usable}
 use Rattle.table.specs.Layout.{row-size, term-size, row-room, term-room}
 use Rattle.table.specs.Tables.{or-zero, store-size}
 use Rattle.terms.specs.Keeps.{KeepsRows}
@@ -24,8 +24,8 @@ pub record Tables : Type 0 where
   pub terms : List ℕ
   pub store : Text
 
-abbrev pub tables : List ℕ → List ℕ → Text → Tables
-tables rows terms store = record { rows = rows; terms = terms; store = store }
+abbrev pub lent-tables : List ℕ → List ℕ → Text → Tables
+lent-tables rows terms store = record { rows = rows; terms = terms; store = store }
 
 -- The code counts rows, terms and store bytes in 32 bits, and looks at the next number before it uses it: room past that is not used.
 abbrev pub most-counted : ℕ
@@ -41,7 +41,7 @@ room-in t = record { rows = counted (row-room (length (t .rows))); terms = count
 -- They hold the memory m, and past their used part what they held before.
 pub record Represents (old : Tables) (m : Memory) (work : Text) (t : Tables) (st : List ℕ) : Type 0 where
   pub usable : Usable work st
-  pub environment : in-force work st ≡ m .environment
+  pub environment : environment-in work st ≡ m .environment
   pub base : (empty (m .environment .base) || has-scheme (m .environment .base)) ≡ true
   pub terms-held : Holds (m .terms) (t .terms) (t .store) (drop work-size work) (counts-of st)
   pub rows-held : KeepsRows (m .rows) (t .rows) (getD st rows-word 0)

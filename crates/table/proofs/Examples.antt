@@ -10,7 +10,7 @@ use Rattle.text.proofs.Table.{_⇒_, Gives}
 use Rattle.dataset.specs.Terms.{label, bracket, cell, numbered, Term, iri, blank, literal, tagged, xsd-string}
 use Rattle.table.specs.Layout.{Row, row-room, term-room, Slices, row-at, entry-at}
 use Rattle.table.specs.Tables.{number, term-at, terms-words, store-bytes, store-size, rows-words, quads}
-use Rattle.table.specs.Usable.{is-tag, usable, held}
+use Rattle.table.specs.Usable.{is-tag, usable, quads-held}
 use Rattle.table.specs.TermText.{term-text}
 use Rattle.table.specs.LongForm.{decimal, iri-form, string-form, type-form, term-form, long-form, Written, write, computing}
 
@@ -250,7 +250,7 @@ unfolding computing
 tags = refl
 
 -- The blank number is the node.
-held-statements : held good ≡
+held-statements : quads-held good ≡
     record { graph = none; triple = record { subject = iri (ascii "x:s"); predicate = iri (ascii "x:p"); object = literal (ascii "a") (ascii "x:t") } }
     ∷ record { graph = some (blank (numbered 12)); triple = record { subject = blank (numbered 12); predicate = iri (ascii "x:p"); object = tagged (ascii "a") (ascii "en") } }
     ∷ []

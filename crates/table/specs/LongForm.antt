@@ -11,7 +11,7 @@ use Rattle.iri.specs.Resolve.{computing as iri-computing}
 use Rattle.dataset.specs.Terms.{xsd-string}
 use Rattle.table.specs.Layout.{Row, row-words, row-at, entry-words, entry-at, iri-kind, blank-kind, literal-kind, Slices}
 use Rattle.table.specs.Tables.{same-blank, same-term, number-from, number, term-at, words-from, terms-words, store-bytes, store-size, rows-words, quads}
-use Rattle.table.specs.Usable.{each, is-match, is-tag, the, text, tag, has-kind, counts-fit, good-term, good-row, usable, quads-from, held}
+use Rattle.table.specs.Usable.{each, is-match, is-tag, the, text, tag, has-kind, counts-fit, good-term, good-row, usable, quads-from, quads-held}
 use Rattle.table.specs.TermText.{shows, term-text}
 
 -- A 32-bit number in decimal digits: at most ten.
@@ -92,5 +92,5 @@ write s out =
 
 -- All that computes here; an example that is checked by evaluation names it.
 unfoldable pub computing : ℕ
-unfolding token-computing iri-computing row-words row-at entry-words entry-at same-blank same-term number-from number term-at words-from terms-words store-bytes store-size rows-words quads each is-match is-tag counts-fit good-term good-row usable quads-from held shows term-text digits iri-byte string-byte escaped term-form triple-form line lines-from long-form write
+unfolding token-computing iri-computing row-words row-at entry-words entry-at same-blank same-term number-from number term-at words-from terms-words store-bytes store-size rows-words quads each is-match is-tag counts-fit good-term good-row usable quads-from quads-held shows term-text digits iri-byte string-byte escaped term-form triple-form line lines-from long-form write
 computing = 0

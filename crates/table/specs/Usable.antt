@@ -103,5 +103,5 @@ module _ (s : Slices) where
   quads-from i zero = []
   quads-from i (suc n) = quad (row-at (s .rows) i) ∷ quads-from (suc i) n
 
-  unfoldable pub held : List Quad
-  held = quads-from 0 (s .row-count)
+  unfoldable pub quads-held : List Quad
+  quads-held = quads-from 0 (s .row-count)

@@ -21,7 +21,7 @@ use Rattle.table.proofs.Finding.{number-more, number-last}
 use Rattle.table.proofs.Store.{rows-append, last-bytes, last-size}
 use Rattle.terms.specs.declared.Counts.{Counts}
 use Rattle.terms.specs.declared.Sort.{Sort}
-use Rattle.terms.specs.Keeps.{blank-count, findable, Typed, Keeps, Means, Small, Room, Added, blank-sort, BlankAdded, RowAdded}
+use Rattle.terms.specs.Keeps.{blank-count, findable, Typed, Keeps, Means, Small, TermFits, Added, blank-sort, BlankAdded, RowAdded}
 use Rattle.terms.specs.Code.{fourth, next-entry, next-counts}
 use Rattle.terms.proofs.Words.{words-last}
 
@@ -72,7 +72,7 @@ module _ (ts : List Term) (c : Counts) (sort : Sort) (x g : Text) (used : c .use
   means-blank (tagged s d) (k, r) = rw (k, count-last ts (tagged s d), blanks)
 
 pub keeps-added : (ts : List Term) (terms : List ℕ) (store : Text) (c : Counts) (sort : Sort) (x g : Text) (t : Term)
-    → Keeps ts terms store c → Room terms store c sort x g → Means ts sort x g t → Typed ts t → (findable t ≡ true → number t ts ≡ none)
+    → Keeps ts terms store c → TermFits terms store c sort x g → Means ts sort x g t → Typed ts t → (findable t ≡ true → number t ts ≡ none)
     → Keeps (ts ++ t ∷ []) (over-at (5 * c .terms) (entry-words (next-entry c sort (length x) (length g))) terms) (over-at (c .used) (x ++ g) store) (next-counts c sort (length x + length g))
 unfolding next-counts
 keeps-added ts terms store c sort x g t K R M y new =
@@ -138,7 +138,7 @@ fourth-small c sort size tag-size S =
     by (eqb (sort .kind) 2) (λ e. rw e (S .blanks))
     (λ e. by (eqb (sort .kind) 3) (λ f. rw (e, f) (S .datatype)) (λ f. by (eqb (sort .kind) 4) (λ g. rw (e, f, g) (omega (arith, S .used))) (λ g. rw (e, f, g) (omega arith))))
 
-pub added : (terms terms' : List ℕ) (store store' : Text) (c c' : Counts) (sort : Sort) (x g : Text) (n : ℕ) → Room terms store c sort x g → n ≡ length x
+pub added : (terms terms' : List ℕ) (store store' : Text) (c c' : Counts) (sort : Sort) (x g : Text) (n : ℕ) → TermFits terms store c sort x g → n ≡ length x
     → terms' ≡ over-at (5 * c .terms) (entry-words (next-entry c sort n (length g))) terms → store' ≡ over-at (c .used) (x ++ g) store
     → c' ≡ next-counts c sort (n + length g) → Added terms terms' store store' c c' sort x g
 added terms terms' store store' c c' sort x g n R h w b e =

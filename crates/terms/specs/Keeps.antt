@@ -62,7 +62,7 @@ pub record Small (c : Counts) (sort : Sort) (bytes : ℕ) : Type 0 where
   pub datatype : sort .datatype < 4294967296
 
 -- There is room for one term more.
-pub record Room (terms : List ℕ) (store : Text) (c : Counts) (sort : Sort) (x g : Text) : Type 0 where
+pub record TermFits (terms : List ℕ) (store : Text) (c : Counts) (sort : Sort) (x g : Text) : Type 0 where
   pub words : term-size * c .terms + term-size ≤ length terms
   pub bytes : c .used + (length x + length g) ≤ length store
   pub small : Small c sort (length x + length g)

@@ -8,7 +8,7 @@ ghost use Rattle.text.specs.Slice.{over-at};
 ghost use Rattle.form.specs.Form.{joined, bad};
 ghost use Rattle.table.specs.Layout.{entry-at, entry-words};
 ghost use Rattle.terms.specs.Code.{same-rest, matches, first, Inside, Readable, fourth, next-entry, next-counts};
-ghost use Rattle.terms.specs.Keeps.{Small, Room, Added, blank-sort, BlankAdded, RowAdded};
+ghost use Rattle.terms.specs.Keeps.{Small, TermFits, Added, blank-sort, BlankAdded, RowAdded};
 use form::Form;
 
 // How many terms there are, how many bytes of the store they use, and how many of them are blank nodes.
@@ -197,7 +197,7 @@ pub fn add(
     back: &[u8],
     tag: &[u8],
 ) -> Counts
-    requires { ⌜ Room (now terms) (now store) counts sort (joined (now front) form (now back)) (now tag) × (bad form (now back) ≡ false) ⌝ }
+    requires { ⌜ TermFits (now terms) (now store) counts sort (joined (now front) form (now back)) (now tag) × (bad form (now back) ≡ false) ⌝ }
     ensures { λ r. ⌜ Added (now (terms .entry)) (now (terms .exit)) (now (store .entry)) (now (store .exit)) counts r sort (joined (now (front .entry)) form (now (back .entry))) (now (tag .entry)) ⌝ }
 {
     let used = counts.used;

@@ -4,7 +4,7 @@ ghost use Prim.Native.Nat.{_≤_};
 ghost use lib.ListN.{length, drop};
 ghost use Rattle.limits.specs.Limits.{work-size};
 ghost use Rattle.index.specs.Holds.{Searchable, iri-sort};
-ghost use Rattle.terms.specs.Keeps.{Room};
+ghost use Rattle.terms.specs.Keeps.{TermFits};
 ghost use Rattle.terms_bench.specs.Iris.{counts};
 use form::Form;
 use limits::Limits;
@@ -21,7 +21,7 @@ pub extern "C" fn share_iri(
     used: usize,
     text: &[u8],
 ) -> usize
-    requires { ⌜ Searchable (now terms) (now store) (drop work-size (now work)) (counts count used) × (Room (now terms) (now store) (counts count used) iri-sort (now text) [] × (work-size ≤ length (now work))) ⌝ }
+    requires { ⌜ Searchable (now terms) (now store) (drop work-size (now work)) (counts count used) × (TermFits (now terms) (now store) (counts count used) iri-sort (now text) [] × (work-size ≤ length (now work))) ⌝ }
 {
     let c = Counts {
         terms: count,

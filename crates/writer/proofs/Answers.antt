@@ -13,7 +13,7 @@ use Rattle.text.proofs.Over.{over-fits}
 use Rattle.table.specs.Layout.{Slices, row-at}
 use Rattle.table.specs.Usable.{usable}
 use Rattle.table.specs.LongForm.{Written, term-form, triple-form, line, lines-from, long-form, write}
-use Rattle.writer.specs.Writing.{Room, Wrote}
+use Rattle.writer.specs.Writing.{Countable, Wrote}
 use Rattle.writer.specs.Drawn.{drawn}
 
 abbrev written : ℕ → ℕ → Text → Written
@@ -47,7 +47,7 @@ module _ (s : Slices) where
     too-long f = rw (e, form, lt-ltb (length x) (length (lines-from tables 0 (s .row-count))) (leb-false _ _ f))
 
     module _ (f : leb (length (lines-from tables 0 (s .row-count))) (length x) ≡ true) where
-      pub lines-room : length x < 2 ^ 64 → Room 0 (lines-from tables 0 (s .row-count))
+      pub lines-room : length x < 2 ^ 64 → Countable 0 (lines-from tables 0 (s .row-count))
       lines-room l = record { fits = omega (arith, leb-true (length (lines-from tables 0 (s .row-count))) (length x) f) }
 
       pub written-whole : {y : Text} {r : ℕ} → Wrote 0 (lines-from tables 0 (s .row-count)) x y r → written 0 r y ≡ write s x

@@ -8,7 +8,7 @@ use lib.ListN.{length, set, length-append}
 use Rattle.text.specs.Text.{Text}
 use Rattle.text.specs.Slice.{over-at}
 use Rattle.text.proofs.Over.{over-nothing, over-append, over-at-none, over-at-more, over-at-enough, over-at-length}
-use Rattle.writer.specs.Writing.{Room, Wrote}
+use Rattle.writer.specs.Writing.{Countable, Wrote}
 
 over-at-append : (at : ℕ) (s t x : Text) → over-at at (s ++ t) x ≡ over-at (at + length s) t (over-at at s x)
 unfolding over-at
@@ -25,10 +25,10 @@ module _ {at m : ℕ} {a b x y : Text} (v : Wrote at a x y m) where
     out = w .out ∙ rw (v .end, v .out) (sym (over-at-append at a b x));
   }
 
-  pub room-after : Room at (a ++ b) → Room m b
+  pub room-after : Countable at (a ++ b) → Countable m b
   room-after r = record { fits = let e = v .end in let f = r .fits in let g = length-append a b in omega arith }
 
-pub room-before : {at : ℕ} (a b : Text) → Room at (a ++ b) → Room at a
+pub room-before : {at : ℕ} (a b : Text) → Countable at (a ++ b) → Countable at a
 room-before a b r = record { fits = let f = r .fits in let g = length-append a b in omega arith }
 
 -- ---- Nothing, and one byte

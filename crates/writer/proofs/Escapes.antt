@@ -14,7 +14,7 @@ use Rattle.token.specs.Regular.{in-ranges}
 use Rattle.iri.specs.Iri.{forbidden}
 use Rattle.characters.specs.Bytes.{iri}
 use Rattle.table.specs.LongForm.{iri-byte, string-byte, escaped}
-use Rattle.writer.specs.Writing.{Room, Wrote, code-form, escape-of, byte-form}
+use Rattle.writer.specs.Writing.{Countable, Wrote, code-form, escape-of, byte-form}
 use Rattle.writer.specs.declared.bytes.Rule.the-variants.{Plain}
 use Rattle.writer.proofs.Chains.{both, room-before, room-after, wrote-nothing}
 
@@ -86,12 +86,12 @@ module _ (f : ℕ → Text) where
       next = rw (add-one i, take-suc s i 0 h) (escaped-append (take i s) (getD s i 0 ∷ []) ∙ rw (one (getD s i 0)))
 
       module _ {at end : ℕ} {x y : Text} (v : Wrote at (escaped f (take i s)) x y end) where
-        pub room-next : Room at (escaped f s) → Room end (f (getD s i 0))
+        pub room-next : Countable at (escaped f s) → Countable end (f (getD s i 0))
         room-next r =
             room-after v
-            (subst (Room at) next
+            (subst (Countable at) next
             (room-before (escaped f (take (i + 1) s)) (escaped f (drop (i + 1) s))
-            (subst (Room at) (ap (escaped f) (sym (take-append-drop (i + 1) s)) ∙ escaped-append (take (i + 1) s) (drop (i + 1) s)) r)))
+            (subst (Countable at) (ap (escaped f) (sym (take-append-drop (i + 1) s)) ∙ escaped-append (take (i + 1) s) (drop (i + 1) s)) r)))
 
         pub wrote-next : {z : Text} {m : ℕ} → Wrote end (f (getD s i 0)) y z m → Wrote at (escaped f (take (i + 1) s)) x z m
         wrote-next {z} {m} w = subst (λ (t : Text). Wrote at t x z m) (sym next) (both v w)

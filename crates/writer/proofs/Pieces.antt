@@ -10,7 +10,7 @@ use Rattle.table.specs.Layout.{Slices, literal-kind}
 use Rattle.table.specs.Usable.{the, text, tag, has-kind}
 use Rattle.table.specs.LongForm.{iri-form, string-form, type-form, term-form}
 use Rattle.utf8.proofs.Tests.{by}
-use Rattle.writer.specs.Writing.{Room}
+use Rattle.writer.specs.Writing.{Countable}
 use Rattle.writer.specs.Drawn.{tag-form, blank-form, literal-form}
 use Rattle.writer.proofs.Chains.{room-before}
 
@@ -30,7 +30,7 @@ module _ (s : Slices) (n : ℕ) where
   unfolding literal-form
   literal-tagged e = rw (ne-eqb (the s n .kind) 3 e)
 
-  pub literal-string : {at : ℕ} → Room at (literal-form s n) → Room at (string-form (text s n))
+  pub literal-string : {at : ℕ} → Countable at (literal-form s n) → Countable at (string-form (text s n))
   unfolding literal-form
   literal-string r = room-before (string-form (text s n)) (cond (has-kind s literal-kind n) (type-form (text s (the s n .fourth))) (tag-form (tag s n))) r
 

@@ -11,7 +11,7 @@ use lib.ListN.{length, length-append}
 use Rattle.text.specs.Text.{Text, ascii}
 use Rattle.table.specs.Layout.{Row, Slices, row-at}
 use Rattle.table.specs.LongForm.{term-form, triple-form, line, lines-from}
-use Rattle.writer.specs.Writing.{Room, Wrote}
+use Rattle.writer.specs.Writing.{Countable, Wrote}
 use Rattle.writer.specs.Drawn.{bare, part-form}
 use Rattle.writer.proofs.Chains.{both, room-before, room-after, wrote-nothing}
 
@@ -79,8 +79,8 @@ module _ (s : Slices) where
     too-long total limit m e f l = sym (lt-leb (length (lines-from s 0 n)) limit (omega (arith, lines-length)))
 
     module _ {x y : Text} {at : ℕ} (v : Wrote 0 (lines-from s 0 i) x y at) where
-      pub line-room : Room 0 (lines-from s 0 n) → Room at (row i)
-      line-room r = room-after v (room-before (lines-from s 0 i ++ row i) (lines-from s (i + 1) (n - (i + 1))) (subst (Room 0) lines-more r))
+      pub line-room : Countable 0 (lines-from s 0 n) → Countable at (row i)
+      line-room r = room-after v (room-before (lines-from s 0 i ++ row i) (lines-from s (i + 1) (n - (i + 1))) (subst (Countable 0) lines-more r))
 
   pub line-next : (i : ℕ) {x y z : Text} {at m : ℕ} → Wrote 0 (lines-from s 0 i) x y at → Wrote at (row i) y z m → Wrote 0 (lines-from s 0 (i + 1)) x z m
   line-next i {x} {y} {z} {at} {m} v w = subst (λ (t : Text). Wrote 0 t x z m) (sym (lines-last i)) (both v w)

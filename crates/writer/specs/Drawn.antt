@@ -7,7 +7,7 @@ use Rattle.text.specs.Text.{Text, ascii, cond}
 use Rattle.table.specs.Layout.{Slices, literal-kind, row-at}
 use Rattle.table.specs.Usable.{the, text, tag, has-kind}
 use Rattle.table.specs.LongForm.{decimal, string-form, type-form, term-form, line}
-use Rattle.writer.specs.Writing.{Room}
+use Rattle.writer.specs.Writing.{Countable}
 use Rattle.usable.specs.Lent.{slices, lent, Stands, SpanIn}
 
 abbrev pub tag-form : Text → Text
@@ -59,4 +59,4 @@ abbrev pub Ready : Slices → ℕ → Type 0
 Ready s count = (i : ℕ) → i < count → WritableRow s i
 
 abbrev pub Short : Slices → ℕ → Type 0
-Short s count = (i : ℕ) → i < count → Room 0 (line s (row-at (s .rows) i))
+Short s count = (i : ℕ) → i < count → Countable 0 (line s (row-at (s .rows) i))

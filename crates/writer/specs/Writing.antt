@@ -10,7 +10,7 @@ use Rattle.writer.specs.declared.bytes.Rule.{Rule}
 use Rattle.writer.specs.declared.bytes.Rule.the-variants.{Plain, Iri, Literal}
 
 -- The place behind the text is a number that the code can hold.
-pub record Room (at : ℕ) (s : Text) : Type 0 where
+pub record Countable (at : ℕ) (s : Text) : Type 0 where
   pub fits : at + length s < 2 ^ 64
 
 -- The text s was written from the place `at` on over x, as far as it goes, which gave y; the place behind it is r.

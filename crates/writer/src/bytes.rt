@@ -4,7 +4,7 @@ ghost use mathlib.Core.Path.{_≡_};
 ghost use Prim.Native.Nat.{_+_, _<_};
 ghost use Rattle.iri.specs.Iri.{forbidden};
 ghost use Rattle.table.specs.LongForm.{digits, hex-digit, iri-byte, string-byte, escaped, iri-form, string-form};
-ghost use Rattle.writer.specs.Writing.{Room, Wrote, code-form, escape-of, byte-form};
+ghost use Rattle.writer.specs.Writing.{Countable, Wrote, code-form, escape-of, byte-form};
 use characters::bytes::is_iri;
 
 // How a text is escaped: not at all; "the characters IRIREF forbids as \u and four capital hex digits"; "only " \ LF CR escaped".
@@ -16,7 +16,7 @@ pub enum Rule {
 
 // Writes a byte; the place behind it.
 pub fn put(out: &mut [u8], at: usize, c: u8) -> usize
-    requires { ⌜ Room at (c ∷ []) ⌝ }
+    requires { ⌜ Countable at (c ∷ []) ⌝ }
     ensures { λ r. ⌜ Wrote at (c ∷ []) (now (out .entry)) (now (out .exit)) r ⌝ }
 {
     if at < out.len() {
@@ -27,7 +27,7 @@ pub fn put(out: &mut [u8], at: usize, c: u8) -> usize
 
 // Two bytes, and three.
 pub fn put_two(out: &mut [u8], at: usize, c: u8, d: u8) -> usize
-    requires { ⌜ Room at (c ∷ d ∷ []) ⌝ }
+    requires { ⌜ Countable at (c ∷ d ∷ []) ⌝ }
     ensures { λ r. ⌜ Wrote at (c ∷ d ∷ []) (now (out .entry)) (now (out .exit)) r ⌝ }
 {
     let next = put(out, at, c);
@@ -35,7 +35,7 @@ pub fn put_two(out: &mut [u8], at: usize, c: u8, d: u8) -> usize
 }
 
 pub fn put_three(out: &mut [u8], at: usize, c: u8, d: u8, e: u8) -> usize
-    requires { ⌜ Room at (c ∷ d ∷ e ∷ []) ⌝ }
+    requires { ⌜ Countable at (c ∷ d ∷ e ∷ []) ⌝ }
     ensures { λ r. ⌜ Wrote at (c ∷ d ∷ e ∷ []) (now (out .entry)) (now (out .exit)) r ⌝ }
 {
     let next = put_two(out, at, c, d);
@@ -65,7 +65,7 @@ fn hex(d: u8) -> u8
 
 // \u00 and two digits.
 fn put_code(out: &mut [u8], at: usize, c: u8) -> usize
-    requires { ⌜ Room at (code-form c) ⌝ }
+    requires { ⌜ Countable at (code-form c) ⌝ }
     ensures { λ r. ⌜ Wrote at (code-form c) (now (out .entry)) (now (out .exit)) r ⌝ }
 {
     let zeros = put_two(out, at, b'\\', b'u');
@@ -75,7 +75,7 @@ fn put_code(out: &mut [u8], at: usize, c: u8) -> usize
 
 // A byte of an IRI, and of a literal, with its escape.
 fn put_iri_byte(out: &mut [u8], at: usize, c: u8) -> usize
-    requires { ⌜ Room at (iri-byte c) ⌝ }
+    requires { ⌜ Countable at (iri-byte c) ⌝ }
     ensures { λ r. ⌜ Wrote at (iri-byte c) (now (out .entry)) (now (out .exit)) r ⌝ }
 {
     if is_forbidden(c) {
@@ -98,7 +98,7 @@ fn escape_of(c: u8) -> u8
 }
 
 fn put_string_byte(out: &mut [u8], at: usize, c: u8) -> usize
-    requires { ⌜ Room at (string-byte c) ⌝ }
+    requires { ⌜ Countable at (string-byte c) ⌝ }
     ensures { λ r. ⌜ Wrote at (string-byte c) (now (out .entry)) (now (out .exit)) r ⌝ }
 {
     let e = escape_of(c);
@@ -110,7 +110,7 @@ fn put_string_byte(out: &mut [u8], at: usize, c: u8) -> usize
 
 // A byte by the rule.
 fn put_byte(rule: Rule, out: &mut [u8], at: usize, c: u8) -> usize
-    requires { ⌜ Room at (byte-form rule c) ⌝ }
+    requires { ⌜ Countable at (byte-form rule c) ⌝ }
     ensures { λ r. ⌜ Wrote at (byte-form rule c) (now (out .entry)) (now (out .exit)) r ⌝ }
 {
     match rule {
@@ -122,7 +122,7 @@ fn put_byte(rule: Rule, out: &mut [u8], at: usize, c: u8) -> usize
 
 // Writes the text, escaped by the rule; the place behind it.
 pub fn put_escaped(rule: Rule, s: &[u8], out: &mut [u8], at: usize) -> usize
-    requires { ⌜ Room at (escaped (byte-form rule) (now s)) ⌝ }
+    requires { ⌜ Countable at (escaped (byte-form rule) (now s)) ⌝ }
     ensures { λ r. ⌜ Wrote at (escaped (byte-form rule) (now (s .entry))) (now (out .entry)) (now (out .exit)) r ⌝ }
 {
     let mut end = at;
@@ -136,7 +136,7 @@ pub fn put_escaped(rule: Rule, s: &[u8], out: &mut [u8], at: usize) -> usize
 
 // "IRIs in < >"
 pub fn put_iri(s: &[u8], out: &mut [u8], at: usize) -> usize
-    requires { ⌜ Room at (iri-form (now s)) ⌝ }
+    requires { ⌜ Countable at (iri-form (now s)) ⌝ }
     ensures { λ r. ⌜ Wrote at (iri-form (now (s .entry))) (now (out .entry)) (now (out .exit)) r ⌝ }
 {
     let open = put(out, at, b'<');
@@ -146,7 +146,7 @@ pub fn put_iri(s: &[u8], out: &mut [u8], at: usize) -> usize
 
 // "Literals in double quotes"
 pub fn put_string(s: &[u8], out: &mut [u8], at: usize) -> usize
-    requires { ⌜ Room at (string-form (now s)) ⌝ }
+    requires { ⌜ Countable at (string-form (now s)) ⌝ }
     ensures { λ r. ⌜ Wrote at (string-form (now (s .entry))) (now (out .entry)) (now (out .exit)) r ⌝ }
 {
     let open = put(out, at, b'"');
@@ -164,7 +164,7 @@ fn digit(d: usize) -> u8
 
 // Writes n in decimal digits, of which there are at most so many.
 pub fn put_digits(most: usize, n: usize, out: &mut [u8], at: usize) -> usize
-    requires { ⌜ Room at (digits most n) ⌝ }
+    requires { ⌜ Countable at (digits most n) ⌝ }
     ensures { λ r. ⌜ Wrote at (digits most n) (now (out .entry)) (now (out .exit)) r ⌝ }
 {
     if most == 0 {

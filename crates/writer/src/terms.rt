@@ -7,7 +7,7 @@ ghost use Rattle.dataset.specs.Terms.{xsd-string};
 ghost use Rattle.table.specs.Usable.{the, text, tag};
 ghost use Rattle.table.specs.LongForm.{type-form, term-form};
 ghost use Rattle.usable.specs.Lent.{Stands, SpanIn, lent};
-ghost use Rattle.writer.specs.Writing.{Room, Wrote};
+ghost use Rattle.writer.specs.Writing.{Countable, Wrote};
 ghost use Rattle.writer.specs.Drawn.{Writable, NoResource, blank-form, tag-form, literal-form};
 use crate::bytes::Rule;
 use crate::bytes::put;
@@ -30,7 +30,7 @@ fn is_xsd_string(s: &[u8]) -> bool
 
 // "^^ and the type unless xsd:string"
 fn put_type(datatype: &[u8], out: &mut [u8], at: usize) -> usize
-    requires { ⌜ Room at (type-form (now datatype)) ⌝ }
+    requires { ⌜ Countable at (type-form (now datatype)) ⌝ }
     ensures { λ r. ⌜ Wrote at (type-form (now (datatype .entry))) (now (out .entry)) (now (out .exit)) r ⌝ }
 {
     if is_xsd_string(datatype) {
@@ -42,7 +42,7 @@ fn put_type(datatype: &[u8], out: &mut [u8], at: usize) -> usize
 
 // "@ and the tag"
 fn put_tag(tag: &[u8], out: &mut [u8], at: usize) -> usize
-    requires { ⌜ Room at (tag-form (now tag)) ⌝ }
+    requires { ⌜ Countable at (tag-form (now tag)) ⌝ }
     ensures { λ r. ⌜ Wrote at (tag-form (now (tag .entry))) (now (out .entry)) (now (out .exit)) r ⌝ }
 {
     let next = put(out, at, b'@');
@@ -51,7 +51,7 @@ fn put_tag(tag: &[u8], out: &mut [u8], at: usize) -> usize
 
 // "Blanks as _:b and the blank number"
 fn put_blank(number: usize, out: &mut [u8], at: usize) -> usize
-    requires { ⌜ Room at (blank-form number) ⌝ }
+    requires { ⌜ Countable at (blank-form number) ⌝ }
     ensures { λ r. ⌜ Wrote at (blank-form number) (now (out .entry)) (now (out .exit)) r ⌝ }
 {
     let next = put_three(out, at, b'_', b':', b'b');
@@ -79,7 +79,7 @@ fn tag_of<'a>(terms: &[u32], store: &'a [u8], n: usize) -> &'a [u8]
 
 // Writes a literal: its text, and its datatype or its tag.
 fn put_literal(terms: &[u32], store: &[u8], n: usize, out: &mut [u8], at: usize) -> usize
-    requires { ⌜ Writable (lent (now terms) 0 (now store) 0) n × (NoResource (lent (now terms) 0 (now store) 0) n × Room at (literal-form (lent (now terms) 0 (now store) 0) n)) ⌝ }
+    requires { ⌜ Writable (lent (now terms) 0 (now store) 0) n × (NoResource (lent (now terms) 0 (now store) 0) n × Countable at (literal-form (lent (now terms) 0 (now store) 0) n)) ⌝ }
     ensures { λ r. ⌜ Wrote at (literal-form (lent (now (terms .entry)) 0 (now (store .entry)) 0) n) (now (out .entry)) (now (out .exit)) r ⌝ }
 {
     let end = put_string(text_of(terms, store, n), out, at);
@@ -92,7 +92,7 @@ fn put_literal(terms: &[u32], store: &[u8], n: usize, out: &mut [u8], at: usize)
 
 // Writes the term n; the place behind it.
 pub fn put_term(terms: &[u32], store: &[u8], n: usize, out: &mut [u8], at: usize) -> usize
-    requires { ⌜ Writable (lent (now terms) 0 (now store) 0) n × Room at (term-form (lent (now terms) 0 (now store) 0) n) ⌝ }
+    requires { ⌜ Writable (lent (now terms) 0 (now store) 0) n × Countable at (term-form (lent (now terms) 0 (now store) 0) n) ⌝ }
     ensures { λ r. ⌜ Wrote at (term-form (lent (now (terms .entry)) 0 (now (store .entry)) 0) n) (now (out .entry)) (now (out .exit)) r ⌝ }
 {
     let kind = word(terms, n, 0);

@@ -10,7 +10,7 @@ use Rattle.text.specs.Text.{Text}
 use Rattle.text.proofs.Compare.{by}
 use Rattle.text.proofs.Over.{over-at-length}
 use Rattle.limits.specs.Limits.{work-size}
-use Rattle.scope.specs.Code.{in-force}
+use Rattle.scope.specs.Code.{environment-in}
 use Rattle.scope.proofs.Directives.{in-force-words, in-force-front}
 use Rattle.dataset.specs.Terms.{Term, iri, blank, literal, tagged}
 use Rattle.table.specs.Layout.{Row, row-words, entry-words}
@@ -18,7 +18,7 @@ use Rattle.table.specs.Tables.{is-blank, term-bytes, store-size}
 use Rattle.table.proofs.Store.{last-size}
 use Rattle.terms.specs.declared.Counts.{Counts}
 use Rattle.terms.specs.declared.Sort.{Sort}
-use Rattle.terms.specs.Keeps.{blank-count, Means, Room, Added, KeepsRows, RowAdded}
+use Rattle.terms.specs.Keeps.{blank-count, Means, TermFits, Added, KeepsRows, RowAdded}
 use Rattle.terms.specs.Code.{next-entry, next-counts}
 use Rattle.terms.proofs.Slices.{past-over-at}
 use Rattle.terms.proofs.Growth.{five-words}
@@ -26,11 +26,11 @@ use Rattle.index.specs.Holds.{Holds}
 use Rattle.machine.specs.Memory.{Memory, new-term, row}
 use Rattle.machine.specs.Demand.{Fits}
 use Rattle.state.specs.Words.{rows-word, terms-word, used-word, blanks-word, node-word, graph-word, counts-of}
-use Rattle.state.specs.Represents.{Tables, tables, counted, room-in, Represents}
+use Rattle.state.specs.Represents.{Tables, lent-tables, counted, room-in, Represents}
 use Rattle.state.proofs.Counted.{counted-room}
 use Rattle.writes.specs.Steps.{CountsSet}
 
--- ---- Room
+-- ---- Room for a term
 
 room-counted : (k n : ℕ) → k ≤ n → k ≤ 4294967294 → k ≤ counted n
 room-counted k n h l = by (leb n 4294967294) (λ e. rw e h) (λ e. rw e l)
@@ -54,8 +54,8 @@ means-kind ts sort x g (blank b) M = omega (arith, M .0)
 means-kind ts sort x g (literal s d) M = omega (arith, M .0)
 means-kind ts sort x g (tagged s d) M = omega (arith, M .0)
 
-pub term-room : (old : Tables) (m : Memory) (work : Text) (rows terms : List ℕ) (store : Text) (st : List ℕ) (sort : Sort) (x g : Text) (u : Term) → Represents old m work (tables rows terms store) st
-    → Fits (room-in (tables rows terms store)) (new-term u m .1) → Means (m .terms) sort x g u → sort .datatype < 4294967296 → Room terms store (counts-of st) sort x g
+pub term-room : (old : Tables) (m : Memory) (work : Text) (rows terms : List ℕ) (store : Text) (st : List ℕ) (sort : Sort) (x g : Text) (u : Term) → Represents old m work (lent-tables rows terms store) st
+    → Fits (room-in (lent-tables rows terms store)) (new-term u m .1) → Means (m .terms) sort x g u → sort .datatype < 4294967296 → TermFits terms store (counts-of st) sort x g
 term-room old m work rows terms store st sort x g u R F M d =
     let K = R .terms-held .keeps in
     let bytes : getD st used-word 0 + (length x + length g) ≤ counted (length store) = omega (arith, F .store, last-size (m .terms) u, means-size (m .terms) sort x g u M, K .used) in
@@ -74,15 +74,15 @@ term-room old m work rows terms store st sort x g u R F M d =
 
 -- ---- The environment
 
-environment-kept : (work work' : Text) (st st' : List ℕ) → take work-size work' ≡ take work-size work → ((k : ℕ) → k < 66 → getD st' k 0 ≡ getD st k 0) → in-force work' st' ≡ in-force work st
+environment-kept : (work work' : Text) (st st' : List ℕ) → take work-size work' ≡ take work-size work → ((k : ℕ) → k < 66 → getD st' k 0 ≡ getD st k 0) → environment-in work' st' ≡ environment-in work st
 environment-kept work work' st st' e same = in-force-front work work' st' e ∙ in-force-words work st st' same
 
 -- ---- A term more
 
 module _ (old : Tables) (m : Memory) (work work' : Text) (rows terms terms' : List ℕ) (store store' : Text) (st st' : List ℕ) (sort : Sort) (x g : Text) (u : Term) where
-  pub held-term : Represents old m work (tables rows terms store) st → Room terms store (counts-of st) sort x g → Added terms terms' store store' (counts-of st) (counts-of st') sort x g
+  pub held-term : Represents old m work (lent-tables rows terms store) st → TermFits terms store (counts-of st) sort x g → Added terms terms' store store' (counts-of st) (counts-of st') sort x g
       → Holds (m .terms ++ u ∷ []) terms' store' (drop work-size work') (counts-of st') → take work-size work' ≡ take work-size work → length work' ≡ length work
-      → CountsSet st st' (counts-of st') → Represents old (new-term u m .1) work' (tables rows terms' store') st'
+      → CountsSet st st' (counts-of st') → Represents old (new-term u m .1) work' (lent-tables rows terms' store') st'
   unfolding next-counts
   held-term R P A H front long S =
       let e = entry-words (next-entry (counts-of st) sort (length x) (length g)) in
@@ -114,16 +114,16 @@ module _ (old : Tables) (m : Memory) (work work' : Text) (rows terms terms' : Li
 
 -- ---- A row more
 
-pub row-room : (old : Tables) (m : Memory) (work : Text) (rows terms : List ℕ) (store : Text) (st : List ℕ) (s p o at : ℕ) → Represents old m work (tables rows terms store) st
-    → Fits (room-in (tables rows terms store)) (row s p o at m .1) → (5 * getD st rows-word 0 + 5 ≤ length rows) × (getD st rows-word 0 < 4294967294)
+pub row-room : (old : Tables) (m : Memory) (work : Text) (rows terms : List ℕ) (store : Text) (st : List ℕ) (s p o at : ℕ) → Represents old m work (lent-tables rows terms store) st
+    → Fits (room-in (lent-tables rows terms store)) (row s p o at m .1) → (5 * getD st rows-word 0 + 5 ≤ length rows) × (getD st rows-word 0 < 4294967294)
 row-room old m work rows terms store st s p o at R F =
     let r : Row = record { graph = m .graph; subject = s; predicate = p; object = o; position = at } in
     let count : getD st rows-word 0 + 1 ≤ counted (length rows / 5) = omega (arith, F .rows, length-append (m .rows) (r ∷ []), R .rows-held .size) in
     (omega (arith, count, counted-room (length rows / 5) .0), omega (arith, count, counted-room (length rows / 5) .1))
 
-pub held-row : (old : Tables) (m : Memory) (work : Text) (rows rows' terms : List ℕ) (store : Text) (st : List ℕ) (s p o at : ℕ) → Represents old m work (tables rows terms store) st
+pub held-row : (old : Tables) (m : Memory) (work : Text) (rows rows' terms : List ℕ) (store : Text) (st : List ℕ) (s p o at : ℕ) → Represents old m work (lent-tables rows terms store) st
     → 5 * getD st rows-word 0 + 5 ≤ length rows → getD st rows-word 0 < 4294967294 → RowAdded rows rows' (getD st rows-word 0) (getD st graph-word 0 ∷ s ∷ p ∷ o ∷ at ∷ [])
-    → Represents old (row s p o at m .1) work (tables rows' terms store) (set st rows-word (getD st rows-word 0 + 1))
+    → Represents old (row s p o at m .1) work (lent-tables rows' terms store) (set st rows-word (getD st rows-word 0 + 1))
 unfolding row-words
 held-row old m work rows rows' terms store st s p o at R room small A =
     let r : Row = record { graph = m .graph; subject = s; predicate = p; object = o; position = at } in

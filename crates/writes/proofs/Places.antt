@@ -10,7 +10,7 @@ use Rattle.machine.specs.Frame.{Place, top, subject-before, object-of, element-
 use Rattle.machine.specs.Rules.{hold, new-cell, end-list}
 use Rattle.machine.proofs.Extends.{adds-term, adds-row}
 use Rattle.state.specs.declared.Spot.{Spot}
-use Rattle.state.specs.Represents.{Tables, tables}
+use Rattle.state.specs.Represents.{Tables, lent-tables}
 use Rattle.state.specs.Writes.{place-of, SpotFits}
 use Rattle.writes.specs.Ready.{Ready, Writes, put-at}
 use Rattle.writes.specs.Steps.{Number, TermReady, TermWrites, FreshReady, FreshWrites, RowReady, RowWrites, NumberWrites, HoldReady, PutReady}
@@ -42,7 +42,7 @@ grows-hold (element-of c) n at = grows-bind (term (iri rdf-first)) (λ f. row c 
 
 module _ (x y n at : ℕ) (work : Text) (rows terms : List ℕ) (store : Text) (st : List ℕ) where
   abbrev t : Tables
-  t = tables rows terms store
+  t = lent-tables rows terms store
 
   pub held-nowhere : x ≡ 0 → Writes (hold (place-of x y) n at) done work work t t st st
   held-nowhere e = rw (place-top x y e) (writes-return done work t st)
@@ -68,9 +68,9 @@ module _ (x y n at : ℕ) (work : Text) (rows terms : List ℕ) (store : Text) (
           position = r .position;
         }
 
-        pub element-held : (rows' st″ : List ℕ) → RowWrites x f n at rows rows' st' st″ → Writes (hold (place-of x y) n at) done work work' t (tables rows' terms' store') st st″
+        pub element-held : (rows' st″ : List ℕ) → RowWrites x f n at rows rows' st' st″ → Writes (hold (place-of x y) n at) done work work' t (lent-tables rows' terms' store') st st″
         element-held rows' st″ Z =
-            subst (λ (p : Place). Writes (hold p n at) done work work' t (tables rows' terms' store') st st″) (sym (place-element x y h e))
+            subst (λ (p : Place). Writes (hold p n at) done work work' t (lent-tables rows' terms' store') st st″) (sym (place-element x y h e))
             (writes-bind (term (iri rdf-first)) (λ k. row x k n at) (W .1 rows) (Z work' terms' store'))
 
     module _ (k : 0 < y) where
@@ -86,8 +86,8 @@ module _ (x y n at : ℕ) (work : Text) (rows terms : List ℕ) (store : Text) (
         position = r .position;
       }
 
-      pub object-held : (rows' st' : List ℕ) → RowWrites x y n at rows rows' st st' → Writes (hold (place-of x y) n at) done work work t (tables rows' terms store) st st'
-      object-held rows' st' Z = subst (λ (p : Place). Writes (hold p n at) done work work t (tables rows' terms store) st st') (sym (place-object x y h k)) (Z work terms store)
+      pub object-held : (rows' st' : List ℕ) → RowWrites x y n at rows rows' st st' → Writes (hold (place-of x y) n at) done work work t (lent-tables rows' terms store) st st'
+      object-held rows' st' Z = subst (λ (p : Place). Writes (hold p n at) done work work t (lent-tables rows' terms store) st st') (sym (place-object x y h k)) (Z work terms store)
 
 -- ---- A node, and the row that holds it
 
@@ -118,7 +118,7 @@ grows-put p at w g = grows-bind w (λ n. hold p n at >>= (λ d. return n)) g (λ
 
 module _ (s : Spot) (work : Text) (rows terms : List ℕ) (store : Text) (st : List ℕ) where
   abbrev tab : Tables
-  tab = tables rows terms store
+  tab = lent-tables rows terms store
 
   abbrev place : Place
   place = place-of (s .x) (s .y)
@@ -137,10 +137,10 @@ module _ (s : Spot) (work : Text) (rows terms : List ℕ) (store : Text) (st : L
     first-fresh = cell-fresh (put-first cell-node (s .x) (s .y) (s .opened) first-put)
 
     module _ (c : ℕ) (terms' st' : List ℕ) (W : FreshWrites c terms terms' st st') where
-      pub first-hold : HoldReady (s .x) (s .y) c (s .opened) work (tables rows terms' store) st'
+      pub first-hold : HoldReady (s .x) (s .y) c (s .opened) work (lent-tables rows terms' store) st'
       first-hold = put-hold cell-node (s .x) (s .y) (s .opened) first-put (W .0) (W .1 work rows store (cell (s .at)) (refl, refl))
 
-      pub first-writes : (work″ : Text) (t″ : Tables) (st″ : List ℕ) → Writes (hold place c (s .opened)) done work work″ (tables rows terms' store) t″ st' st″
+      pub first-writes : (work″ : Text) (t″ : Tables) (st″ : List ℕ) → Writes (hold place c (s .opened)) done work work″ (lent-tables rows terms' store) t″ st' st″
           → NumberWrites (new-cell place (s .opened) no-cell (s .at)) c work work″ tab t″ st st″
       first-writes work″ t″ st″ Z = put-writes cell-node (s .x) (s .y) (s .opened) first-put (W .0) (W .1 work rows store (cell (s .at)) (refl, refl)) Z
 
@@ -159,7 +159,7 @@ module _ (s : Spot) (work : Text) (rows terms : List ℕ) (store : Text) (st : L
     later-fresh = cell-fresh (ready-first cell-node then-tie r (λ c. grows-bind (term (iri rdf-rest)) (tie-row c) (λ m. adds-term (iri rdf-rest) .extends m) (grows-tie c)))
 
     module _ (c : ℕ) (terms₁ st₁ : List ℕ) (W : FreshWrites c terms terms₁ st st₁) where
-      after-cell : Ready (then-tie c) work (tables rows terms₁ store) st₁
+      after-cell : Ready (then-tie c) work (lent-tables rows terms₁ store) st₁
       after-cell = ready-next cell-node then-tie r (W .1 work rows store (cell (s .at)) (refl, refl))
 
       pub rest-ready : TermReady (term (iri rdf-rest)) work terms₁ store st₁
@@ -179,7 +179,7 @@ module _ (s : Spot) (work : Text) (rows terms : List ℕ) (store : Text) (st : L
         }
 
         pub later-writes : (rows₃ st₃ : List ℕ) → RowWrites (s .last) rest c (s .at) rows rows₃ st₂ st₃
-            → NumberWrites (new-cell place (s .opened) (cells 0 (s .last)) (s .at)) c work work₂ tab (tables rows₃ terms₂ store₂) st st₃
+            → NumberWrites (new-cell place (s .opened) (cells 0 (s .last)) (s .at)) c work work₂ tab (lent-tables rows₃ terms₂ store₂) st st₃
         later-writes rows₃ st₃ Y = (
           W .0,
           writes-bind cell-node then-tie (W .1 work rows store (cell (s .at)) (refl, refl))
@@ -195,10 +195,10 @@ module _ (s : Spot) (work : Text) (rows terms : List ℕ) (store : Text) (st : L
     empty-nil = (rows, put-first (term (iri rdf-nil)) (s .x) (s .y) (s .opened) empty-put)
 
     module _ (n : ℕ) (work' : Text) (terms' : List ℕ) (store' : Text) (st' : List ℕ) (W : TermWrites (term (iri rdf-nil)) n work work' terms terms' store store' st st') where
-      pub empty-hold : HoldReady (s .x) (s .y) n (s .opened) work' (tables rows terms' store') st'
+      pub empty-hold : HoldReady (s .x) (s .y) n (s .opened) work' (lent-tables rows terms' store') st'
       empty-hold = put-hold (term (iri rdf-nil)) (s .x) (s .y) (s .opened) empty-put (W .0) (W .1 rows)
 
-      pub empty-writes : (work″ : Text) (t″ : Tables) (st″ : List ℕ) → Writes (hold place n (s .opened)) done work' work″ (tables rows terms' store') t″ st' st″
+      pub empty-writes : (work″ : Text) (t″ : Tables) (st″ : List ℕ) → Writes (hold place n (s .opened)) done work' work″ (lent-tables rows terms' store') t″ st' st″
           → NumberWrites (end-list place (s .opened) no-cell (s .at)) n work work″ tab t″ st st″
       empty-writes work″ t″ st″ Z = put-writes (term (iri rdf-nil)) (s .x) (s .y) (s .opened) empty-put (W .0) (W .1 rows) Z
 
@@ -220,7 +220,7 @@ module _ (s : Spot) (work : Text) (rows terms : List ℕ) (store : Text) (st : L
     end-rest = (rows, ready-first (term (iri rdf-rest)) then-end r (λ rest. grows-bind (term (iri rdf-nil)) (end-row rest) (λ m. adds-term (iri rdf-nil) .extends m) (grows-end rest)))
 
     module _ (rest : ℕ) (work₁ : Text) (terms₁ : List ℕ) (store₁ : Text) (st₁ : List ℕ) (W : TermWrites (term (iri rdf-rest)) rest work work₁ terms terms₁ store store₁ st st₁) where
-      after-rest : Ready (then-end rest) work₁ (tables rows terms₁ store₁) st₁
+      after-rest : Ready (then-end rest) work₁ (lent-tables rows terms₁ store₁) st₁
       after-rest = ready-next (term (iri rdf-rest)) then-end r (W .1 rows)
 
       pub end-nil : TermReady (term (iri rdf-nil)) work₁ terms₁ store₁ st₁
@@ -240,7 +240,7 @@ module _ (s : Spot) (work : Text) (rows terms : List ℕ) (store : Text) (st : L
         }
 
         pub end-writes : (rows₃ st₃ : List ℕ) → RowWrites (s .last) rest nil (s .at) rows rows₃ st₂ st₃
-            → Writes (end-list place (s .opened) (cells 0 (s .last)) (s .at)) 0 work work₂ tab (tables rows₃ terms₂ store₂) st st₃
+            → Writes (end-list place (s .opened) (cells 0 (s .last)) (s .at)) 0 work work₂ tab (lent-tables rows₃ terms₂ store₂) st st₃
         end-writes rows₃ st₃ Y =
             writes-bind (term (iri rdf-rest)) then-end (W .1 rows)
             (writes-bind (term (iri rdf-nil)) (end-row rest) (X .1 rows) (writes-then-return (row (s .last) rest nil (s .at)) no-head (Y work₂ terms₂ store₂)))

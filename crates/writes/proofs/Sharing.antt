@@ -17,7 +17,7 @@ use Rattle.table.specs.Tables.{number, or-zero}
 use Rattle.table.proofs.Finding.{number-last, number-within, zero-none, positive-some}
 use Rattle.terms.specs.declared.Counts.{Counts}
 use Rattle.terms.specs.declared.Sort.{Sort}
-use Rattle.terms.specs.Keeps.{Typed, Means, Room, Added, BlankAdded, blank-sort}
+use Rattle.terms.specs.Keeps.{Typed, Means, TermFits, Added, BlankAdded, blank-sort}
 use Rattle.terms.specs.Code.{next-entry}
 use Rattle.text.proofs.Over.{over-at-length}
 use Rattle.table.specs.Layout.{entry-words}
@@ -28,7 +28,7 @@ use Rattle.machine.specs.Memory.{Memory, term, term-by, new-term, typed}
 use Rattle.machine.specs.Demand.{Fits}
 use Rattle.machine.proofs.Extends.{adds-term}
 use Rattle.state.specs.Words.{terms-word, used-word, blanks-word, counts-of}
-use Rattle.state.specs.Represents.{Tables, tables, counted, room-in, Represents}
+use Rattle.state.specs.Represents.{Tables, lent-tables, counted, room-in, Represents}
 use Rattle.state.proofs.Counted.{counted-room}
 use Rattle.writes.specs.Steps.{CountsSet, Asks, ShareReady, Number, Shares, TermAdded, TermReady, TermWrites, FreshReady, FreshWrites}
 use Rattle.writes.proofs.Compose.{ready-first, kept-both, kept-same}
@@ -51,7 +51,7 @@ ready-searchable sort x g work terms store st S = searchable (S .ready .memory .
 
 module _ (sort : Sort) (x g : Text) (r : ℕ) (work : Text) (rows terms : List ℕ) (store : Text) (st : List ℕ) (F : Finds terms store (drop work-size work) (counts-of st) sort x g r) where
   abbrev t : Tables
-  t = tables rows terms store
+  t = lent-tables rows terms store
 
   found-is : (old : Tables) (m : Memory) (u : Term) → Represents old m work t st → Asks sort x g m u → r ≡ or-zero (number u (m .terms))
   found-is old m u R a = F (m .terms) u (R .terms-held) (a .means) (a .named)
@@ -84,11 +84,11 @@ number-found sort x g r work terms store st F S h =
 
 -- Room for the term that was not found.
 pub room-absent : (sort : Sort) (x g : Text) (r : ℕ) (work : Text) (terms : List ℕ) (store : Text) (st : List ℕ) → Finds terms store (drop work-size work) (counts-of st) sort x g r
-    → (S : ShareReady sort x g work terms store st) → r ≡ 0 → Room terms store (counts-of st) sort x g
+    → (S : ShareReady sort x g work terms store st) → r ≡ 0 → TermFits terms store (counts-of st) sort x g
 room-absent sort x g r work terms store st F S h =
     let m = S .ready .memory in
     let absent = found-none sort x g r work (S .rows) terms store st F h (S .ready .old) m (S .asked) (S .ready .represents) (S .asks) in
-    let fits : Fits (room-in (tables (S .rows) terms store)) (new-term (S .asked) m .1) = rw absent at (S .ready .fits) in
+    let fits : Fits (room-in (lent-tables (S .rows) terms store)) (new-term (S .asked) m .1) = rw absent at (S .ready .fits) in
     term-room (S .ready .old) m work (S .rows) terms store st sort x g (S .asked) (S .ready .represents) fits (S .asks .means) (S .datatype)
 
 -- ---- It was not found, and added
@@ -98,11 +98,11 @@ added-lengths sort x g terms terms' store store' c c' A =
     (ap length (A .words) ∙ over-at-length (5 * c .terms) (entry-words (next-entry c sort (length x) (length g))) terms, ap length (A .bytes) ∙ over-at-length (c .used) (x ++ g) store)
 
 module _ (sort : Sort) (x g : Text) (slot r n : ℕ) (work work' : Text) (rows terms terms' : List ℕ) (store store' : Text) (st st' : List ℕ) where
-  pub shares-added : Finds terms store (drop work-size work) (counts-of st) sort x g r → r ≡ 0 → Vacant (drop work-size work) x g (type-of sort) slot → Room terms store (counts-of st) sort x g
+  pub shares-added : Finds terms store (drop work-size work) (counts-of st) sort x g r → r ≡ 0 → Vacant (drop work-size work) x g (type-of sort) slot → TermFits terms store (counts-of st) sort x g
       → TermAdded sort x g slot work work' terms terms' store store' st st' → n ≡ getD st terms-word 0 + 1
-      → Shares sort x g n work work' (tables rows terms store) (tables rows terms' store') st st'
+      → Shares sort x g n work work' (lent-tables rows terms store) (lent-tables rows terms' store') st st'
   shares-added F z e P A en =
-      let t = tables rows terms store in
+      let t = lent-tables rows terms store in
       let absent : (old : Tables) (m : Memory) (u : Term) → Represents old m work t st → Asks sort x g m u → number u (m .terms) ≡ none = found-none sort x g r work rows terms store st F z in
       record {
         represents = λ old m u R a.
@@ -119,7 +119,7 @@ module _ (sort : Sort) (x g : Text) (slot r n : ℕ) (work work' : Text) (rows t
         };
       }
 
-  pub number-added : Room terms store (counts-of st) sort x g → n ≡ getD st terms-word 0 + 1 → Number n
+  pub number-added : TermFits terms store (counts-of st) sort x g → n ≡ getD st terms-word 0 + 1 → Number n
   number-added P en = (omega arith, omega (arith, P .small .terms))
 
 -- ---- Terms of each kind
@@ -130,7 +130,7 @@ module _ (sort : Sort) (x g : Text) (u : Term) (asks : (m : Memory) → Asks sor
   share-ready work terms store st (rows, r) = record { rows = rows; asked = u; ready = r; asks = asks (r .memory); datatype = d }
 
   pub share-writes : (r : ℕ) (work work' : Text) (terms terms' : List ℕ) (store store' : Text) (st st' : List ℕ)
-      → Number r × ((rows : List ℕ) → Shares sort x g r work work' (tables rows terms store) (tables rows terms' store') st st')
+      → Number r × ((rows : List ℕ) → Shares sort x g r work work' (lent-tables rows terms store) (lent-tables rows terms' store') st st')
       → TermWrites (term u) r work work' terms terms' store store' st st'
   share-writes r work work' terms terms' store store' st st' (n, S) = (
     n,
@@ -178,7 +178,7 @@ module _ (s x : Text) (d : ℕ) (work work₁ : Text) (terms terms₁ : List ℕ
   datatype-ready (rows, r) = (rows, ready-first (term (iri x)) (λ n. term (literal s x)) r (λ n m. adds-term (literal s x) .extends m))
 
   module _ (W : TermWrites (term (iri x)) d work work₁ terms terms₁ store store₁ st st₁) where
-    asked-after : (rows : List ℕ) (old : Tables) (m : Memory) → Represents old m work (tables rows terms store) st → Asks (literal-sort d) s [] (term (iri x) m .1) (literal s x)
+    asked-after : (rows : List ℕ) (old : Tables) (m : Memory) → Represents old m work (lent-tables rows terms store) st → Asks (literal-sort d) s [] (term (iri x) m .1) (literal s x)
     asked-after rows old m R = literal-asked s x d (term (iri x) m .1) (term-numbered (iri x) m d (W .1 rows .result old m R))
 
     pub literal-ready : TermReady (typed s x) work terms store st → ShareReady (literal-sort d) s [] work₁ terms₁ store₁ st₁
@@ -196,7 +196,7 @@ module _ (s x : Text) (d : ℕ) (work work₁ : Text) (terms terms₁ : List ℕ
     }
 
     pub literal-writes : (r : ℕ) (work₂ : Text) (terms₂ : List ℕ) (store₂ : Text) (st₂ : List ℕ)
-        → Number r × ((rows : List ℕ) → Shares (literal-sort d) s [] r work₁ work₂ (tables rows terms₁ store₁) (tables rows terms₂ store₂) st₁ st₂)
+        → Number r × ((rows : List ℕ) → Shares (literal-sort d) s [] r work₁ work₂ (lent-tables rows terms₁ store₁) (lent-tables rows terms₂ store₂) st₁ st₂)
         → TermWrites (typed s x) r work work₂ terms terms₂ store store₂ st st₂
     literal-writes r work₂ terms₂ store₂ st₂ (n, S) = (
       n,
@@ -209,7 +209,7 @@ module _ (s x : Text) (d : ℕ) (work work₁ : Text) (terms terms₁ : List ℕ
 
 -- ---- Blank nodes without a label
 
-pub fresh-room : (terms st : List ℕ) (f : FreshReady terms st) → Room terms (f .store) (counts-of st) blank-sort [] []
+pub fresh-room : (terms st : List ℕ) (f : FreshReady terms st) → TermFits terms (f .store) (counts-of st) blank-sort [] []
 unfolding Means
 fresh-room terms st f =
     term-room (f .ready .old) (f .ready .memory) (f .work) (f .rows) terms (f .store) st blank-sort [] [] (blank (f .node)) (f .ready .represents) (f .ready .fits) (refl, (f .unlabelled .0, refl)) (omega arith)

@@ -17,7 +17,7 @@ use Rattle.index.specs.Tree.{Links}
 use Rattle.machine.specs.Memory.{Memory, Write, done, term, new-term, row}
 use Rattle.state.specs.Words.{rows-word, terms-word, node-word, counts-of}
 use Rattle.machine.specs.Rules.{hold}
-use Rattle.state.specs.Represents.{Tables, tables, Represents}
+use Rattle.state.specs.Represents.{Tables, lent-tables, Represents}
 use Rattle.state.specs.Writes.{place-of}
 use Rattle.writes.specs.Ready.{Ready, Kept, Writes, put-at}
 
@@ -45,7 +45,7 @@ pub record Asks (sort : Sort) (x g : Text) (m : Memory) (u : Term) : Type 0 wher
 pub record ShareReady (sort : Sort) (x g work : Text) (terms : List ℕ) (store : Text) (st : List ℕ) : Type 0 where
   pub rows : List ℕ
   pub asked : Term
-  pub ready : Ready (term asked) work (tables rows terms store) st
+  pub ready : Ready (term asked) work (lent-tables rows terms store) st
   pub asks : Asks sort x g (ready .memory) asked
   pub datatype : sort .datatype < 4294967296
 
@@ -69,10 +69,10 @@ pub record TermAdded (sort : Sort) (x g : Text) (slot : ℕ) (work work' : Text)
 
 -- Whatever the rows hold.
 abbrev pub TermReady : Write ℕ → Text → List ℕ → Text → List ℕ → Type 0
-TermReady w work terms store st = (rows : List ℕ) × Ready w work (tables rows terms store) st
+TermReady w work terms store st = (rows : List ℕ) × Ready w work (lent-tables rows terms store) st
 
 abbrev pub TermWrites : Write ℕ → ℕ → Text → Text → List ℕ → List ℕ → Text → Text → List ℕ → List ℕ → Type 0
-TermWrites w r work work' terms terms' store store' st st' = Number r × ((rows : List ℕ) → Writes w r work work' (tables rows terms store) (tables rows terms' store') st st')
+TermWrites w r work work' terms terms' store store' st st' = Number r × ((rows : List ℕ) → Writes w r work work' (lent-tables rows terms store) (lent-tables rows terms' store') st st')
 
 -- ---- Blank nodes without a label
 
@@ -85,12 +85,12 @@ pub record FreshReady (terms st : List ℕ) : Type 0 where
   pub store : Text
   pub node : Blank
   pub unlabelled : Unlabelled node
-  pub ready : Ready (new-term (blank node)) work (tables rows terms store) st
+  pub ready : Ready (new-term (blank node)) work (lent-tables rows terms store) st
 
 abbrev pub FreshWrites : ℕ → List ℕ → List ℕ → List ℕ → List ℕ → Type 0
 FreshWrites r terms terms' st st' =
     Number r
-    × ((work : Text) (rows : List ℕ) (store : Text) (b : Blank) → Unlabelled b → Writes (new-term (blank b)) r work work (tables rows terms store) (tables rows terms' store) st st')
+    × ((work : Text) (rows : List ℕ) (store : Text) (b : Blank) → Unlabelled b → Writes (new-term (blank b)) r work work (lent-tables rows terms store) (lent-tables rows terms' store) st st')
 
 -- ---- Rows
 
@@ -98,14 +98,14 @@ pub record RowReady (s p o at : ℕ) (rows st : List ℕ) : Type 0 where
   pub work : Text
   pub terms : List ℕ
   pub store : Text
-  pub ready : Ready (row s p o at) work (tables rows terms store) st
+  pub ready : Ready (row s p o at) work (lent-tables rows terms store) st
   pub subject : s < 4294967296
   pub predicate : p < 4294967296
   pub object : o < 4294967296
   pub position : at < 4294967296
 
 abbrev pub RowWrites : ℕ → ℕ → ℕ → ℕ → List ℕ → List ℕ → List ℕ → List ℕ → Type 0
-RowWrites s p o at rows rows' st st' = (work : Text) (terms : List ℕ) (store : Text) → Writes (row s p o at) done work work (tables rows terms store) (tables rows' terms store) st st'
+RowWrites s p o at rows rows' st st' = (work : Text) (terms : List ℕ) (store : Text) → Writes (row s p o at) done work work (lent-tables rows terms store) (lent-tables rows' terms store) st st'
 
 -- ---- A node at its place
 

@@ -1,4 +1,4 @@
-// What one token writes into the tables, once it is known that there is room: the place of its node, the node, and the
+// What one token writes into the lent tables, once it is known that there is room: the place of its node, the node, and the
 // row that holds it.
 ghost use mathlib.Core.Path.{_≡_};
 ghost use mathlib.Core.Bool.{false};
@@ -9,13 +9,13 @@ ghost use Rattle.scope.specs.Code.{words-size, Usable};
 ghost use Rattle.form.specs.Form.{undo, bad, joined};
 ghost use Rattle.dataset.specs.Terms.{iri, blank, label, tagged, rdf-first, rdf-rest, rdf-nil};
 ghost use Rattle.limits.specs.Limits.{work-size};
-ghost use Rattle.terms.specs.Keeps.{Room};
+ghost use Rattle.terms.specs.Keeps.{TermFits};
 ghost use Rattle.index.specs.Tree.{InSlots};
 ghost use Rattle.machine.specs.Memory.{done, term, typed};
 ghost use Rattle.machine.specs.Frame.{no-cell, cells};
 ghost use Rattle.machine.specs.Rules.{hold, new-cell, end-list};
 ghost use Rattle.state.specs.Words.{terms-word, counts-of, Stays};
-ghost use Rattle.state.specs.Represents.{tables, Wrote};
+ghost use Rattle.state.specs.Represents.{lent-tables, Wrote};
 ghost use Rattle.state.specs.Writes.{place-of, cells-of, node-write, placed, opened-at, closed, SpotFits, NodeFits};
 ghost use Rattle.writes.specs.Ready.{Ready, Writes, put-at};
 ghost use Rattle.writes.specs.Steps.{CountsSet, Number, Part, ShareReady, Shares, TermAdded, TermReady, TermWrites, FreshReady, FreshWrites, RowReady, RowWrites, NumberWrites, HoldReady, PutReady};
@@ -51,7 +51,7 @@ fn add(
     back: &[u8],
     tag: &[u8],
 ) -> usize
-    requires { ⌜ Room (now terms) (now store) (counts-of (now st)) sort (joined (take (end - start) (drop start (now work))) form (now back)) (now tag) × ((Part start end form (now back) × Usable (now work) (now st)) × InSlots (drop work-size (now work)) slot) ⌝ }
+    requires { ⌜ TermFits (now terms) (now store) (counts-of (now st)) sort (joined (take (end - start) (drop start (now work))) form (now back)) (now tag) × ((Part start end form (now back) × Usable (now work) (now st)) × InSlots (drop work-size (now work)) slot) ⌝ }
     ensures { λ r. ⌜ (r ≡ getD (now (st .entry)) terms-word 0 + 1) × TermAdded sort (joined (take (end - start) (drop start (now (work .entry)))) form (now (back .entry))) (now (tag .entry)) slot (now (work .entry)) (now (work .exit)) (now (terms .entry)) (now (terms .exit)) (now (store .entry)) (now (store .exit)) (now (st .entry)) (now (st .exit)) ⌝ }
 {
     let c = state::counts(st);
@@ -76,7 +76,7 @@ fn share(
     tag: &[u8],
 ) -> usize
     requires { ⌜ ShareReady sort (joined (take (end - start) (drop start (now work))) form (now back)) (now tag) (now work) (now terms) (now store) (now st) × Part start end form (now back) ⌝ }
-    ensures { λ r. ⌜ Number r × ((rows : List ℕ) → Shares sort (joined (take (end - start) (drop start (now (work .entry)))) form (now (back .entry))) (now (tag .entry)) r (now (work .entry)) (now (work .exit)) (tables rows (now (terms .entry)) (now (store .entry))) (tables rows (now (terms .exit)) (now (store .exit))) (now (st .entry)) (now (st .exit))) ⌝ }
+    ensures { λ r. ⌜ Number r × ((rows : List ℕ) → Shares sort (joined (take (end - start) (drop start (now (work .entry)))) form (now (back .entry))) (now (tag .entry)) r (now (work .entry)) (now (work .exit)) (lent-tables rows (now (terms .entry)) (now (store .entry))) (lent-tables rows (now (terms .exit)) (now (store .exit))) (now (st .entry)) (now (st .exit))) ⌝ }
 {
     let n = Limits::work_size();
     let c = state::counts(st);
@@ -322,8 +322,8 @@ fn hold(
     n: usize,
     at: usize,
 )
-    requires { ⌜ HoldReady x y n at (now work) (tables (now rows) (now terms) (now store)) (now st) ⌝ }
-    ensures { λ _. ⌜ Writes (hold (place-of x y) n at) done (now (work .entry)) (now (work .exit)) (tables (now (rows .entry)) (now (terms .entry)) (now (store .entry))) (tables (now (rows .exit)) (now (terms .exit)) (now (store .exit))) (now (st .entry)) (now (st .exit)) ⌝ }
+    requires { ⌜ HoldReady x y n at (now work) (lent-tables (now rows) (now terms) (now store)) (now st) ⌝ }
+    ensures { λ _. ⌜ Writes (hold (place-of x y) n at) done (now (work .entry)) (now (work .exit)) (lent-tables (now (rows .entry)) (now (terms .entry)) (now (store .entry))) (lent-tables (now (rows .exit)) (now (terms .exit)) (now (store .exit))) (now (st .entry)) (now (st .exit)) ⌝ }
 {
     if x == 0 {
         return;
@@ -345,8 +345,8 @@ fn first_cell(
     st: &mut [usize; Layout::WORDS],
     spot: Spot,
 ) -> usize
-    requires { ⌜ Ready (new-cell (place-of (spot .x) (spot .y)) (spot .opened) no-cell (spot .at)) (now work) (tables (now rows) (now terms) (now store)) (now st) × SpotFits spot ⌝ }
-    ensures { λ r. ⌜ NumberWrites (new-cell (place-of (spot .x) (spot .y)) (spot .opened) no-cell (spot .at)) r (now (work .entry)) (now (work .exit)) (tables (now (rows .entry)) (now (terms .entry)) (now (store .entry))) (tables (now (rows .exit)) (now (terms .exit)) (now (store .exit))) (now (st .entry)) (now (st .exit)) ⌝ }
+    requires { ⌜ Ready (new-cell (place-of (spot .x) (spot .y)) (spot .opened) no-cell (spot .at)) (now work) (lent-tables (now rows) (now terms) (now store)) (now st) × SpotFits spot ⌝ }
+    ensures { λ r. ⌜ NumberWrites (new-cell (place-of (spot .x) (spot .y)) (spot .opened) no-cell (spot .at)) r (now (work .entry)) (now (work .exit)) (lent-tables (now (rows .entry)) (now (terms .entry)) (now (store .entry))) (lent-tables (now (rows .exit)) (now (terms .exit)) (now (store .exit))) (now (st .entry)) (now (st .exit)) ⌝ }
 {
     let x = spot.x;
     let y = spot.y;
@@ -365,8 +365,8 @@ fn later_cell(
     st: &mut [usize; Layout::WORDS],
     spot: Spot,
 ) -> usize
-    requires { ⌜ Ready (new-cell (place-of (spot .x) (spot .y)) (spot .opened) (cells 0 (spot .last)) (spot .at)) (now work) (tables (now rows) (now terms) (now store)) (now st) × SpotFits spot ⌝ }
-    ensures { λ r. ⌜ NumberWrites (new-cell (place-of (spot .x) (spot .y)) (spot .opened) (cells 0 (spot .last)) (spot .at)) r (now (work .entry)) (now (work .exit)) (tables (now (rows .entry)) (now (terms .entry)) (now (store .entry))) (tables (now (rows .exit)) (now (terms .exit)) (now (store .exit))) (now (st .entry)) (now (st .exit)) ⌝ }
+    requires { ⌜ Ready (new-cell (place-of (spot .x) (spot .y)) (spot .opened) (cells 0 (spot .last)) (spot .at)) (now work) (lent-tables (now rows) (now terms) (now store)) (now st) × SpotFits spot ⌝ }
+    ensures { λ r. ⌜ NumberWrites (new-cell (place-of (spot .x) (spot .y)) (spot .opened) (cells 0 (spot .last)) (spot .at)) r (now (work .entry)) (now (work .exit)) (lent-tables (now (rows .entry)) (now (terms .entry)) (now (store .entry))) (lent-tables (now (rows .exit)) (now (terms .exit)) (now (store .exit))) (now (st .entry)) (now (st .exit)) ⌝ }
 {
     let last = spot.last;
     let at = spot.at;
@@ -385,8 +385,8 @@ fn new_cell(
     st: &mut [usize; Layout::WORDS],
     spot: Spot,
 ) -> usize
-    requires { ⌜ Ready (new-cell (place-of (spot .x) (spot .y)) (spot .opened) (cells-of (spot .last)) (spot .at)) (now work) (tables (now rows) (now terms) (now store)) (now st) × SpotFits spot ⌝ }
-    ensures { λ r. ⌜ NumberWrites (new-cell (place-of (spot .x) (spot .y)) (spot .opened) (cells-of (spot .last)) (spot .at)) r (now (work .entry)) (now (work .exit)) (tables (now (rows .entry)) (now (terms .entry)) (now (store .entry))) (tables (now (rows .exit)) (now (terms .exit)) (now (store .exit))) (now (st .entry)) (now (st .exit)) ⌝ }
+    requires { ⌜ Ready (new-cell (place-of (spot .x) (spot .y)) (spot .opened) (cells-of (spot .last)) (spot .at)) (now work) (lent-tables (now rows) (now terms) (now store)) (now st) × SpotFits spot ⌝ }
+    ensures { λ r. ⌜ NumberWrites (new-cell (place-of (spot .x) (spot .y)) (spot .opened) (cells-of (spot .last)) (spot .at)) r (now (work .entry)) (now (work .exit)) (lent-tables (now (rows .entry)) (now (terms .entry)) (now (store .entry))) (lent-tables (now (rows .exit)) (now (terms .exit)) (now (store .exit))) (now (st .entry)) (now (st .exit)) ⌝ }
 {
     let last = spot.last;
     if last == 0 {
@@ -444,8 +444,8 @@ fn put_node(
     text: &[u8],
     tag: &[u8],
 ) -> usize
-    requires { ⌜ PutReady x y at (node-write n (now work) (now back) (now text) (now tag) at) (now work) (tables (now rows) (now terms) (now store)) (now st) × NodeFits n (now work) (now back) (now text) (now tag) ⌝ }
-    ensures { λ r. ⌜ NumberWrites (put-at (place-of x y) at (node-write n (now (work .entry)) (now (back .entry)) (now (text .entry)) (now (tag .entry)) at)) r (now (work .entry)) (now (work .exit)) (tables (now (rows .entry)) (now (terms .entry)) (now (store .entry))) (tables (now (rows .exit)) (now (terms .exit)) (now (store .exit))) (now (st .entry)) (now (st .exit)) ⌝ }
+    requires { ⌜ PutReady x y at (node-write n (now work) (now back) (now text) (now tag) at) (now work) (lent-tables (now rows) (now terms) (now store)) (now st) × NodeFits n (now work) (now back) (now text) (now tag) ⌝ }
+    ensures { λ r. ⌜ NumberWrites (put-at (place-of x y) at (node-write n (now (work .entry)) (now (back .entry)) (now (text .entry)) (now (tag .entry)) at)) r (now (work .entry)) (now (work .exit)) (lent-tables (now (rows .entry)) (now (terms .entry)) (now (store .entry))) (lent-tables (now (rows .exit)) (now (terms .exit)) (now (store .exit))) (now (st .entry)) (now (st .exit)) ⌝ }
 {
     let number = node(work, terms, store, st, n, back, text, tag);
     hold(work, rows, terms, store, st, x, y, number, at);
@@ -465,8 +465,8 @@ pub fn write_placed(
     text: &[u8],
     tag: &[u8],
 )
-    requires { ⌜ Ready (placed spot (node-write node (now work) (now back) (now text) (now tag) (spot .at))) (now work) (tables (now rows) (now terms) (now store)) (now st) × (SpotFits spot × NodeFits node (now work) (now back) (now text) (now tag)) ⌝ }
-    ensures { λ _. ⌜ Wrote (placed spot (node-write node (now (work .entry)) (now (back .entry)) (now (text .entry)) (now (tag .entry)) (spot .at))) (now (work .entry)) (now (work .exit)) (tables (now (rows .entry)) (now (terms .entry)) (now (store .entry))) (tables (now (rows .exit)) (now (terms .exit)) (now (store .exit))) (now (st .entry)) (now (st .exit)) × (Stays (now (st .entry)) (now (st .exit)) × (length (now (st .exit)) ≡ length (now (st .entry)))) ⌝ }
+    requires { ⌜ Ready (placed spot (node-write node (now work) (now back) (now text) (now tag) (spot .at))) (now work) (lent-tables (now rows) (now terms) (now store)) (now st) × (SpotFits spot × NodeFits node (now work) (now back) (now text) (now tag)) ⌝ }
+    ensures { λ _. ⌜ Wrote (placed spot (node-write node (now (work .entry)) (now (back .entry)) (now (text .entry)) (now (tag .entry)) (spot .at))) (now (work .entry)) (now (work .exit)) (lent-tables (now (rows .entry)) (now (terms .entry)) (now (store .entry))) (lent-tables (now (rows .exit)) (now (terms .exit)) (now (store .exit))) (now (st .entry)) (now (st .exit)) × (Stays (now (st .entry)) (now (st .exit)) × (length (now (st .exit)) ≡ length (now (st .entry)))) ⌝ }
 {
     let list = spot.list;
     let at = spot.at;
@@ -515,8 +515,8 @@ pub fn write_opened(
     st: &mut [usize; Layout::WORDS],
     spot: Spot,
 )
-    requires { ⌜ Ready (opened-at spot) (now work) (tables (now rows) (now terms) (now store)) (now st) × SpotFits spot ⌝ }
-    ensures { λ _. ⌜ Wrote (opened-at spot) (now (work .entry)) (now (work .exit)) (tables (now (rows .entry)) (now (terms .entry)) (now (store .entry))) (tables (now (rows .exit)) (now (terms .exit)) (now (store .exit))) (now (st .entry)) (now (st .exit)) × (Stays (now (st .entry)) (now (st .exit)) × (length (now (st .exit)) ≡ length (now (st .entry)))) ⌝ }
+    requires { ⌜ Ready (opened-at spot) (now work) (lent-tables (now rows) (now terms) (now store)) (now st) × SpotFits spot ⌝ }
+    ensures { λ _. ⌜ Wrote (opened-at spot) (now (work .entry)) (now (work .exit)) (lent-tables (now (rows .entry)) (now (terms .entry)) (now (store .entry))) (lent-tables (now (rows .exit)) (now (terms .exit)) (now (store .exit))) (now (st .entry)) (now (st .exit)) × (Stays (now (st .entry)) (now (st .exit)) × (length (now (st .exit)) ≡ length (now (st .entry)))) ⌝ }
 {
     let list = spot.list;
     if list {
@@ -536,8 +536,8 @@ fn end_empty(
     st: &mut [usize; Layout::WORDS],
     spot: Spot,
 ) -> usize
-    requires { ⌜ Ready (end-list (place-of (spot .x) (spot .y)) (spot .opened) no-cell (spot .at)) (now work) (tables (now rows) (now terms) (now store)) (now st) × SpotFits spot ⌝ }
-    ensures { λ r. ⌜ NumberWrites (end-list (place-of (spot .x) (spot .y)) (spot .opened) no-cell (spot .at)) r (now (work .entry)) (now (work .exit)) (tables (now (rows .entry)) (now (terms .entry)) (now (store .entry))) (tables (now (rows .exit)) (now (terms .exit)) (now (store .exit))) (now (st .entry)) (now (st .exit)) ⌝ }
+    requires { ⌜ Ready (end-list (place-of (spot .x) (spot .y)) (spot .opened) no-cell (spot .at)) (now work) (lent-tables (now rows) (now terms) (now store)) (now st) × SpotFits spot ⌝ }
+    ensures { λ r. ⌜ NumberWrites (end-list (place-of (spot .x) (spot .y)) (spot .opened) no-cell (spot .at)) r (now (work .entry)) (now (work .exit)) (lent-tables (now (rows .entry)) (now (terms .entry)) (now (store .entry))) (lent-tables (now (rows .exit)) (now (terms .exit)) (now (store .exit))) (now (st .entry)) (now (st .exit)) ⌝ }
 {
     let x = spot.x;
     let y = spot.y;
@@ -556,8 +556,8 @@ fn end_cells(
     st: &mut [usize; Layout::WORDS],
     spot: Spot,
 )
-    requires { ⌜ Ready (end-list (place-of (spot .x) (spot .y)) (spot .opened) (cells 0 (spot .last)) (spot .at)) (now work) (tables (now rows) (now terms) (now store)) (now st) × SpotFits spot ⌝ }
-    ensures { λ _. ⌜ Writes (end-list (place-of (spot .x) (spot .y)) (spot .opened) (cells 0 (spot .last)) (spot .at)) 0 (now (work .entry)) (now (work .exit)) (tables (now (rows .entry)) (now (terms .entry)) (now (store .entry))) (tables (now (rows .exit)) (now (terms .exit)) (now (store .exit))) (now (st .entry)) (now (st .exit)) ⌝ }
+    requires { ⌜ Ready (end-list (place-of (spot .x) (spot .y)) (spot .opened) (cells 0 (spot .last)) (spot .at)) (now work) (lent-tables (now rows) (now terms) (now store)) (now st) × SpotFits spot ⌝ }
+    ensures { λ _. ⌜ Writes (end-list (place-of (spot .x) (spot .y)) (spot .opened) (cells 0 (spot .last)) (spot .at)) 0 (now (work .entry)) (now (work .exit)) (lent-tables (now (rows .entry)) (now (terms .entry)) (now (store .entry))) (lent-tables (now (rows .exit)) (now (terms .exit)) (now (store .exit))) (now (st .entry)) (now (st .exit)) ⌝ }
 {
     let last = spot.last;
     let at = spot.at;
@@ -575,8 +575,8 @@ pub fn write_closed(
     st: &mut [usize; Layout::WORDS],
     spot: Spot,
 )
-    requires { ⌜ Ready (closed spot) (now work) (tables (now rows) (now terms) (now store)) (now st) × SpotFits spot ⌝ }
-    ensures { λ _. ⌜ Wrote (closed spot) (now (work .entry)) (now (work .exit)) (tables (now (rows .entry)) (now (terms .entry)) (now (store .entry))) (tables (now (rows .exit)) (now (terms .exit)) (now (store .exit))) (now (st .entry)) (now (st .exit)) × (Stays (now (st .entry)) (now (st .exit)) × (length (now (st .exit)) ≡ length (now (st .entry)))) ⌝ }
+    requires { ⌜ Ready (closed spot) (now work) (lent-tables (now rows) (now terms) (now store)) (now st) × SpotFits spot ⌝ }
+    ensures { λ _. ⌜ Wrote (closed spot) (now (work .entry)) (now (work .exit)) (lent-tables (now (rows .entry)) (now (terms .entry)) (now (store .entry))) (lent-tables (now (rows .exit)) (now (terms .exit)) (now (store .exit))) (now (st .entry)) (now (st .exit)) × (Stays (now (st .entry)) (now (st .exit)) × (length (now (st .exit)) ≡ length (now (st .entry)))) ⌝ }
 {
     let last = spot.last;
     if last == 0 {

@@ -1,6 +1,6 @@
 use mathlib.Core.Path.{refl}
 use native.Mathlib.Omega.{arith}
-use Rattle.state.specs.Represents.{tables}
+use Rattle.state.specs.Represents.{lent-tables}
 use Rattle.literals.proofs.Fitting.{iri-range, written-refused, written-asks, written-puts}
 use borrow.Author.Needs.{needs}
 use Rattle.literals.proofs.place_written.Statement.{statement}
@@ -65,7 +65,7 @@ same-length-2 c = search needs
 
 -- src/lib.rt:281:9
 returns : tie.Need-returns
-returns c = let e = c .before .before .before .before .before .before .before .before .before .before .before .before .before .before .before .before .before .before .before in written-refused (e .args .doc .now) (e .args .work .now) (tables (e .args .rows .now) (e .args .terms .now) (e .args .store .now)) (e .args .st .now) _ _ (e .pre .0 .1 .0 .1) (e .pre .0 .1 .1) (c .before .before .before .before .address-of .ensures) _ _ (c .if1 .taken)
+returns c = let e = c .before .before .before .before .before .before .before .before .before .before .before .before .before .before .before .before .before .before .before in written-refused (e .args .doc .now) (e .args .work .now) (lent-tables (e .args .rows .now) (e .args .terms .now) (e .args .store .now)) (e .args .st .now) _ _ (e .pre .0 .1 .0 .1) (e .pre .0 .1 .1) (c .before .before .before .before .address-of .ensures) _ _ (c .if1 .taken)
 
 -- src/lib.rt:283:15
 add-end : tie.Need-add-end
@@ -113,7 +113,7 @@ part-place-address-end-2 c = search needs
 
 -- src/lib.rt:293:5
 place-address-requires : tie.Need-place-address-requires
-place-address-requires c κs = let e = c .before .before .before .before .before .before .before .before .before .before .before .before .before .before .before .before .before .before .before .before .before .before .before .before .before .before .before .before .before in written-asks (e .args .doc .now) (e .args .work .now) (tables (e .args .rows .now) (e .args .terms .now) (e .args .store .now)) (e .args .st .now) _ _ (e .pre .0 .1 .0 .1) (e .pre .0 .1 .1) (c .before .before .before .before .before .before .before .before .before .before .before .before .before .before .address-of .ensures) (c .before .before .before .before .before .before .before .before .before .before .if1 .left) _ _ _ _ _ _ _ refl (c .before .before .before .before .before .before .before .before .inside .ensures) (e .pre .0 .0 .0) (e .pre .0 .0 .1 .0) (e .pre .0 .0 .1 .1)
+place-address-requires c κs = let e = c .before .before .before .before .before .before .before .before .before .before .before .before .before .before .before .before .before .before .before .before .before .before .before .before .before .before .before .before .before in written-asks (e .args .doc .now) (e .args .work .now) (lent-tables (e .args .rows .now) (e .args .terms .now) (e .args .store .now)) (e .args .st .now) _ _ (e .pre .0 .1 .0 .1) (e .pre .0 .1 .1) (c .before .before .before .before .before .before .before .before .before .before .before .before .before .before .address-of .ensures) (c .before .before .before .before .before .before .before .before .before .before .if1 .left) _ _ _ _ _ _ _ refl (c .before .before .before .before .before .before .before .before .inside .ensures) (e .pre .0 .0 .0) (e .pre .0 .0 .1 .0) (e .pre .0 .0 .1 .1)
 
 -- src/lib.rt:259:1
 same-length-3 : tie.Need-same-length-3
@@ -137,7 +137,7 @@ same-length-7 c = search needs
 
 -- src/lib.rt:259:1
 returns-2 : tie.Need-returns-2
-returns-2 c = let e = c .before .before .before .before .before .before .before .before .before .before .before .before .before .before .before .before .before .before .before .before .before .before .before .before .before .before .before .before .before .before .before .before .before .before .before .before .before .before in written-puts (e .args .doc .now) (e .args .work .now) (tables (e .args .rows .now) (e .args .terms .now) (e .args .store .now)) (e .args .st .now) _ _ (e .pre .0 .1 .0 .1) (e .pre .0 .1 .1) (c .before .before .before .before .before .before .before .before .before .before .before .before .before .before .before .before .before .before .before .before .before .before .before .address-of .ensures) (c .before .before .before .before .before .before .before .before .before .before .before .before .before .before .before .before .before .before .before .if1 .left) _ _ _ _ _ _ _ refl (c .before .before .before .before .before .before .before .before .before .before .before .before .before .before .before .before .before .inside .ensures) _ _ _ _ (c .before .before .before .before .before .before .before .before .place-address .ensures)
+returns-2 c = let e = c .before .before .before .before .before .before .before .before .before .before .before .before .before .before .before .before .before .before .before .before .before .before .before .before .before .before .before .before .before .before .before .before .before .before .before .before .before .before in written-puts (e .args .doc .now) (e .args .work .now) (lent-tables (e .args .rows .now) (e .args .terms .now) (e .args .store .now)) (e .args .st .now) _ _ (e .pre .0 .1 .0 .1) (e .pre .0 .1 .1) (c .before .before .before .before .before .before .before .before .before .before .before .before .before .before .before .before .before .before .before .before .before .before .before .address-of .ensures) (c .before .before .before .before .before .before .before .before .before .before .before .before .before .before .before .before .before .before .before .if1 .left) _ _ _ _ _ _ _ refl (c .before .before .before .before .before .before .before .before .before .before .before .before .before .before .before .before .before .inside .ensures) _ _ _ _ (c .before .before .before .before .before .before .before .before .place-address .ensures)
 
 pub place-written-spec : {M : Type 1} → statement M
 place-written-spec =

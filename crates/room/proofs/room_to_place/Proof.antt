@@ -2,7 +2,7 @@ use Prim.Native.Nat.{_+_}
 use mathlib.Core.Path.{sym, _∙_}
 use Rattle.room.proofs.Tests.{few-rows}
 use native.Mathlib.Omega.{arith}
-use Rattle.state.specs.Represents.{tables}
+use Rattle.state.specs.Represents.{lent-tables}
 use Rattle.room.proofs.Refusing.{held, rows-small, tally-small, place-surely, place-exactly}
 use borrow.Author.Needs.{needs}
 use Rattle.room.proofs.room_to_place.Statement.{statement}
@@ -21,7 +21,7 @@ add-count : tie.Need-add-count
 add-count c = omega (arith, c .before .before-rows .ensures, c .behind-rows .ensures, few-rows (c .before .before .before .before .before .before .before .before .before .before .args .spot) .0, few-rows (c .before .before .before .before .before .before .before .before .before .before .args .spot) .1)
 
 add-count-2 : tie.Need-add-count-2
-add-count-2 c = omega (arith, c .before .before-rows .ensures, c .behind-rows .ensures, few-rows (c .before .before .before .before .before .before .before .before .before .before .args .spot) .0, few-rows (c .before .before .before .before .before .before .before .before .before .before .args .spot) .1, c .before .before .rows-in .ensures, rows-small (c .before .before .before .before .before .before .before .before .before .before .args .work .now) (tables (c .before .before .before .before .before .before .before .before .before .before .args .rows .now) (c .before .before .before .before .before .before .before .before .before .before .args .terms .now) (c .before .before .before .before .before .before .before .before .before .before .args .store .now)) (c .before .before .before .before .before .before .before .before .before .before .args .st .now) (c .before .before .before .before .before .before .before .before .before .before .pre .0))
+add-count-2 c = omega (arith, c .before .before-rows .ensures, c .behind-rows .ensures, few-rows (c .before .before .before .before .before .before .before .before .before .before .args .spot) .0, few-rows (c .before .before .before .before .before .before .before .before .before .before .args .spot) .1, c .before .before .rows-in .ensures, rows-small (c .before .before .before .before .before .before .before .before .before .before .args .work .now) (lent-tables (c .before .before .before .before .before .before .before .before .before .before .args .rows .now) (c .before .before .before .before .before .before .before .before .before .before .args .terms .now) (c .before .before .before .before .before .before .before .before .before .before .args .store .now)) (c .before .before .before .before .before .before .before .before .before .before .args .st .now) (c .before .before .before .before .before .before .before .before .before .before .pre .0))
 
 tally-in-requires : tie.Need-tally-in-requires
 tally-in-requires c κs = search needs
@@ -33,25 +33,25 @@ add-raised-2 : tie.Need-add-raised-2
 add-raised-2 c = search needs
 
 raised-requires : tie.Need-raised-requires
-raised-requires c κs = (tally-small (c .before .before .before .before .before .before .before .before .before .before .before .args .work .now) (tables (c .before .before .before .before .before .before .before .before .before .before .before .args .rows .now) (c .before .before .before .before .before .before .before .before .before .before .before .args .terms .now) (c .before .before .before .before .before .before .before .before .before .before .before .args .store .now)) (c .before .before .before .before .before .before .before .before .before .before .before .args .st .now) (c .tally-in .result) (c .tally-in .ensures) (c .before .before .before .before .before .before .before .before .before .before .before .pre .0), (omega arith, omega (arith, c .before .before .before .before .before .before .before .before .before .before .before .pre .1 .text-slice, c .before .before .before .before .before .before .before .before .before .before .before .pre .1 .tag-short)))
+raised-requires c κs = (tally-small (c .before .before .before .before .before .before .before .before .before .before .before .args .work .now) (lent-tables (c .before .before .before .before .before .before .before .before .before .before .before .args .rows .now) (c .before .before .before .before .before .before .before .before .before .before .before .args .terms .now) (c .before .before .before .before .before .before .before .before .before .before .before .args .store .now)) (c .before .before .before .before .before .before .before .before .before .before .before .args .st .now) (c .tally-in .result) (c .tally-in .ensures) (c .before .before .before .before .before .before .before .before .before .before .before .pre .0), (omega arith, omega (arith, c .before .before .before .before .before .before .before .before .before .before .before .pre .1 .text-slice, c .before .before .before .before .before .before .before .before .before .before .before .pre .1 .tag-short)))
 
 refusal-requires : tie.Need-refusal-requires
 refusal-requires c κs = search needs
 
 returns : tie.Need-returns
-returns c = place-surely (c .before .before .before .before .before .before .before .before .before .before .before .before .before .before .args .work .now) (tables (c .before .before .before .before .before .before .before .before .before .before .before .before .before .before .args .rows .now) (c .before .before .before .before .before .before .before .before .before .before .before .before .before .before .args .terms .now) (c .before .before .before .before .before .before .before .before .before .before .before .before .before .before .args .store .now)) (c .before .before .before .before .before .before .before .before .before .before .before .before .before .before .args .st .now) (c .before .before .before .before .before .before .before .before .before .before .before .before .before .before .args .spot) (c .before .before .before .before .before .before .before .before .before .before .before .before .before .before .args .node) (c .before .before .before .before .before .before .before .before .before .before .before .before .before .before .args .back .now) (c .before .before .before .before .before .before .before .before .before .before .before .before .before .before .args .text .now) (c .before .before .before .before .before .before .before .before .before .before .before .before .before .before .args .tag .now) (c .before .before .before .before .before .before .before .before .before .before .before .before .before .before .pre .1 .short) (c .before .before .before .before .before .before .rows-in .result + (c .before .before .before .before .before .before-rows .result + c .before .before .before .before .behind-rows .result)) (c .before .before .before .tally-in .result) (c .before .before .raised .result) (omega (arith, c .before .before .before .before .before .before .rows-in .ensures, c .before .before .before .before .before .before-rows .ensures, c .before .before .before .before .behind-rows .ensures)) (c .before .before .before .tally-in .ensures) (c .before .before .raised .ensures) (sym (c .before .refusal .ensures) ∙ c .if1 .taken)
+returns c = place-surely (c .before .before .before .before .before .before .before .before .before .before .before .before .before .before .args .work .now) (lent-tables (c .before .before .before .before .before .before .before .before .before .before .before .before .before .before .args .rows .now) (c .before .before .before .before .before .before .before .before .before .before .before .before .before .before .args .terms .now) (c .before .before .before .before .before .before .before .before .before .before .before .before .before .before .args .store .now)) (c .before .before .before .before .before .before .before .before .before .before .before .before .before .before .args .st .now) (c .before .before .before .before .before .before .before .before .before .before .before .before .before .before .args .spot) (c .before .before .before .before .before .before .before .before .before .before .before .before .before .before .args .node) (c .before .before .before .before .before .before .before .before .before .before .before .before .before .before .args .back .now) (c .before .before .before .before .before .before .before .before .before .before .before .before .before .before .args .text .now) (c .before .before .before .before .before .before .before .before .before .before .before .before .before .before .args .tag .now) (c .before .before .before .before .before .before .before .before .before .before .before .before .before .before .pre .1 .short) (c .before .before .before .before .before .before .rows-in .result + (c .before .before .before .before .before .before-rows .result + c .before .before .before .before .behind-rows .result)) (c .before .before .before .tally-in .result) (c .before .before .raised .result) (omega (arith, c .before .before .before .before .before .before .rows-in .ensures, c .before .before .before .before .before .before-rows .ensures, c .before .before .before .before .behind-rows .ensures)) (c .before .before .before .tally-in .ensures) (c .before .before .raised .ensures) (sym (c .before .refusal .ensures) ∙ c .if1 .taken)
 
 counts-requires : tie.Need-counts-requires
 counts-requires c κs = search needs
 
 tally-place-requires : tie.Need-tally-place-requires
-tally-place-requires c κs = (held (c .before .before .before .before .before .before .before .before .before .before .before .before .before .before .before .args .work .now) (tables (c .before .before .before .before .before .before .before .before .before .before .before .before .before .before .before .args .rows .now) (c .before .before .before .before .before .before .before .before .before .before .before .before .before .before .before .args .terms .now) (c .before .before .before .before .before .before .before .before .before .before .before .before .before .before .before .args .store .now)) (c .before .before .before .before .before .before .before .before .before .before .before .before .before .before .before .args .st .now) (c .counts .result) (c .counts .ensures) (c .before .before .before .before .before .before .before .before .before .before .before .before .before .before .before .pre .0), (c .before .before .before .before .before .before .before .before .before .before .before .before .before .before .before .pre .1, tally-small (c .before .before .before .before .before .before .before .before .before .before .before .before .before .before .before .args .work .now) (tables (c .before .before .before .before .before .before .before .before .before .before .before .before .before .before .before .args .rows .now) (c .before .before .before .before .before .before .before .before .before .before .before .before .before .before .before .args .terms .now) (c .before .before .before .before .before .before .before .before .before .before .before .before .before .before .before .args .store .now)) (c .before .before .before .before .before .before .before .before .before .before .before .before .before .before .before .args .st .now) (c .before .before .before .before .tally-in .result) (c .before .before .before .before .tally-in .ensures) (c .before .before .before .before .before .before .before .before .before .before .before .before .before .before .before .pre .0)))
+tally-place-requires c κs = (held (c .before .before .before .before .before .before .before .before .before .before .before .before .before .before .before .args .work .now) (lent-tables (c .before .before .before .before .before .before .before .before .before .before .before .before .before .before .before .args .rows .now) (c .before .before .before .before .before .before .before .before .before .before .before .before .before .before .before .args .terms .now) (c .before .before .before .before .before .before .before .before .before .before .before .before .before .before .before .args .store .now)) (c .before .before .before .before .before .before .before .before .before .before .before .before .before .before .before .args .st .now) (c .counts .result) (c .counts .ensures) (c .before .before .before .before .before .before .before .before .before .before .before .before .before .before .before .pre .0), (c .before .before .before .before .before .before .before .before .before .before .before .before .before .before .before .pre .1, tally-small (c .before .before .before .before .before .before .before .before .before .before .before .before .before .before .before .args .work .now) (lent-tables (c .before .before .before .before .before .before .before .before .before .before .before .before .before .before .before .args .rows .now) (c .before .before .before .before .before .before .before .before .before .before .before .before .before .before .before .args .terms .now) (c .before .before .before .before .before .before .before .before .before .before .before .before .before .before .before .args .store .now)) (c .before .before .before .before .before .before .before .before .before .before .before .before .before .before .before .args .st .now) (c .before .before .before .before .tally-in .result) (c .before .before .before .before .tally-in .ensures) (c .before .before .before .before .before .before .before .before .before .before .before .before .before .before .before .pre .0)))
 
 refusal-requires-2 : tie.Need-refusal-requires-2
 refusal-requires-2 c κs = search needs
 
 returns-2 : tie.Need-returns-2
-returns-2 c = place-exactly (c .before .before .before .before .before .before .before .before .before .before .before .before .before .before .before .before .before .args .work .now) (tables (c .before .before .before .before .before .before .before .before .before .before .before .before .before .before .before .before .before .args .rows .now) (c .before .before .before .before .before .before .before .before .before .before .before .before .before .before .before .before .before .args .terms .now) (c .before .before .before .before .before .before .before .before .before .before .before .before .before .before .before .before .before .args .store .now)) (c .before .before .before .before .before .before .before .before .before .before .before .before .before .before .before .before .before .args .st .now) (c .before .before .before .before .before .before .before .before .before .before .before .before .before .before .before .before .before .args .spot) (c .before .before .before .before .before .before .before .before .before .before .before .before .before .before .before .before .before .args .node) (c .before .before .before .before .before .before .before .before .before .before .before .before .before .before .before .before .before .args .back .now) (c .before .before .before .before .before .before .before .before .before .before .before .before .before .before .before .before .before .args .text .now) (c .before .before .before .before .before .before .before .before .before .before .before .before .before .before .before .before .before .args .tag .now) (c .before .before .before .before .before .before .before .before .before .rows-in .result + (c .before .before .before .before .before .before .before .before .before-rows .result + c .before .before .before .before .before .before .before .behind-rows .result)) (c .before .before .before .before .before .before .tally-in .result) (c .before .tally-place .result) (c .before .before .counts .result) (c .refusal2 .result) (omega (arith, c .before .before .before .before .before .before .before .before .before .rows-in .ensures, c .before .before .before .before .before .before .before .before .before-rows .ensures, c .before .before .before .before .before .before .before .behind-rows .ensures)) (c .before .before .before .before .before .before .tally-in .ensures) (c .before .before .counts .ensures) (c .before .tally-place .ensures) (c .refusal2 .ensures)
+returns-2 c = place-exactly (c .before .before .before .before .before .before .before .before .before .before .before .before .before .before .before .before .before .args .work .now) (lent-tables (c .before .before .before .before .before .before .before .before .before .before .before .before .before .before .before .before .before .args .rows .now) (c .before .before .before .before .before .before .before .before .before .before .before .before .before .before .before .before .before .args .terms .now) (c .before .before .before .before .before .before .before .before .before .before .before .before .before .before .before .before .before .args .store .now)) (c .before .before .before .before .before .before .before .before .before .before .before .before .before .before .before .before .before .args .st .now) (c .before .before .before .before .before .before .before .before .before .before .before .before .before .before .before .before .before .args .spot) (c .before .before .before .before .before .before .before .before .before .before .before .before .before .before .before .before .before .args .node) (c .before .before .before .before .before .before .before .before .before .before .before .before .before .before .before .before .before .args .back .now) (c .before .before .before .before .before .before .before .before .before .before .before .before .before .before .before .before .before .args .text .now) (c .before .before .before .before .before .before .before .before .before .before .before .before .before .before .before .before .before .args .tag .now) (c .before .before .before .before .before .before .before .before .before .rows-in .result + (c .before .before .before .before .before .before .before .before .before-rows .result + c .before .before .before .before .before .before .before .behind-rows .result)) (c .before .before .before .before .before .before .tally-in .result) (c .before .tally-place .result) (c .before .before .counts .result) (c .refusal2 .result) (omega (arith, c .before .before .before .before .before .before .before .before .before .rows-in .ensures, c .before .before .before .before .before .before .before .before .before-rows .ensures, c .before .before .before .before .before .before .before .behind-rows .ensures)) (c .before .before .before .before .before .before .tally-in .ensures) (c .before .before .counts .ensures) (c .before .tally-place .ensures) (c .refusal2 .ensures)
 
 pub room-to-place-spec : {M : Type 1} → statement M
 room-to-place-spec =
