@@ -26,7 +26,7 @@ static void compare(const char *what, uint32_t number, uint64_t position, uint32
 /* What is lent to one call, beside the document. */
 struct lent {
     const char *base;
-    uint8_t mode;
+    uint32_t mode;
     size_t work, rows, terms, store;
 };
 
@@ -54,6 +54,8 @@ int main(void)
     memset(document, ' ', sizeof document);
     reads("a document of 1,048,577 bytes", sizeof document, all, SYCAMOOT_DOCUMENT_LENGTH, 0);
     l.mode = 2;
+    text("", l, SYCAMOOT_MODE, 0);
+    l.mode = 256; /* is not cut to 0 */
     text("", l, SYCAMOOT_MODE, 0);
     l = all;
     l.base = "no-scheme";

@@ -36,7 +36,7 @@ int main(int argc, char **argv)
     size_t length = fread(document, 1, sizeof document, file);
     fclose(file);
 
-    uint8_t mode = is_turtle(argv[1]) ? SYCAMOOT_TURTLE : SYCAMOOT_TRIG;
+    uint32_t mode = is_turtle(argv[1]) ? SYCAMOOT_TURTLE : SYCAMOOT_TRIG;
     sycamoot_answer a = sycamoot_read(document, length, document, 0, mode, work, sizeof work, rows, ROWS * SYCAMOOT_ROW_WORDS,
                                       terms, TERMS * SYCAMOOT_TERM_WORDS, store, sizeof store);
     if (a.number != SYCAMOOT_ACCEPTED) {

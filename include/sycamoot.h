@@ -74,7 +74,7 @@ typedef struct {
 /* Reads a document. 1 to 4 leave all memory as it was. 5 to 16 leave zeros in all four slices. After 0 the rows, terms and
  * bytes that are counted stand in front, what lies past them is as it was, and the work slice is zeros. */
 sycamoot_answer sycamoot_read(const uint8_t *document, size_t document_length, const uint8_t *base, size_t base_length,
-                              uint8_t mode, uint8_t *work, size_t work_length, uint32_t *rows, size_t row_words,
+                              uint32_t mode, uint8_t *work, size_t work_length, uint32_t *rows, size_t row_words,
                               uint32_t *terms, size_t term_words, uint8_t *store, size_t store_length);
 
 /* Where the text of a term lies: an IRI, a blank node's label or a literal's string. Any number and any tables may be given. */

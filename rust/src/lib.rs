@@ -33,7 +33,7 @@ pub fn read_into(document: &[u8], base: &[u8], mode: Mode, work: &mut [u8], rows
             document.len(),
             base.as_ptr(),
             base.len(),
-            mode as u8,
+            mode as u32,
             work.as_mut_ptr(),
             work.len(),
             rows.as_mut_ptr(),

@@ -31,7 +31,7 @@ extern "C" {
         document_length: usize,
         base: *const u8,
         base_length: usize,
-        mode: u8,
+        mode: u32,
         work: *mut u8,
         work_length: usize,
         rows: *mut u32,

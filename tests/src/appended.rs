@@ -159,7 +159,7 @@ pub fn run_cases(path: &str) -> Result<bool, String> {
     let (mut differ, mut lowered) = (0, 0);
     for line in text.lines() {
         let case = json::parse(line)?;
-        let mode = u8::try_from(case.field("mode")?.number()?).map_err(|e| e.to_string())?;
+        let mode = u32::try_from(case.field("mode")?.number()?).map_err(|e| e.to_string())?;
         let subject = Subject { document: case.field("first")?.bytes()?, base: case.field("base")?.bytes()?, mode };
         let more = case.field("second")?.bytes()?;
         let whole = with_text_added(&subject.document, &more);

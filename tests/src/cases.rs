@@ -9,7 +9,7 @@ struct Case {
     name: String,
     document: Vec<u8>,
     base: Vec<u8>,
-    mode: u8,
+    mode: u32,
     sizes: [usize; 4],
     answer: Answer,
     counts: Vec<usize>,
@@ -24,7 +24,7 @@ impl Case {
             name: value.field("name")?.string()?.to_string(),
             document: value.field("doc")?.bytes()?,
             base: value.field("base")?.bytes()?,
-            mode: u8::try_from(size("mode")?).map_err(|e| e.to_string())?,
+            mode: u32::try_from(size("mode")?).map_err(|e| e.to_string())?,
             sizes: [size("work")?, size("rows")?, size("terms")?, size("store")?],
             counts: answer.field("counts")?.numbers()?,
             answer: Answer {

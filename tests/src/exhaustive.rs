@@ -25,7 +25,7 @@ struct Group {
 
 impl Group {
     /// Reads by both; none where they differ.
-    fn look(&mut self, document: &[u8], base: &str, mode: u8) -> Option<Answer> {
+    fn look(&mut self, document: &[u8], base: &str, mode: u32) -> Option<Answer> {
         self.documents += 1;
         let request = Request { document, base: base.as_bytes(), mode, work: LEAST_WORK, row_words: 151, term_words: 204, store: 1000 };
         match call::compare(&request, self.documents) {
@@ -47,7 +47,7 @@ impl Group {
         }
     }
 
-    fn token_list(&mut self, document: &[u8], length: usize, mode: u8) {
+    fn token_list(&mut self, document: &[u8], length: usize, mode: u32) {
         let viable = self.look(document, "", mode).is_some_and(|answer| answer.position == document.len());
         if viable && length > 0 {
             for token in TOKENS {

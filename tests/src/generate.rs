@@ -44,12 +44,12 @@ const SCRAPS: &[&str] = &[
 pub struct Subject {
     pub document: Vec<u8>,
     pub base: Vec<u8>,
-    pub mode: u8,
+    pub mode: u32,
 }
 
 /// A random document, one in two damaged.
 pub fn subject(random: &mut Random) -> Subject {
-    let mode = u8::from(random.once_in(2));
+    let mode = u32::from(random.once_in(2));
     let mut base = if random.once_in(2) { random.pick(BASES).as_bytes().to_vec() } else { Vec::new() };
     let mut document = document(random, mode, !base.is_empty());
     match random.below(8) {
@@ -69,7 +69,7 @@ pub fn subject(random: &mut Random) -> Subject {
     Subject { document, base, mode }
 }
 
-fn document(random: &mut Random, mode: u8, base: bool) -> Vec<u8> {
+fn document(random: &mut Random, mode: u32, base: bool) -> Vec<u8> {
     let mut generator = Generator { random, out: Vec::new(), prefixes: Vec::new(), base, depth: 0 };
     generator.statements(mode);
     generator.out
@@ -77,7 +77,7 @@ fn document(random: &mut Random, mode: u8, base: bool) -> Vec<u8> {
 
 /// A document, and text to be put behind it, which uses what the document declares; one text in four is damaged.
 pub fn pair(random: &mut Random) -> (Subject, Vec<u8>) {
-    let mode = u8::from(random.once_in(2));
+    let mode = u32::from(random.once_in(2));
     let base = if random.once_in(2) { random.pick(BASES).as_bytes().to_vec() } else { Vec::new() };
     let mut generator = Generator { random, out: Vec::new(), prefixes: Vec::new(), base: !base.is_empty(), depth: 0 };
     generator.statements(mode);
@@ -102,7 +102,7 @@ struct Generator<'r> {
 
 impl Generator<'_> {
     /// Directives, triples and graphs, and sometimes a comment without a line end.
-    fn statements(&mut self, mode: u8) {
+    fn statements(&mut self, mode: u32) {
         if self.random.once_in(100) {
             self.many_prefixes();
         }

@@ -40,7 +40,7 @@ pub fn accepted(name: impl Into<String>, document: impl Into<Vec<u8>>) -> Known 
 }
 
 impl Known {
-    pub fn mode(mut self, mode: u8) -> Self {
+    pub fn mode(mut self, mode: u32) -> Self {
         self.subject.mode = mode;
         self
     }

@@ -44,7 +44,7 @@ mod compiled {
             document_length: usize,
             base: *const u8,
             base_length: usize,
-            mode: u8,
+            mode: u32,
             work: *mut u8,
             work_length: usize,
             rows: *mut u32,
@@ -80,7 +80,7 @@ mod compiled {
         ) -> Written;
     }
 
-    pub fn read(document: &[u8], base: &[u8], mode: u8, lent: Lent) -> Answer {
+    pub fn read(document: &[u8], base: &[u8], mode: u32, lent: Lent) -> Answer {
         // SAFETY: each pointer and length are one live slice's, and the lent slices are borrowed by this call alone.
         unsafe {
             sycamoot_read(
@@ -142,7 +142,7 @@ mod stand_in {
     use crate::reader::long_form::{self, Given};
     use crate::reader::read::{self, Lent, Request};
 
-    pub fn read(document: &[u8], base: &[u8], mode: u8, lent: Lent) -> Answer {
+    pub fn read(document: &[u8], base: &[u8], mode: u32, lent: Lent) -> Answer {
         let (work, row_words, term_words, store) = (lent.work.len(), lent.rows.len(), lent.terms.len(), lent.store.len());
         let answer = read::read(&Request { document, base, mode, work, row_words, term_words, store });
         let of = super::Answer::of(&answer);

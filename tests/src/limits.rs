@@ -173,7 +173,7 @@ fn order_of_checks(limits: &mut Limits) {
     add(call("3 before 4", b"\xff", Refused(3, 0)).base(b"g").work(0));
     add(call("4 before 5", b"\xff", Refused(4, 0)).work(LEAST_WORK - 1));
     add(call("5 before 6", b"| \xff", Refused(5, 2)));
-    for mode in [2, 3, 128, 255] {
+    for mode in [2, 3, 128, 255, 256, 257, 65_536, u32::MAX] {
         add(call(&format!("mode {mode}"), b"", Refused(2, 0)).mode(mode));
     }
     let statement = [S, b"1 ."].concat();

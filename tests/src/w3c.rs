@@ -84,7 +84,7 @@ fn read(document: &[u8], test: &Test) -> Result<Answer, String> {
     let request = Request {
         document,
         base: test.base.as_bytes(),
-        mode: u8::from(test.action.ends_with(".ttl")),
+        mode: u32::from(test.action.ends_with(".ttl")),
         work: LEAST_WORK,
         row_words: 10 * document.len(),
         term_words: 10 * document.len() + 100,

@@ -1,6 +1,7 @@
--- The answers as C sees them, in the words of the definitions, number for number.
+-- The calls as C sees them, in the words of the definitions, number for number.
 use Prim.Native.Nat.{ℕ}
-use Rattle.text.specs.Text.{Text}
+use lib.Dec.{leb}
+use Rattle.text.specs.Text.{Text, cond}
 use Rattle.table.specs.LongForm as long
 use Rattle.reader.specs.declared.Reading.{Reading}
 use Rattle.term_text.specs.declared.Span.{Span}
@@ -8,6 +9,10 @@ use Rattle.term_text.specs.declared.Span.the-variants.{Part, Unusable}
 use Rattle.sycamoot.specs.declared.Answer.{Answer}
 use Rattle.sycamoot.specs.declared.Text as text
 use Rattle.sycamoot.specs.declared.Written.{Written}
+
+-- A mode in one byte: 0, 1, or 2 for every other, which is refused alike.
+abbrev pub known-mode : ℕ → ℕ
+known-mode mode = cond (leb mode 1) mode 2
 
 abbrev pub reading : Answer → Reading
 reading r = record { number = r .number; position = r .position; rows = r .rows; terms = r .terms; store = r .store }

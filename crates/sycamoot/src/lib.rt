@@ -6,7 +6,7 @@ ghost use Rattle.table.specs.LongForm.{write};
 ghost use Rattle.term_text.specs.Shown.{lent, span-at};
 ghost use Rattle.usable.specs.Lent.{slices};
 ghost use Rattle.reader.specs.Reader.{lent-slices, Contract};
-ghost use Rattle.sycamoot.specs.Answers.{reading, written, shown};
+ghost use Rattle.sycamoot.specs.Answers.{known-mode, reading, written, shown};
 use term_text::Span;
 
 // The reader's answer: its number, the position it speaks of, and the counts of rows, terms and store bytes.
@@ -41,12 +41,22 @@ fn narrow(n: usize) -> u32
     n as u32
 }
 
-// Reads a TriG document (mode 0) or a Turtle document (mode 1).
+// The mode in the byte that the reader takes. It is not cut: 256 is no mode, and is not to become TriG.
+fn byte_mode(mode: u32) -> u8
+    ensures { λ r. ⌜ r ≡ known-mode mode ⌝ }
+{
+    if mode <= 1 {
+        return mode as u8;
+    }
+    2
+}
+
+// Reads a TriG document (mode 0) or a Turtle document (mode 1); any other mode is refused.
 #[no_mangle]
 pub extern "C" fn sycamoot_read(
     document: &[u8],
     base: &[u8],
-    mode: u8,
+    mode: u32,
     work: &mut [u8],
     rows: &mut [u32],
     terms: &mut [u32],
@@ -54,7 +64,8 @@ pub extern "C" fn sycamoot_read(
 ) -> Answer
     ensures { λ r. ⌜ Contract (now (document .entry)) mode (now (base .entry)) (lent-slices (now (work .entry)) (now (rows .entry)) (now (terms .entry)) (now (store .entry))) (lent-slices (now (work .exit)) (now (rows .exit)) (now (terms .exit)) (now (store .exit))) (reading r) ⌝ }
 {
-    let r = reader::read(document, base, mode, work, rows, terms, store);
+    let known = byte_mode(mode);
+    let r = reader::read(document, base, known, work, rows, terms, store);
     let row_count = r.rows;
     let term_count = r.terms;
     let store_count = r.store;

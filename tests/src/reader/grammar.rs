@@ -93,7 +93,7 @@ pub struct Recogniser {
 }
 
 impl Recogniser {
-    pub fn new(mode: u8) -> Self {
+    pub fn new(mode: u32) -> Self {
         Recogniser { stacks: vec![push(if mode == 0 { &TRIG_DOC } else { &TURTLE_DOC }, None)] }
     }
 

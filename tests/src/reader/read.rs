@@ -16,7 +16,7 @@ pub const LEAST_WORK: usize = 35_840;
 pub struct Request<'a> {
     pub document: &'a [u8],
     pub base: &'a [u8],
-    pub mode: u8,
+    pub mode: u32,
     pub work: usize,
     pub row_words: usize,
     pub term_words: usize,

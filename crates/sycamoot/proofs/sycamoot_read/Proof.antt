@@ -1,53 +1,43 @@
 use mathlib.Core.Path.{_∙_}
 use borrow.Author.Needs.{needs}
 use Rattle.sycamoot.proofs.Counts.{rows-small, terms-small, store-small}
+use Rattle.sycamoot.proofs.Modes.{same-mode}
 use Rattle.sycamoot.proofs.sycamoot_read.Statement.{statement}
 use Rattle.sycamoot.proofs.sycamoot_read.Tie as tie
-use Rattle.sycamoot.proofs.sycamoot_read.Reads as reads
-use Rattle.sycamoot.proofs.sycamoot_read.Lts as lts
-use Rattle.reader.proofs.read.Reads as read-reads
-use Rattle.sycamoot.proofs.narrow.Reads as narrow-reads
 
--- src/lib.rt:57:9
+byte-mode-requires : tie.Need-byte-mode-requires
+byte-mode-requires c κs = search needs
+
 read-requires : tie.Need-read-requires
 read-requires c κs = search needs
 
--- src/lib.rt:63:17
-cast-t21 : tie.Need-cast-t21
-cast-t21 c = search needs
+cast-t22 : tie.Need-cast-t22
+cast-t22 c = search needs
 
--- src/lib.rt:64:15
 narrow-requires : tie.Need-narrow-requires
 narrow-requires c κs = rows-small _ _ _ _ _ _ (c .before .before .before .before .before .before .before .before .before .read .ensures)
 
--- src/lib.rt:65:16
 narrow-requires-2 : tie.Need-narrow-requires-2
 narrow-requires-2 c κs = terms-small _ _ _ _ _ _ (c .before .before .before .before .before .before .before .before .before .before .read .ensures)
 
--- src/lib.rt:66:16
 narrow-requires-3 : tie.Need-narrow-requires-3
 narrow-requires-3 c κs = store-small _ _ _ _ _ _ (c .before .before .before .before .before .before .before .before .before .before .before .read .ensures)
 
--- src/lib.rt:45:1
 same-length : tie.Need-same-length
 same-length c = search needs
 
--- src/lib.rt:45:1
 same-length-2 : tie.Need-same-length-2
 same-length-2 c = search needs
 
--- src/lib.rt:45:1
 same-length-3 : tie.Need-same-length-3
 same-length-3 c = search needs
 
--- src/lib.rt:45:1
 same-length-4 : tie.Need-same-length-4
 same-length-4 c = search needs
 
--- src/lib.rt:45:1
 returns : tie.Need-returns
 returns c =
-    let g = c .before .before .before .before .before .before .before .before .before .before .before .before .read .ensures in
+    let g = same-mode _ _ _ _ _ _ _ (c .before .before .before .before .before .before .before .before .before .before .before .before .before .before .before .before .before .byte-mode .ensures) (c .before .before .before .before .before .before .before .before .before .before .before .before .read .ensures) in
     record {
       number = g .number;
       position = g .position;
@@ -64,8 +54,9 @@ pub sycamoot-read-spec : {M : Type 1} → statement M
 sycamoot-read-spec =
     tie.close
     (tie.spec
+    byte-mode-requires
     read-requires
-    cast-t21
+    cast-t22
     narrow-requires
     narrow-requires-2
     narrow-requires-3
