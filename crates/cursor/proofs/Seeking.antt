@@ -16,6 +16,7 @@ use Rattle.utf8.specs.Utf8.{first-bad}
 use Rattle.automaton.specs.declared.Next.{Next}
 use Rattle.lexer.specs.Rest.{rest}
 use Rattle.lexer.specs.Blanks.{BlanksAt}
+use Rattle.limits.specs.Limits.{document-limit}
 use Rattle.lexer.proofs.Cutting.{Cut, read-token, read-nothing, read-end}
 use Rattle.lexer_words.specs.Ahead.{Clear, NextAt}
 use Rattle.token.specs.Tokens.{Lexeme, token, unreadable}
@@ -95,7 +96,7 @@ pub there-end : (at n : ℕ) → n ≤ at → kind-there 0 at n ≡ 0
 unfolding kind-there
 there-end at n h = rw (le-ltb at n h)
 
-module _ (doc : Text) (at b clear : ℕ) (r : Next) (size : length doc ≤ 1048576) (within : at ≤ length doc) (v : first-bad (drop at doc) ≡ none) (c : Clear (drop at doc) clear)
+module _ (doc : Text) (at b clear : ℕ) (r : Next) (size : length doc ≤ document-limit) (within : at ≤ length doc) (v : first-bad (drop at doc) ≡ none) (c : Clear (drop at doc) clear)
     (g : BlanksAt (drop at doc) b) (m : NextAt (drop (at + b) doc) (clear - b) r) (h : b ≤ length doc - at) (hn : r .len ≤ length doc - (at + b)) (st st' : List ℕ)
     (p : Put st st' (kind-there (r .kind) (at + b) (length doc)) (at + b) (r .len) (r .clear)) where
   sought-token : (r .kind ≡ 0 → ⊥) → Sought doc at st st'
@@ -161,7 +162,7 @@ module _ (doc : Text) (at b clear : ℕ) (r : Next) (size : length doc ≤ 10485
       (λ e. sought-token (eqb-false (r .kind) 0 e))
 
 -- The same of the parts that the code lends on.
-pub seek-law : (doc : Text) (at b clear mc : ℕ) (r : Next) (k : ℕ) (st st' : List ℕ) → length doc ≤ 1048576 → at ≤ length doc → first-bad (drop at doc) ≡ none → Clear (drop at doc) clear
+pub seek-law : (doc : Text) (at b clear mc : ℕ) (r : Next) (k : ℕ) (st st' : List ℕ) → length doc ≤ document-limit → at ≤ length doc → first-bad (drop at doc) ≡ none → Clear (drop at doc) clear
     → BlanksAt (take (length doc - at) (drop at doc)) b → mc ≡ clear - b → NextAt (take (length doc - (at + b)) (drop (at + b) doc)) mc r
     → k ≡ kind-there (r .kind) (at + b) (length doc) → st' ≡ put-token st k (at + b) (r .len) (r .clear) → length st ≡ 212 → Sought doc at st st'
 seek-law doc at b clear mc r k st st' size within v c g em m ek es n =

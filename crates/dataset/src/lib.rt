@@ -1,4 +1,7 @@
 // The kinds of term in a table.
+ghost use mathlib.Core.Path.{_≡_};
+ghost use Rattle.text.specs.Text.{between};
+
 pub struct TermKind {}
 
 impl TermKind {
@@ -11,7 +14,9 @@ impl TermKind {
     pub const TAGGED: u32 = 4;
 
     // Whether the number is a kind's.
-    pub fn is_known(kind: u32) -> bool {
+    pub fn is_known(kind: u32) -> bool
+        ensures { λ r. ⌜ r ≡ between 1 4 kind ⌝ }
+    {
         if kind < TermKind::IRI {
             return false;
         }

@@ -1,4 +1,7 @@
 // The modes: TriG and Turtle.
+ghost use mathlib.Core.Path.{_≡_};
+ghost use lib.Dec.{leb};
+
 pub struct Mode {}
 
 impl Mode {
@@ -7,7 +10,9 @@ impl Mode {
     pub const TURTLE: u8 = 1;
 
     // Whether the number is a mode's.
-    pub fn is_known(mode: u8) -> bool {
+    pub fn is_known(mode: u8) -> bool
+        ensures { λ r. ⌜ r ≡ leb mode 1 ⌝ }
+    {
         mode <= Mode::TURTLE
     }
 }

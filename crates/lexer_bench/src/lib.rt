@@ -1,6 +1,8 @@
 // What the measuring program in bench/ calls.
+ghost use mathlib.Core.Path.{_≡_};
 ghost use Prim.Native.Nat.{_≤_};
 ghost use lib.ListN.{length};
+ghost use Rattle.lexer_bench.specs.Front.{valid-size};
 use lexer_words::names::minus;
 use utf8::Validity;
 
@@ -29,7 +31,9 @@ pub extern "C" fn bench_tokens(s: &[u8]) -> usize
 
 // How many bytes a text has up to its first bad sequence.
 #[no_mangle]
-pub extern "C" fn bench_utf8(s: &[u8]) -> usize {
+pub extern "C" fn bench_utf8(s: &[u8]) -> usize
+    ensures { λ r. ⌜ r ≡ valid-size (now (s .entry)) ⌝ }
+{
     match utf8::first_bad(s) {
         Validity::Valid => s.len(),
         Validity::BadAt(i) => i,

@@ -10,7 +10,7 @@ use lib.ListN.{length, getD, take, drop, length-drop}
 use lib.Seq.{getD-take, drop-drop, take-all}
 use Rattle.text.specs.Text.{Text}
 use Rattle.text.proofs.Compare.{by, contrary}
-use Rattle.limits.specs.Limits.{iri-limit}
+use Rattle.limits.specs.Limits.{document-limit, iri-limit}
 use Rattle.token.specs.Kind.{iris}
 use Rattle.token.specs.Tokens.{Token}
 use Rattle.escape.specs.Escape.{unescape, bad-escape}
@@ -49,7 +49,7 @@ inner-short : (n : ℕ) (s : Text) → length (inner n s) ≤ length s
 unfolding inner
 inner-short n s = omega (arith, short-take (length s - (n + n)) (drop n s), length-drop n s)
 
-pub between-size : (doc : Text) (at len n : ℕ) → Quoted doc at len n → length (between doc at len n) ≤ 1048576
+pub between-size : (doc : Text) (at len n : ℕ) → Quoted doc at len n → length (between doc at len n) ≤ document-limit
 between-size doc at len n q = omega (arith, inner-short n (take len (drop at doc)), short-take len (drop at doc), length-drop at doc, q .size)
 
 -- ---- Nodes
@@ -58,11 +58,11 @@ between-size doc at len n q = omega (arith, inner-short n (take len (drop at doc
 abbrev literal-node : ℕ → Node
 literal-node k = record { kind = k; start = 0; end = 0; form = Plain; text = Escaped }
 
-pub literal-fits : (k : ℕ) → 2 < k → k ≤ 5 → (doc : Text) (at len n : ℕ) → Quoted doc at len n → (work back text tag : Text) → text ≡ between doc at len n → length back ≤ iri-limit → length tag ≤ 1048576
+pub literal-fits : (k : ℕ) → 2 < k → k ≤ 5 → (doc : Text) (at len n : ℕ) → Quoted doc at len n → (work back text tag : Text) → text ≡ between doc at len n → length back ≤ iri-limit → length tag ≤ document-limit
     → NodeFits (literal-node k) work back text tag
 unfolding joined undo bad
 literal-fits k low high doc at len n q work back text tag e h t =
-    let size : length text ≤ 1048576 = rw e (between-size doc at len n q) in
+    let size : length text ≤ document-limit = rw e (between-size doc at len n q) in
     record {
       low = omega arith;
       high = high;
@@ -77,7 +77,7 @@ literal-fits k low high doc at len n q work back text tag e h t =
       text-slice = size;
     }
 
-pub address-fits : (a : Address) (token text buffer work back tag : Text) → Located a token text buffer work → back ≡ back-of a token buffer → length tag ≤ 1048576
+pub address-fits : (a : Address) (token text buffer work back tag : Text) → Located a token text buffer work → back ≡ back-of a token buffer → length tag ≤ document-limit
     → NodeFits (record { kind = 3; start = a .start; end = a .end; form = a .form; text = Escaped }) work back text tag
 unfolding undo bad
 address-fits a token text buffer work back tag l e t =
@@ -201,7 +201,7 @@ tag-bytes doc at len = let e : at + len - (at + 1) ≡ len - 1 = omega arith in 
     behind-one (suc n) [] = take-none (suc n - 1)
     behind-one (suc n) (c ∷ s) = let e : suc n - 1 ≡ n = omega arith in rw e
 
-pub tag-size : (doc : Text) (at len n : ℕ) (i j : ℕ) → Quoted doc at len n → length (take i (drop j doc)) ≤ 1048576
+pub tag-size : (doc : Text) (at len n : ℕ) (i j : ℕ) → Quoted doc at len n → length (take i (drop j doc)) ≤ document-limit
 tag-size doc at len n i j q = omega (arith, short-take i (drop j doc), length-drop j doc, q .size)
 
 module _ (doc : Text) (x y at len n : ℕ) (work work' : Text) (t t' : Tables) (st st' : List ℕ) (r : ℕ) where

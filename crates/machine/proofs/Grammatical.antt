@@ -55,7 +55,7 @@ module _ {n : ℕ} {ls : List Lexeme} {v : Option ℕ} where
   when-eight (eighth {p = x} i q r) p e = let f : p ≡ x = cc in (i, q, f ∙ r)
   when-eight (other {c = c} j t q r) p e = let f : c ≡ 8 = cc in absurd (subst (λ x. T (not (eqb x 8))) f t)
 
-  when-fails : {o : Outcome} → Judged n ls v o → (i : ℕ) → v ≡ some i → (o ≡ refused levels (place-of n ls i)) ⊎ Before n ls i o
+  when-fails : {o : Outcome} → Judged n ls v o → (i : ℕ) → v ≡ some i → (o ≡ refused 8 (place-of n ls i)) ⊎ Before n ls i o
   when-fails (fine q r) i e = let z : _≡_ {A = ℕ} 0 1 = cc in absurd (omega arith)
   when-fails (eighth {p = p} h q r) i e = let f : h ≡ i = cc in inl (ap (refused 8) (r ∙ ap (place-of n ls) f))
   when-fails (other {c = c} {p = p} j t q r) i e = inr (record { number = c; at = p; token-number = j; is = refl; not-8 = t; stands-at = q; goes-before = r i e })
@@ -88,7 +88,7 @@ module _ (mode : Mode) (room : Room) (base : Text) (n : ℕ) (ls : List Lexeme) 
       (i, refused-iff mode ts i .0 (sym same-verdict ∙ q), r)
 
   -- where the grammar fails, 8 is answered, unless another refusal goes before;
-  pub fails-eight : (i : ℕ) → GrammarFailsAt mode ts i → (outcome ≡ refused levels (place-of n ls i)) ⊎ Before n ls i outcome
+  pub fails-eight : (i : ℕ) → GrammarFailsAt mode ts i → (outcome ≡ refused 8 (place-of n ls i)) ⊎ Before n ls i outcome
   fails-eight i f = when-fails (judged mode room n ls (start-state base)) i (same-verdict ∙ refused-iff mode ts i .1 f)
 
   -- and what has a derivation is accepted, unless something other than the grammar refuses it.

@@ -1,4 +1,7 @@
 // The answers of the reader and the writer by number.
+ghost use mathlib.Core.Path.{_≡_};
+ghost use lib.Dec.{leb};
+
 pub struct Answer {}
 
 impl Answer {
@@ -7,7 +10,9 @@ impl Answer {
     pub const UNUSABLE: u8 = 18;
 
     // Whether the number is an answer's.
-    pub fn is_known(number: u8) -> bool {
+    pub fn is_known(number: u8) -> bool
+        ensures { λ r. ⌜ r ≡ leb number 18 ⌝ }
+    {
         number <= Answer::UNUSABLE
     }
 }

@@ -4,7 +4,7 @@
 ghost use mathlib.Core.Path.{_≡_};
 ghost use Prim.Native.Nat.{_+_, _-_, _≤_, _<_};
 ghost use lib.ListN.{length, take, drop};
-ghost use Rattle.limits.specs.Limits.{work-size};
+ghost use Rattle.limits.specs.Limits.{document-limit, work-size};
 ghost use Rattle.form.specs.Form.{undo, joined};
 ghost use Rattle.dataset.specs.Terms.{iri, blank, label, literal, tagged};
 ghost use Rattle.index.specs.Holds.{Finds};
@@ -264,7 +264,7 @@ fn tally_label(
     text: &[u8],
     t: Tally,
 ) -> Tally
-    requires { ⌜ Held (now work) (now terms) (now store) counts × (((0 < length (now text)) × (length (now text) ≤ 1048576)) × Small t 8000000000) ⌝ }
+    requires { ⌜ Held (now work) (now terms) (now store) counts × (((0 < length (now text)) × (length (now text) ≤ document-limit)) × Small t 8000000000) ⌝ }
     ensures { λ r. ⌜ Tallies (now (work .entry)) (now (terms .entry)) (now (store .entry)) counts (λ ts. count-term ts (blank (label (now (text .entry)))) t) r ⌝ }
 {
     let sort = Sort {
@@ -294,7 +294,7 @@ fn tally_tagged(
     tag: &[u8],
     t: Tally,
 ) -> Tally
-    requires { ⌜ Held (now work) (now terms) (now store) counts × (((length (undo form (now text)) ≤ 1048576) × (length (now tag) ≤ 1048576)) × Small t 8000000000) ⌝ }
+    requires { ⌜ Held (now work) (now terms) (now store) counts × (((length (undo form (now text)) ≤ document-limit) × (length (now tag) ≤ document-limit)) × Small t 8000000000) ⌝ }
     ensures { λ r. ⌜ Tallies (now (work .entry)) (now (terms .entry)) (now (store .entry)) counts (λ ts. count-term ts (tagged (undo form (now (text .entry))) (now (tag .entry))) t) r ⌝ }
 {
     let sort = Sort {
@@ -316,7 +316,7 @@ fn tally_literal(
     text: &[u8],
     t: Tally,
 ) -> Tally
-    requires { ⌜ Held (now work) (now terms) (now store) counts × ((length (undo form (now text)) ≤ 1048576) × Small t 9000000000) ⌝ }
+    requires { ⌜ Held (now work) (now terms) (now store) counts × ((length (undo form (now text)) ≤ document-limit) × Small t 9000000000) ⌝ }
     ensures { λ r. ⌜ LiteralTallies (now (work .entry)) (now (terms .entry)) (now (store .entry)) counts d (undo form (now (text .entry))) t r ⌝ }
 {
     let sort = Sort {
@@ -338,7 +338,7 @@ fn tally_typed(
     text: &[u8],
     t: Tally,
 ) -> Tally
-    requires { ⌜ Held (now work) (now terms) (now store) counts × ((Named node (now work) (now back) × (length (undo (node .text) (now text)) ≤ 1048576)) × Small t 8000000000) ⌝ }
+    requires { ⌜ Held (now work) (now terms) (now store) counts × ((Named node (now work) (now back) × (length (undo (node .text) (now text)) ≤ document-limit)) × Small t 8000000000) ⌝ }
     ensures { λ r. ⌜ Tallies (now (work .entry)) (now (terms .entry)) (now (store .entry)) counts (λ ts. count-term ts (literal (undo (node .text) (now (text .entry))) (node-iri node (now (work .entry)) (now (back .entry)))) (count-iri ts p (node-iri node (now (work .entry)) (now (back .entry))) t)) r ⌝ }
 {
     let start = node.start;

@@ -5,7 +5,7 @@ use Prim.Native.Nat.{ℕ, zero, suc, _-_, _≤_, _<_}
 use lib.Dec.{eqb}
 use lib.ListN.{length, take, drop}
 use Rattle.text.specs.Text.{Text, cond}
-use Rattle.limits.specs.Limits.{iri-limit, work-size}
+use Rattle.limits.specs.Limits.{document-limit, iri-limit, work-size}
 use Rattle.form.specs.Form.{undo, bad, joined}
 use Rattle.dataset.specs.Terms.{iri, blank, tagged, label, bracket}
 use Rattle.machine.specs.Memory.{Write, return, _>>=_, _>>_, term, new-term, typed}
@@ -78,6 +78,6 @@ pub record NodeFits (n : Node) (work back text tag : Text) : Type 0 where
   pub text-right : bad (n .text) text ≡ false
   pub label-text : n .kind ≡ 2 → 0 < length text
   pub short : length (node-iri n work back) ≤ iri-limit
-  pub text-short : length (undo (n .text) text) ≤ 1048576
-  pub tag-short : length tag ≤ 1048576
-  pub text-slice : length text ≤ 1048576
+  pub text-short : length (undo (n .text) text) ≤ document-limit
+  pub tag-short : length tag ≤ document-limit
+  pub text-slice : length text ≤ document-limit

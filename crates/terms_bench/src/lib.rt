@@ -1,6 +1,6 @@
 // The call that bench/terms.c times. C keeps what it requires.
 ghost use mathlib.Core.List.{[]};
-ghost use Prim.Native.Nat.{_≤_};
+ghost use Prim.Native.Nat.{_≤_, _<_};
 ghost use lib.ListN.{length, drop};
 ghost use Rattle.limits.specs.Limits.{work-size};
 ghost use Rattle.index.specs.Holds.{Searchable, iri-sort};
@@ -22,6 +22,7 @@ pub extern "C" fn share_iri(
     text: &[u8],
 ) -> usize
     requires { ⌜ Searchable (now terms) (now store) (drop work-size (now work)) (counts count used) × (TermFits (now terms) (now store) (counts count used) iri-sort (now text) [] × (work-size ≤ length (now work))) ⌝ }
+    ensures { λ r. ⌜ 0 < r ⌝ }
 {
     let c = Counts {
         terms: count,
