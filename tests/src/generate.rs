@@ -62,11 +62,20 @@ pub fn subject(random: &mut Random) -> Subject {
     }
     // A document is read in the other mode once in a while, or in none.
     let mode = match random.below(300) {
-        0 => 2 + random.below(254) as u8,
+        0 => no_mode(2 + random.below(254) as u32),
         1..=25 => 1 - mode,
         _ => mode,
     };
     Subject { document, base, mode }
+}
+
+/// A mode of one byte; or, of an even one, a larger mode whose lowest byte is that of TriG.
+fn no_mode(mode: u32) -> u32 {
+    if mode % 2 == 0 {
+        mode << 7
+    } else {
+        mode
+    }
 }
 
 fn document(random: &mut Random, mode: u32, base: bool) -> Vec<u8> {

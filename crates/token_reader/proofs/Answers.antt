@@ -11,9 +11,8 @@ use lib.Seq.{length-take-le}
 use borrow.Author.Tests.{eqb-true, eqb-false}
 use Rattle.text.specs.Text.{Text}
 use Rattle.text.proofs.Compare.{by}
-use Rattle.utf8.specs.Utf8.{decode, decode-from, bad-from, first-bad, width}
+use Rattle.utf8.specs.Utf8.{decode, decode-from, bad-from, first-bad}
 use Rattle.utf8.proofs.Decoding.{tail-eq}
-use Rattle.token.specs.Kind.{kind-code, kind-of-code}
 use Rattle.token.specs.Regular.{Match, nothing, hit}
 use Rattle.token.specs.Terminals.{token-at}
 use Rattle.token.specs.Tokens.{between, lexemes-from}

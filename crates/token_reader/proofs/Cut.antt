@@ -1,7 +1,7 @@
 -- A document that is cut where the first bad sequence behind a place begins: what stands before it is UTF-8.
-use mathlib.Core.Path.{_≡_, refl, ap, sym, subst, _∙_}
+use mathlib.Core.Path.{_≡_, refl, ap, sym, _∙_}
 use mathlib.Core.List.{List, [], _∷_, _++_, append-assoc}
-use mathlib.Core.Option.{Option, none, some}
+use mathlib.Core.Option.{none, some}
 use Prim.Native.Nat.{ℕ, zero, suc, pred, _+_, _≤_}
 use native.Mathlib.Omega.{arith}
 use lib.Dec.{eqb, eqb·suc-zero}
@@ -9,7 +9,6 @@ use lib.ListN.{length, take, drop, length-append, length-drop, take-append-drop}
 use lib.Seq.{take-at, drop-at, drop-drop, drop-append-le, length-take-le}
 use Rattle.text.specs.Text.{Text, cond}
 use Rattle.utf8.specs.Utf8.{sequence-size, code-point, bad-from, first-bad, decode, encode, encodes, width}
-use Rattle.utf8.specs.Scalar.{Encodes}
 use Rattle.utf8.proofs.Encoding.{length-encode, size-reads}
 use Rattle.utf8.proofs.Decoding.{valid-encoded, encoded-valid}
 use Rattle.token.specs.Regular.{size}
@@ -83,12 +82,12 @@ module _ (doc : Text) (place p : ℕ) (i : place ≤ length doc) (v : first-bad 
       let h : place + p ≤ length doc = omega arith in
       (h, length-take-le (place + p) doc h)
 
-  cut-drop : (at : ℕ) → at ≤ place + p → drop at doc ≡ drop at (cut doc place p) ++ (bad doc place p)
+  cut-drop : (at : ℕ) → at ≤ place + p → drop at doc ≡ drop at (cut doc place p) ++ bad doc place p
   cut-drop at h =
       let l = cut-length .1 in
       ap (drop at) (sym (take-append-drop (place + p) doc)) ∙ drop-append-le at (cut doc place p) (bad doc place p) (omega arith)
 
-  bad-is : (bad doc place p) ≡ broken .z
+  bad-is : bad doc place p ≡ broken .z
   bad-is = sym (drop-drop p place doc) ∙ ap (drop p) (broken .front .bytes) ∙ drop-at (encodes (broken .cs)) (broken .z) p before
 
   -- It is UTF-8 from the place on ..
@@ -109,7 +108,7 @@ module _ (doc : Text) (place p : ℕ) (i : place ≤ length doc) (v : first-bad 
   pub cut-front : (at : ℕ) → at ≤ place + p → first-bad (drop at (cut doc place p)) ≡ none → Front (drop at doc) (decode (drop at (cut doc place p))) (bad doc place p)
   cut-front at h w = record {
     scalars = valid-encoded (drop at (cut doc place p)) w .scalars;
-    bytes = cut-drop at h ∙ ap (λ (x : Text). x ++ (bad doc place p)) (valid-encoded (drop at (cut doc place p)) w .bytes);
+    bytes = cut-drop at h ∙ ap (λ (x : Text). x ++ bad doc place p) (valid-encoded (drop at (cut doc place p)) w .bytes);
     bad = ap sequence-size bad-is ∙ broken .front .bad;
   }
 

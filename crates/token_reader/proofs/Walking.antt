@@ -1,4 +1,4 @@
--- The two structs as the walks use them: their types, how their values are spelled, and that those values have the types.
+-- The two structs as the walks use them: their types, how their values are spelled, that those values have the types, and the reading of a field.
 use mathlib.Core.Path.{_≡_, sym, subst}
 use mathlib.Core.List.{List, [], _∷_}
 use mathlib.Core.Option.{some}
