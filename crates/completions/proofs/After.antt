@@ -1,7 +1,7 @@
 -- The machine after some tokens and the derivations of their completions.
 use mathlib.Core.Path.{_≡_, refl, sym, ap, _∙_}
 use mathlib.Core.List.{List, [], _∷_, _++_}
-use mathlib.Core.Bool.{Bool, false}
+use mathlib.Core.Bool.{Bool}
 use mathlib.Core.Option.{Option, none, some}
 use Prim.Native.Nat.{ℕ, zero, suc}
 use lib.ListN.{take, drop}
@@ -73,9 +73,9 @@ module _ (mode : Mode) where
       (x, p, some-same (sym (agreement mode x base) ∙ ap (λ (l : List Token). final mode l (statement []) (start-memory base)) p ∙ e))
 
   -- Tokens that the machine takes from the state after i tokens to the end complete these.
-  pub completes : (base : Text) (i : ℕ) (ls : List Lexeme) (us : List Token) (s : State) (M : Memory) → after-rules mode i ls (start-state base) ≡ some s
-      → tied-to (drop i ls) ≡ false → tag-first us ≡ false → final mode us (s .open-now) (s .memory) ≡ some M
-      → (c : Completion mode (take i (tokens-of ls))) × (tables mode (c .derivation) base ≡ M)
-  completes base i ls us s M e h u f =
+  pub completes : (tied : Bool) (base : Text) (i : ℕ) (ls : List Lexeme) (us : List Token) (s : State) (M : Memory) → after-rules mode i ls (start-state base) ≡ some s
+      → tied-to (drop i ls) ≡ tied → tag-first us ≡ tied → final mode us (s .open-now) (s .memory) ≡ some M
+      → (c : Completion tied mode (take i (tokens-of ls))) × (tables mode (c .derivation) base ≡ M)
+  completes tied base i ls us s M e h u f =
       let (x, p, q) = final-tables (take i (tokens-of ls) ++ us) base M (after-final i ls us (start-state base) s e (sym (same-tie us) ∙ u ∙ sym h) ∙ f) in
       (record { rest = us; complete = u; derivation = x; tokens = p }, q)

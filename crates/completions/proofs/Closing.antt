@@ -6,12 +6,12 @@ use mathlib.Core.Option.{some}
 use Prim.Native.Nat.{ℕ, _+_}
 use lib.ListN.{replicate}
 use Rattle.text.specs.Text.{Text}
-use Rattle.token.specs.Kind.{Kind, dot, close-bracket, close-paren, open-brace, close-brace, IRIREF, «PNAME_NS»}
+use Rattle.token.specs.Kind.{Kind, dot, close-bracket, close-paren, open-brace, close-brace, carets, IRIREF, «PNAME_NS»}
 use Rattle.token.specs.Tokens.{Token}
 use Rattle.grammar.specs.Productions.{Mode}
 use Rattle.dataset.specs.Constructors.{prefix}
 use Rattle.machine.specs.Memory.{Memory, iri-term, typed-by, row, enter, declare-prefix, declare-base}
-use Rattle.machine.specs.Frame.{Ending, full-stop, brace, bracket-end, Place, element-of, Cells, Frame, graph-label, closing-label, graph-body, label-or-subject, triples-or-end, verb, verb-or-end, object, after-object, after-semicolon, bracket, list, datatype, prefix-name, namespace-of, new-base, last-dot, directive, statement}
+use Rattle.machine.specs.Frame.{Ending, full-stop, brace, bracket-end, Place, element-of, Cells, Frame, graph-label, closing-label, graph-body, label-or-subject, triples-or-end, verb, verb-or-end, object, after-object, after-semicolon, bracket, list, suffix, datatype, prefix-name, namespace-of, new-base, last-dot, directive, statement}
 use Rattle.machine.specs.Rules.{rules, hold, new-cell, extended, end-list, after-node}
 use Rattle.machine.proofs.Agreement.{final, at-finish, taken}
 
@@ -109,6 +109,11 @@ module _ (mode : Mode) (K : List Frame) (us : List Token) where
     pub close-type : (q : Place) (at : ℕ) (s : Text) (m : Memory) → Comes (datatype q at s) (name v ∷ []) m (typed-at q at s m)
     unfolding final taken rules
     close-type q at s m = refl
+
+    -- A string's tie: ^^ and a datatype.
+    pub close-suffix : (q : Place) (at : ℕ) (s : Text) (m : Memory) → Comes (suffix q at s) (mark carets ∷ name v ∷ []) m (typed-at q at s m)
+    unfolding final taken rules
+    close-suffix q at s m = refl
 
     -- A list: one element more, and its end.
     abbrev celled : Place → ℕ → Cells → Memory → ℕ × Memory

@@ -1,5 +1,6 @@
 -- What tokens write, computed: of a list whose bracket is open nothing but what stands before it, of a string its row.
 use mathlib.Core.Path.{_≡_, refl, ap}
+use mathlib.Core.Bool.{false}
 use mathlib.Core.List.{[], _∷_}
 use Prim.Native.Nat.{ℕ, _*_}
 use native.Mathlib.Omega.{arith}
@@ -21,14 +22,14 @@ use Rattle.completions.proofs.FailsFirst.{fails-written, fails-answer, 
 abbrev open-list : Text
 open-list = ascii "<x:s> <x:p> ( ."
 
-list-written : Written trig [] (take 3 (document-tokens open-list)) [] (iri (ascii "x:s") ∷ iri (ascii "x:p") ∷ [])
+list-written : Written false trig [] (take 3 (document-tokens open-list)) [] (iri (ascii "x:s") ∷ iri (ascii "x:p") ∷ [])
 unfolding computing after-rules obey machine-verdict follow finished
 list-written = fails-written trig [] 3 (lexemes open-list) (record { state = _; reached = refl; here = refl })
 
 abbrev string-alone : Text
 string-alone = ascii "<x:s> <x:p> \"a\" <x:q>"
 
-string-written : Written trig [] (take 3 (document-tokens string-alone))
+string-written : Written false trig [] (take 3 (document-tokens string-alone))
     (record { graph = 0; subject = 1; predicate = 2; object = 4; position = 12 } ∷ [])
     (iri (ascii "x:s") ∷ iri (ascii "x:p") ∷ iri xsd-string ∷ literal (ascii "a") xsd-string ∷ [])
 unfolding computing after-rules obey machine-verdict follow finished

@@ -19,7 +19,7 @@ use Rattle.table.specs.Layout.{Row}
 use Rattle.table.specs.Tables.{store-size}
 use Rattle.table.proofs.Numbers.{not-none}
 use Rattle.machine.specs.Memory.{Memory, start-memory, Write}
-use Rattle.machine.specs.Frame.{Place, Frame, suffix, Open, statement}
+use Rattle.machine.specs.Frame.{Place, Frame, graph-label, closing-label, graph-body, label-or-subject, triples-or-end, verb, verb-or-end, object, after-object, after-semicolon, bracket, list, suffix, datatype, Open, directive, statement}
 use Rattle.machine.specs.Rules.{find-rule, rules}
 use Rattle.machine.specs.Step.{State, tied-to}
 use Rattle.machine.specs.Call.{Lent, Room, room-of, mode-of}
@@ -29,12 +29,13 @@ use Rattle.machine.proofs.Decide.{tied-kinds}
 use Rattle.machine.proofs.Link.{follow, machine-verdict}
 use Rattle.machine.proofs.Grammatical.{machine-grammar}
 use Rattle.machine.proofs.Made.{some-same}
-use Rattle.machine.proofs.Demands.{RunFails, run-fails-answer, eight-run-fails}
+use Rattle.machine.proofs.Demands.{after-rules, RunFails, run-fails-answer, eight-run-fails}
 use Rattle.completions.specs.Written.{Beginning, Written}
 use Rattle.completions.specs.FailsFirst.{grammar-refusal, FailsFirst}
-use Rattle.completions.proofs.Sane.{CalmOpen, after-sane}
+use Rattle.completions.proofs.Complete.{is-suffix, awaits}
+use Rattle.completions.proofs.Sane.{start-sane, after-sane}
 use Rattle.completions.proofs.Largest.{written}
-use Rattle.completions.proofs.Untied.{NotAwaiting, tokens-cut, drop-cut, cut-after, Fails, fails, later-next}
+use Rattle.completions.proofs.Untied.{tokens-cut, drop-cut, cut-after, Fails, fails, later-next}
 
 -- ---- What the tokens write is one thing
 
@@ -51,8 +52,9 @@ both-ways (x ∷ xs) (y ∷ ys) (us, e) (vs, f) =
     cons : {A : Type 0} {a b : A} {ks ls : List A} → a ≡ b → ks ≡ ls → a ∷ ks ≡ b ∷ ls
     cons p q = cc
 
-pub written-once : (mode : Mode) (base : Text) (ts : List Token) (rs rs′ : List Row) (us us′ : List Term) → Written mode base ts rs us → Written mode base ts rs′ us′ → (rs ≡ rs′) × (us ≡ us′)
-written-once mode base ts rs rs′ us us′ a b =
+pub written-once : (tied : Bool) (mode : Mode) (base : Text) (ts : List Token) (rs rs′ : List Row) (us us′ : List Term) → Written tied mode base ts rs us → Written tied mode base ts rs′ us′
+    → (rs ≡ rs′) × (us ≡ us′)
+written-once tied mode base ts rs rs′ us us′ a b =
     let (p, q) = a .largest rs′ us′ (b .common) in
     let (r, s) = b .largest rs us (a .common) in
     (both-ways rs rs′ r p, both-ways us us′ s q)
@@ -76,22 +78,52 @@ module _ (mode : Mode) (q : Place) (at : ℕ) (x : Text) (K : List Frame) (m : M
       go none p w = rule-there (eqb (kind-code LANGTAG) (kind-code (u .kind))) (eqb (kind-code carets) (kind-code (u .kind))) _ _ t p
       go (some y) p w = let (j, a, b) = later-next mode (machine-verdict mode (y m .0) (y m .1) (tokens-of ls)) 0 w in let z : 0 ≡ suc j = b in omega arith
 
-not-awaiting : (mode : Mode) (base : Text) (i : ℕ) (ls : List Lexeme) (f : Fails mode i ls (start-state base)) → NotAwaiting (f .state .open-now)
-not-awaiting mode base i ls f q at x K e =
-    by (tied-to (drop i ls))
-    (λ t. awaited-goes mode q at x K (f .state .memory) (drop i ls) t (subst (λ (o : Open). machine-verdict mode o (f .state .memory) (tokens-of (drop i ls)) ≡ some 0) e (f .here)))
-    (λ t.
-    let c = after-sane mode i ls (start-state base) (f .state) (f .reached) tt tt .1 in
-    let d : CalmOpen false (statement (suffix q at x ∷ K)) = subst (λ (o : Open). CalmOpen false o) e (subst (λ (b : Bool). CalmOpen b (f .state .open-now)) t c) in
-    d)
+suffix-frame : (f : Frame) → is-suffix f ≡ true → (q : Place) × (at : ℕ) × (x : Text) × (f ≡ suffix q at x)
+suffix-frame graph-label h = contrary (sym h)
+suffix-frame (closing-label g) h = contrary (sym h)
+suffix-frame (graph-body g) h = contrary (sym h)
+suffix-frame (label-or-subject n) h = contrary (sym h)
+suffix-frame triples-or-end h = contrary (sym h)
+suffix-frame (verb s e) h = contrary (sym h)
+suffix-frame (verb-or-end s e) h = contrary (sym h)
+suffix-frame (object s p e) h = contrary (sym h)
+suffix-frame (after-object s p e) h = contrary (sym h)
+suffix-frame (after-semicolon s e) h = contrary (sym h)
+suffix-frame (bracket q n) h = contrary (sym h)
+suffix-frame (list q at cs) h = contrary (sym h)
+suffix-frame (suffix q at x) h = (q, at, x, refl)
+suffix-frame (datatype q at s) h = contrary (sym h)
+
+not-awaiting : (mode : Mode) (base : Text) (i : ℕ) (ls : List Lexeme) (f : Fails mode i ls (start-state base)) → awaits (f .state .open-now) ≡ false
+not-awaiting mode base i ls f =
+    by (awaits (f .state .open-now))
+    (λ a. go (f .state .open-now) (f .here) a (after-sane mode i ls (start-state base) (f .state) (f .reached) (start-sane base) (λ z. contrary (sym z)) .1 a))
+    (λ a. a)
+  where
+    go : {X : Type 0} (o : Open) → machine-verdict mode o (f .state .memory) (tokens-of (drop i ls)) ≡ some 0 → awaits o ≡ true → tied-to (drop i ls) ≡ true → X
+    go (directive d) v a t = contrary (sym a)
+    go (statement []) v a t = contrary (sym a)
+    go (statement (g ∷ K)) v a t =
+        let (q, at, x, e) = suffix-frame g a in
+        absurd
+        (awaited-goes mode q at x K (f .state .memory) (drop i ls) t (subst (λ (y : Frame). machine-verdict mode (statement (y ∷ K)) (f .state .memory) (tokens-of (drop i ls)) ≡ some 0) e v))
 
 -- ---- The failure
 
--- Where the machine fails, what the tokens before write is what it has written.
-pub fails-written : (mode : Mode) (base : Text) (i : ℕ) (ls : List Lexeme) (f : Fails mode i ls (start-state base)) → Written mode base (take i (tokens-of ls)) (f .state .memory .rows) (f .state .memory .terms)
+-- What i tokens write is what the machine has written after them.
+pub state-written : (mode : Mode) (base : Text) (i : ℕ) (ls : List Lexeme) (s : State) → after-rules mode i ls (start-state base) ≡ some s
+    → Written (awaits (s .open-now)) mode base (take i (tokens-of ls)) (s .memory .rows) (s .memory .terms)
+state-written mode base i ls s e =
+    by (awaits (s .open-now))
+    (λ a. written mode base i ls s e (after-sane mode i ls (start-state base) s e (start-sane base) (λ z. contrary (sym z)) .1 a ∙ sym a))
+    (λ a.
+    subst (λ (l : List Token). Written (awaits (s .open-now)) mode base l (s .memory .rows) (s .memory .terms)) (tokens-cut i ls)
+    (written mode base i (take i ls) s (cut-after mode i ls (start-state base) s e a) (drop-cut i ls ∙ sym a)))
+
+-- Where the machine fails no string awaits its tag or type.
+pub fails-written : (mode : Mode) (base : Text) (i : ℕ) (ls : List Lexeme) (f : Fails mode i ls (start-state base)) → Written false mode base (take i (tokens-of ls)) (f .state .memory .rows) (f .state .memory .terms)
 fails-written mode base i ls f =
-    subst (λ (l : List Token). Written mode base l (f .state .memory .rows) (f .state .memory .terms)) (tokens-cut i ls)
-    (written mode base i (take i ls) (f .state) (cut-after mode i ls (start-state base) (f .state) (f .reached) (not-awaiting mode base i ls f)) (drop-cut i ls))
+    subst (λ (b : Bool). Written b mode base (take i (tokens-of ls)) (f .state .memory .rows) (f .state .memory .terms)) (not-awaiting mode base i ls f) (state-written mode base i ls (f .state) (f .reached))
 
 fits-same : (room : Room) (m m′ : Memory) → m .rows ≡ m′ .rows → m .terms ≡ m′ .terms → Fits room m → Fits room m′
 fits-same room m m′ p q f =
@@ -129,7 +161,7 @@ module _ (doc : Text) (mode : ℕ) (base : Text) (lent : Lent) (i : ℕ) where
   to-the-run f =
       let g = machine-fails (f .fails) in
       let r = f .room in
-      let (p, q) = written-once (mode-of mode) base (take i (document-tokens doc)) _ _ _ _ (r .written) (fails-written (mode-of mode) base i (lexemes doc) g) in
+      let (p, q) = written-once false (mode-of mode) base (take i (document-tokens doc)) _ _ _ _ (r .written) (fails-written (mode-of mode) base i (lexemes doc) g) in
       record {
         usable = f .usable;
         utf8 = f .utf8;

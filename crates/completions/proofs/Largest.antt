@@ -2,19 +2,19 @@
 use mathlib.Core.Path.{_≡_, refl, sym, ap, _∙_, subst}
 use mathlib.Core.Logic.{_⊎_, inl, inr, ⊎-elim}
 use mathlib.Core.List.{List, [], _∷_, _++_}
-use mathlib.Core.Bool.{Bool, false}
+use mathlib.Core.Bool.{Bool}
 use mathlib.Core.Option.{some}
 use Prim.Native.Nat.{ℕ, suc, _+_, _≤_, _<_}
 use native.Mathlib.Omega.{arith}
 use lib.ListN.{length, take, drop, length-append}
 use Rattle.text.specs.Text.{Text}
+use Rattle.text.proofs.Compare.{contrary}
 use Rattle.token.specs.Tokens.{Token, Lexeme, tokens-of}
 use Rattle.grammar.specs.Productions.{Mode}
 use Rattle.dataset.specs.Terms.{Term, iri, blank, cell}
 use Rattle.table.specs.Layout.{Row}
 use Rattle.table.proofs.Numbers.{not-none}
 use Rattle.machine.specs.Memory.{Memory}
-use Rattle.machine.specs.Frame.{Open, directive, statement}
 use Rattle.machine.specs.Step.{State, tied-to}
 use Rattle.machine.specs.Read.{start-state}
 use Rattle.machine.specs.Construction.{tables}
@@ -25,8 +25,8 @@ use Rattle.completions.proofs.After.{same-tie, begins-tables, completes
 use Rattle.completions.proofs.Closing.{long-name}
 use Rattle.completions.proofs.Names.{hefts, fresh, replicate-length}
 use Rattle.completions.proofs.Effects.{First, Far}
-use Rattle.completions.proofs.Complete.{Ends, Settled, ends}
-use Rattle.completions.proofs.Sane.{ObjectsIn, calm-rid, CalmOpen, after-sane}
+use Rattle.completions.proofs.Complete.{awaits, Ends, ends}
+use Rattle.completions.proofs.Sane.{start-sane, after-sane}
 
 -- ---- Beginnings
 
@@ -72,35 +72,36 @@ object-there : (n : ℕ) (xs : List Row) (r : Row) (us : List Row) → ObjectsTh
 object-there n [] r us o = o .0
 object-there n (x ∷ xs) r us o = object-there n xs r us (o .1)
 
-settled : (mode : Mode) (v : ℕ) (o : Open) → CalmOpen false o → Settled mode v o
-settled mode v (directive d) c = tt
-settled mode v (statement fs) c = calm-rid fs c
+-- ---- The state after i tokens, behind which a tag or ^^ follows exactly if a string awaits it
 
--- ---- The state after i tokens, the last of which no tag and no ^^ follows
+module _ (mode : Mode) (base : Text) (i : ℕ) (ls : List Lexeme) (s : State) (e : after-rules mode i ls (start-state base) ≡ some s) (h : tied-to (drop i ls) ≡ awaits (s .open-now)) where
+  abbrev tied : Bool
+  tied = awaits (s .open-now)
 
-module _ (mode : Mode) (base : Text) (i : ℕ) (ls : List Lexeme) (s : State) (e : after-rules mode i ls (start-state base) ≡ some s) (h : tied-to (drop i ls) ≡ false) where
   abbrev tokens : List Token
   tokens = take i (tokens-of ls)
 
   abbrev m : Memory
   m = s .memory
 
-  begins : (c : Completion mode tokens) → Extends m (tables mode (c .derivation) base)
+  begins : (c : Completion tied mode tokens) → Extends m (tables mode (c .derivation) base)
   begins c = begins-tables mode base i ls (c .rest) s e (sym (same-tie (c .rest)) ∙ c .complete ∙ sym h) (c .derivation) (c .tokens)
 
-  sane : ObjectsIn m × CalmOpen (tied-to (drop i ls)) (s .open-now)
-  sane = after-sane mode i ls (start-state base) s e tt tt
-
-  pub common : Common mode base tokens (m .rows) (m .terms)
-  common = record { rows-begin = λ c. (begins c .new-rows, begins c .rows); terms-begin = λ c. (begins c .new-terms, begins c .terms); there = sane .0 }
+  pub common : Common tied mode base tokens (m .rows) (m .terms)
+  common =
+      record {
+        rows-begin = λ c. (begins c .new-rows, begins c .rows);
+        terms-begin = λ c. (begins c .new-terms, begins c .terms);
+        there = after-sane mode i ls (start-state base) s e (start-sane base) (λ z. contrary (sym z)) .0 .objects;
+      }
 
   ending : (v : ℕ) → Ends mode v (s .open-now) m
-  ending v = ends mode v (s .open-now) m (settled mode v (s .open-now) (subst (λ (b : Bool). CalmOpen b (s .open-now)) h (sane .1)))
+  ending v = ends mode v (s .open-now) m
 
-  completion : (v : ℕ) → (c : Completion mode tokens) × (tables mode (c .derivation) base ≡ ending v .outcome)
-  completion v = completes mode base i ls (ending v .rest) s (ending v .outcome) e h (ending v .untied) (ending v .runs)
+  completion : (v : ℕ) → (c : Completion tied mode tokens) × (tables mode (c .derivation) base ≡ ending v .outcome)
+  completion v = completes mode tied base i ls (ending v .rest) s (ending v .outcome) e h (ending v .tie) (ending v .runs)
 
-  module _ (rows′ : List Row) (terms′ : List Term) (C : Common mode base tokens rows′ terms′) where
+  module _ (rows′ : List Row) (terms′ : List Term) (C : Common tied mode base tokens rows′ terms′) where
     outcome-terms : (v : ℕ) → Beginning terms′ (ending v .outcome .terms)
     outcome-terms v = let (c, q) = completion v in let (us, p) = C .terms-begin c in (us, ap (λ (x : Memory). x .terms) (sym q) ∙ p)
 
@@ -150,5 +151,5 @@ module _ (mode : Mode) (base : Text) (i : ℕ) (ls : List Lexeme) (s : State) (e
         (compare rows′ (m .rows) us (x .new-rows) (sym p ∙ x .rows))
 
   -- The largest tables with which all completions' tables begin.
-  pub written : Written mode base tokens (m .rows) (m .terms)
+  pub written : Written tied mode base tokens (m .rows) (m .terms)
   written = record { common = common; largest = λ rows′ terms′ C. (rows-most rows′ terms′ C, terms-most rows′ terms′ C) }

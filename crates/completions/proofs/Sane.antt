@@ -1,16 +1,18 @@
 -- After every token: no row has an object that is not there, and only a string that is followed by a tag or ^^ awaits its tag or type.
-use mathlib.Core.Path.{_≡_, refl, ap, subst}
+use mathlib.Core.Path.{_≡_, refl, sym, ap, _∙_, subst}
 use mathlib.Core.List.{List, [], _∷_, _++_}
-use mathlib.Core.Bool.{Bool, true, false, not, _&&_, _||_}
+use mathlib.Core.Bool.{Bool, true, false, not, _&&_}
 use mathlib.Core.Option.{Option, none, some}
 use Prim.Native.Nat.{ℕ, zero, suc, _≤_}
 use native.Mathlib.Omega.{arith}
 use lib.Dec.{T}
 use lib.ListN.{length, drop, length-append}
 use Rattle.text.specs.Text.{Text}
-use Rattle.text.proofs.Booleans.{and-0, and-1, and-in, or-0}
-use Rattle.token.specs.Kind.{Kind, among, at-prefix, at-base, PREFIX, BASE, IRIREF, «PNAME_NS», dot}
-use Rattle.token.specs.Tokens.{Token, Lexeme, token, unreadable}
+use Rattle.text.proofs.Booleans.{all, and-0, and-1, and-in}
+use Rattle.text.proofs.Compare.{contrary, and-right}
+use Rattle.token.specs.Kind.{Kind, kinds, among, strings, at-prefix, at-base, PREFIX, BASE, IRIREF, «PNAME_NS», dot}
+use Rattle.token.specs.Tokens.{Token, has-kind, Lexeme, token, unreadable}
+use Rattle.token.proofs.KindCodes.{all-kinds}
 use Rattle.grammar.specs.Productions.{Mode, trig, turtle}
 use Rattle.dataset.specs.Terms.{Term, label, bracket as bracket-node, cell, iri, blank, literal, tagged, rdf-type, rdf-first, rdf-rest, rdf-nil, xsd-string, xsd-integer, xsd-decimal, xsd-double, xsd-boolean}
 use Rattle.dataset.specs.Constructors.{string-text, tag, node-label, iri-of}
@@ -22,11 +24,12 @@ use Rattle.machine.specs.Memory.{Memory, Write, return, _>>=_, _>>_, term, term
 use Rattle.machine.specs.Frame.{Ending, full-stop, brace, bracket-end, Place, top, subject-before, object-of, element-of, Cells, no-cell, cells, Frame, graph-label, closing-label, graph-body, label-or-subject, triples-or-end, verb, verb-or-end, object, after-object, after-semicolon, bracket, list, suffix, datatype, Directive, prefix-name, namespace-of, new-base, last-dot, Open, directive, statement}
 use Rattle.machine.specs.Rules.{Rule, _⇒_, find-rule, hold, new-cell, extended, end-list, after-node, after-properties, Opening, end-rules, verb-rules, subject-rules, simple, string, object-rules, frame-rules, directive-rules, above, statement-rules, rules}
 use Rattle.machine.specs.Step.{State, obeyed, tied-to}
+use Rattle.machine.specs.Read.{start-state}
 use Rattle.machine.proofs.Demands.{obey, after-rules}
 use Rattle.machine.proofs.Made.{some-same, first-or-later}
 use Rattle.machine.proofs.Extends.{Extends, adds-term}
 use Rattle.completions.specs.Written.{ObjectsThere}
-use Rattle.completions.proofs.Complete.{is-suffix, rid}
+use Rattle.completions.proofs.Complete.{is-suffix, awaits}
 use Rattle.completions.proofs.Effects.{ext-hold}
 
 -- ---- Objects
@@ -105,37 +108,31 @@ keeps-end q opened (cells h l) at m o =
 
 -- ---- What is open
 
--- b: the first may await a tag or type.
-abbrev pub calm : Bool → List Frame → Bool
-calm b [] = true
-calm b (f ∷ fs) = (not (is-suffix f) || b) && rid fs
+-- None of the frames awaits a tag or type.
+abbrev rid : List Frame → Bool
+rid [] = true
+rid (f ∷ fs) = let r = rid fs in not (is-suffix f) && r
 
-rid-calm : (b : Bool) (fs : List Frame) → T (rid fs) → T (calm b fs)
-rid-calm b [] t = tt
-rid-calm b (f ∷ fs) t = and-in (not (is-suffix f) || b) (rid fs) (or-0 (not (is-suffix f)) b (and-0 (not (is-suffix f)) (rid fs) t)) (and-1 (not (is-suffix f)) (rid fs) t)
-
-pub calm-rid : (fs : List Frame) → T (calm false fs) → T (rid fs)
-calm-rid [] t = tt
-calm-rid (f ∷ fs) t = and-in (not (is-suffix f)) (rid fs) (go (not (is-suffix f)) (and-0 (not (is-suffix f) || false) (rid fs) t)) (and-1 (not (is-suffix f) || false) (rid fs) t)
-  where
-    go : (x : Bool) → T (x || false) → T x
-    go true u = tt
-    go false u = u
+-- The first awaits one exactly if b, and no other does.
+abbrev Calm : Bool → List Frame → Type 0
+Calm false fs = T (rid fs)
+Calm true [] = ⊥
+Calm true (f ∷ fs) = (is-suffix f ≡ true) × T (rid fs)
 
 rid-append : (fs K : List Frame) → T (rid fs) → T (rid K) → T (rid (fs ++ K))
 rid-append [] K t u = u
 rid-append (f ∷ fs) K t u = and-in (not (is-suffix f)) (rid (fs ++ K)) (and-0 (not (is-suffix f)) (rid fs) t) (rid-append fs K (and-1 (not (is-suffix f)) (rid fs) t) u)
 
-calm-append : (b : Bool) (fs K : List Frame) → T (calm b fs) → T (rid K) → T (calm b (fs ++ K))
-calm-append b [] K t u = rid-calm b K u
-calm-append b (f ∷ fs) K t u =
-    and-in (not (is-suffix f) || b) (rid (fs ++ K)) (and-0 (not (is-suffix f) || b) (rid fs) t) (rid-append fs K (and-1 (not (is-suffix f) || b) (rid fs) t) u)
+calm-append : (b : Bool) (fs K : List Frame) → Calm b fs → T (rid K) → Calm b (fs ++ K)
+calm-append false fs K t u = rid-append fs K t u
+calm-append true [] K t u = absurd t
+calm-append true (f ∷ fs) K t u = (t .0, rid-append fs K (t .1) u)
 
-calm-node : (b : Bool) (q : Place) (n : ℕ) → T (calm b (after-node q n))
-calm-node b top n = tt
-calm-node b (subject-before e) n = tt
-calm-node b (object-of s p) n = tt
-calm-node b (element-of c) n = tt
+rid-node : (q : Place) (n : ℕ) → T (rid (after-node q n))
+rid-node top n = tt
+rid-node (subject-before e) n = tt
+rid-node (object-of s p) n = tt
+rid-node (element-of c) n = tt
 
 rid-properties : (q : Place) (n : ℕ) → T (rid (after-properties q n))
 rid-properties top n = tt
@@ -145,140 +142,203 @@ rid-properties (element-of c) n = tt
 
 -- ---- Rules
 
+-- Are strings of none of these kinds?
+abbrev apart : List Kind → Bool
+apart ks = all (λ k. not (among ks k && among strings k)) kinds
+
+is-no : (a b : Bool) → T (not (a && b)) → a ≡ true → b ≡ false
+is-no true true t e = absurd t
+is-no true false t e = refl
+is-no false b t e = contrary (sym e)
+
+no-string : (ks : List Kind) → T (apart ks) → (k : Kind) → among ks k ≡ true → among strings k ≡ false
+no-string ks t k e = is-no (among ks k) (among strings k) (all-kinds (λ j. not (among ks j && among strings j)) t k) e
+
 abbrev Fine : Bool → Write (List Frame) → Type 0
-Fine b w = (m : Memory) → ObjectsIn m → ObjectsIn (w m .1) × T (calm b (w m .0))
+Fine b w = (m : Memory) → ObjectsIn m → ObjectsIn (w m .1) × Calm b (w m .0)
 
-data Good (b : Bool) : List (Rule (List Frame)) → Type 0 where
-  no-rule : Good b []
-  rule : {ks : List Kind} {w : Write (List Frame)} {rs : List (Rule (List Frame))} → Fine b w → Good b rs → Good b ((ks ⇒ w) ∷ rs)
+data Good (tied : Bool) : List (Rule (List Frame)) → Type 0 where
+  no-rule : Good tied []
+  rule : {ks : List Kind} {w : Write (List Frame)} {rs : List (Rule (List Frame))} → T (apart ks) → Fine false w → Good tied rs → Good tied ((ks ⇒ w) ∷ rs)
+  of-strings : {ks : List Kind} {w : Write (List Frame)} {rs : List (Rule (List Frame))} → ks ≡ strings → Fine tied w → Good tied rs → Good tied ((ks ⇒ w) ∷ rs)
 
-good-append : {b : Bool} {rs us : List (Rule (List Frame))} → Good b rs → Good b us → Good b (rs ++ us)
+good-append : {tied : Bool} {rs us : List (Rule (List Frame))} → Good tied rs → Good tied us → Good tied (rs ++ us)
 good-append no-rule q = q
-good-append (rule a c) q = rule a (good-append c q)
+good-append (rule t a c) q = rule t a (good-append c q)
+good-append (of-strings p a c) q = of-strings p a (good-append c q)
 
 module _ (t : Token) (tied : Bool) where
   good-end : (e : Ending) → Good tied (end-rules t tied e)
-  good-end full-stop = rule (λ m o. (o, tt)) no-rule
-  good-end brace = rule (λ m o. (o, tt)) (rule (λ m o. (o, tt)) no-rule)
-  good-end bracket-end = rule (λ m o. (o, tt)) no-rule
+  unfolding all
+  good-end full-stop = rule tt (λ m o. (o, tt)) no-rule
+  good-end brace = rule tt (λ m o. (o, tt)) (rule tt (λ m o. (o, tt)) no-rule)
+  good-end bracket-end = rule tt (λ m o. (o, tt)) no-rule
 
-  good-verb : (after : ℕ → List Frame) → ((p : ℕ) → T (calm tied (after p))) → Good tied (verb-rules t tied after)
+  good-verb : (after : ℕ → List Frame) → ((p : ℕ) → T (rid (after p))) → Good tied (verb-rules t tied after)
+  unfolding all
   good-verb after f =
-      rule (λ m o. (gives-iri t m o .0, f (iri-term t m .0))) (rule (λ m o. (gives-term (iri rdf-type) m o .0, f (term (iri rdf-type) m .0))) no-rule)
+      rule tt (λ m o. (gives-iri t m o .0, f (iri-term t m .0))) (rule tt (λ m o. (gives-term (iri rdf-type) m o .0, f (term (iri rdf-type) m .0))) no-rule)
 
   good-subject : (q : Place) → Good tied (subject-rules t tied q)
+  unfolding all
   good-subject q =
-      rule (λ m o. (gives-iri t m o .0, calm-node tied q (iri-term t m .0)))
-      (rule (λ m o. (gives-term (blank (label (node-label t))) m o .0, calm-node tied q (term (blank (label (node-label t))) m .0)))
-      (rule (λ m o. (gives-new (blank (bracket-node (t .start))) m o .0, tt)) (rule (λ m o. (o, tt)) no-rule)))
+      rule tt (λ m o. (gives-iri t m o .0, rid-node q (iri-term t m .0)))
+      (rule tt (λ m o. (gives-term (blank (label (node-label t))) m o .0, rid-node q (term (blank (label (node-label t))) m .0)))
+      (rule tt (λ m o. (gives-new (blank (bracket-node (t .start))) m o .0, tt)) (rule tt (λ m o. (o, tt)) no-rule)))
 
   module _ (begin : Write Opening) (keeps : (m : Memory) → ObjectsIn m → ObjectsIn (begin m .1)) (after : (m : Memory) → T (rid (begin m .0 .after))) where
-    fine-simple : (b : Bool) (node : Write ℕ) → Gives node → Fine b (simple t tied begin node)
-    fine-simple b node g m o =
+    fine-simple : (node : Write ℕ) → Gives node → Fine false (simple t tied begin node)
+    fine-simple node g m o =
         let r = begin m in
         let (x, y) = g (r .1) (keeps m o) in
-        (keeps-hold (r .0 .place) (node (r .1) .0) (t .start) (node (r .1) .1) x y, rid-calm b (r .0 .after) (after m))
+        (keeps-hold (r .0 .place) (node (r .1) .0) (t .start) (node (r .1) .1) x y, after m)
 
     fine-string : (b : Bool) → Fine b (string t tied begin b)
-    fine-string true m o = (keeps m o, after m)
-    fine-string false m o = fine-simple false (typed (string-text t) xsd-string) (gives-typed (string-text t) xsd-string) m o
+    fine-string true m o = (keeps m o, (refl, after m))
+    fine-string false m o = fine-simple (typed (string-text t) xsd-string) (gives-typed (string-text t) xsd-string) m o
 
     good-object : Good tied (object-rules t tied begin)
+    unfolding all
     good-object =
-        rule (fine-simple tied (iri-term t) (gives-iri t))
-        (rule (fine-simple tied (term (blank (label (node-label t)))) (gives-term (blank (label (node-label t)))))
-        (rule (fine-simple tied (typed (t .text) xsd-integer) (gives-typed (t .text) xsd-integer))
-        (rule (fine-simple tied (typed (t .text) xsd-decimal) (gives-typed (t .text) xsd-decimal))
-        (rule (fine-simple tied (typed (t .text) xsd-double) (gives-typed (t .text) xsd-double))
-        (rule (fine-simple tied (typed (t .text) xsd-boolean) (gives-typed (t .text) xsd-boolean))
-        (rule (fine-string tied)
-        (rule
+        rule tt (fine-simple (iri-term t) (gives-iri t))
+        (rule tt (fine-simple (term (blank (label (node-label t)))) (gives-term (blank (label (node-label t)))))
+        (rule tt (fine-simple (typed (t .text) xsd-integer) (gives-typed (t .text) xsd-integer))
+        (rule tt (fine-simple (typed (t .text) xsd-decimal) (gives-typed (t .text) xsd-decimal))
+        (rule tt (fine-simple (typed (t .text) xsd-double) (gives-typed (t .text) xsd-double))
+        (rule tt (fine-simple (typed (t .text) xsd-boolean) (gives-typed (t .text) xsd-boolean))
+        (of-strings refl (fine-string tied)
+        (rule tt
         (λ m o.
         let r = begin m in
         let (x, y) = gives-new (blank (bracket-node (t .start))) (r .1) (keeps m o) in
         (keeps-hold (r .0 .place) (suc (length (r .1 .terms))) (t .start) (new-term (blank (bracket-node (t .start))) (r .1) .1) x y, after m))
-        (rule (λ m o. (keeps m o, after m)) no-rule))))))))
+        (rule tt (λ m o. (keeps m o, after m)) no-rule))))))))
 
   good-frame : (f : Frame) → Good tied (frame-rules t tied f)
+  unfolding all
   good-frame graph-label =
-      rule (λ m o. (gives-iri t m o .0, tt))
-      (rule (λ m o. (gives-term (blank (label (node-label t))) m o .0, tt)) (rule (λ m o. (gives-new (blank (bracket-node (t .start))) m o .0, tt)) no-rule))
-  good-frame (closing-label g) = rule (λ m o. (o, tt)) no-rule
-  good-frame (graph-body g) = rule (λ m o. (o, tt)) no-rule
-  good-frame (label-or-subject n) = rule (λ m o. (o, tt)) (good-verb (λ p. object n p full-stop ∷ []) (λ p. tt))
-  good-frame triples-or-end = rule (λ m o. (o, tt)) (good-subject (subject-before brace))
+      rule tt (λ m o. (gives-iri t m o .0, tt))
+      (rule tt (λ m o. (gives-term (blank (label (node-label t))) m o .0, tt)) (rule tt (λ m o. (gives-new (blank (bracket-node (t .start))) m o .0, tt)) no-rule))
+  good-frame (closing-label g) = rule tt (λ m o. (o, tt)) no-rule
+  good-frame (graph-body g) = rule tt (λ m o. (o, tt)) no-rule
+  good-frame (label-or-subject n) = rule tt (λ m o. (o, tt)) (good-verb (λ p. object n p full-stop ∷ []) (λ p. tt))
+  good-frame triples-or-end = rule tt (λ m o. (o, tt)) (good-subject (subject-before brace))
   good-frame (verb s e) = good-verb (λ p. object s p e ∷ []) (λ p. tt)
   good-frame (verb-or-end s e) = good-append (good-verb (λ p. object s p e ∷ []) (λ p. tt)) (good-end e)
   good-frame (object s p e) = good-object (return (record { place = object-of s p; after = after-object s p e ∷ [] })) (λ m o. o) (λ m. tt)
-  good-frame (after-object s p e) = rule (λ m o. (o, tt)) (rule (λ m o. (o, tt)) (good-end e))
-  good-frame (after-semicolon s e) = rule (λ m o. (o, tt)) (good-append (good-verb (λ p. object s p e ∷ []) (λ p. tt)) (good-end e))
-  good-frame (bracket q n) = rule (λ m o. (o, calm-node tied q n)) (good-verb (λ p. object n p bracket-end ∷ after-properties q n) (λ p. rid-properties q n))
+  good-frame (after-object s p e) = rule tt (λ m o. (o, tt)) (rule tt (λ m o. (o, tt)) (good-end e))
+  good-frame (after-semicolon s e) = rule tt (λ m o. (o, tt)) (good-append (good-verb (λ p. object s p e ∷ []) (λ p. tt)) (good-end e))
+  good-frame (bracket q n) = rule tt (λ m o. (o, rid-node q n)) (good-verb (λ p. object n p bracket-end ∷ after-properties q n) (λ p. rid-properties q n))
   good-frame (list q opened cs) =
-      rule (λ m o. (keeps-end q opened cs (t .start) m o, calm-node tied q (end-list q opened cs (t .start) m .0)))
+      rule tt (λ m o. (keeps-end q opened cs (t .start) m o, rid-node q (end-list q opened cs (t .start) m .0)))
       (good-object (new-cell q opened cs (t .start) >>= λ c. return (record { place = element-of c; after = list q opened (extended cs c) ∷ [] }))
       (λ m o. gives-cell q opened cs (t .start) m o .0) (λ m. tt))
   good-frame (suffix q at s) =
-      rule
+      rule tt
       (λ m o.
       let r = term (tagged s (tag t)) m in let (x, y) = gives-term (tagged s (tag t)) m o in (keeps-hold q (r .0) at (r .1) x y, tt))
-      (rule (λ m o. (o, tt)) no-rule)
-  good-frame (datatype q at s) = rule (λ m o. let r = typed-by s t m in let (x, y) = gives-typed-by s t m o in (keeps-hold q (r .0) at (r .1) x y, tt)) no-rule
+      (rule tt (λ m o. (o, tt)) no-rule)
+  good-frame (datatype q at s) = rule tt (λ m o. let r = typed-by s t m in let (x, y) = gives-typed-by s t m o in (keeps-hold q (r .0) at (r .1) x y, tt)) no-rule
 
   good-statement : (mode : Mode) → Good tied (statement-rules t tied mode)
-  good-statement trig = rule (λ m o. (o, tt)) (rule (λ m o. (o, tt)) (good-subject top))
+  unfolding all
+  good-statement trig = rule tt (λ m o. (o, tt)) (rule tt (λ m o. (o, tt)) (good-subject top))
   good-statement turtle = good-subject (subject-before full-stop)
 
 -- ---- Tokens
 
-abbrev pub CalmOpen : Bool → Open → Type 0
-CalmOpen b (directive d) = Unit {0}
-CalmOpen b (statement fs) = T (calm b fs)
+abbrev CalmOpen : Bool → Open → Type 0
+CalmOpen false (directive d) = Unit {0}
+CalmOpen true (directive d) = ⊥
+CalmOpen b (statement fs) = Calm b fs
+
+-- None below the first awaits a tag or type.
+abbrev below : Open → Bool
+below (directive d) = true
+below (statement []) = true
+below (statement (f ∷ fs)) = rid fs
+
+calm-below : (b : Bool) (o : Open) → CalmOpen b o → T (below o) × (awaits o ≡ b)
+calm-below false (directive d) c = (tt, refl)
+calm-below true (directive d) c = absurd c
+calm-below false (statement []) c = (tt, refl)
+calm-below true (statement []) c = absurd c
+calm-below false (statement (f ∷ fs)) c = (and-1 (not (is-suffix f)) (rid fs) c, go (is-suffix f) (and-0 (not (is-suffix f)) (rid fs) c))
+  where
+    go : (x : Bool) → T (not x) → x ≡ false
+    go true u = absurd u
+    go false u = refl
+calm-below true (statement (f ∷ fs)) c = (c .1, c .0)
+
+pub record Sane (s : State) : Type 0 where
+  pub objects : ObjectsIn (s .memory)
+  pub rest : T (below (s .open-now))
 
 module _ (t : Token) (tied : Bool) where
-  abbrev Kept : Write Open → Type 0
-  Kept w = (m : Memory) → ObjectsIn m → ObjectsIn (w m .1) × CalmOpen tied (w m .0)
+  abbrev Kept : Bool → Write Open → Type 0
+  Kept b w = (m : Memory) → ObjectsIn m → ObjectsIn (w m .1) × CalmOpen b (w m .0)
 
-  good-found : (k : Kind) (K : List Frame) → T (rid K) → {rs : List (Rule (List Frame))} → Good tied rs → (w : Write Open) → find-rule k (above t tied K rs) ≡ some w → Kept w
-  good-found k K u no-rule w e = not-none e
-  good-found k K u (rule {ks = ks} {w = v} a c) w e =
-      first-or-later (among ks k) e (λ h q. subst Kept q (λ m o. let (x, y) = a m o in (x, calm-append tied (v m .0) K y u))) (λ d. good-found k K u c w d)
+  -- A rule for other kinds than those of strings, and one for these.
+  kept-other : (ks : List Kind) → T (apart ks) → (w v : Write Open) → Kept false v → among ks (t .kind) ≡ true → v ≡ w → Kept (has-kind strings t && tied) w
+  kept-other ks u w v a h q = subst (λ (b : Bool). Kept (b && tied) w) (sym (no-string ks u (t .kind) h)) (subst (Kept false) q a)
 
-  pub sane-rule : (mode : Mode) (b : Bool) (o : Open) (w : Write Open) → find-rule (t .kind) (rules t tied mode o) ≡ some w → CalmOpen b o → Kept w
-  unfolding rules
-  sane-rule mode b (statement (f ∷ K)) w e c = good-found (t .kind) K (and-1 (not (is-suffix f) || b) (rid K) c) (good-frame t tied f) w e
-  sane-rule mode b (statement []) w e c =
-      first-or-later (among (at-prefix ∷ []) (t .kind)) e (λ h q. subst Kept q (λ m o. (o, tt)))
+  kept-string : (ks : List Kind) → ks ≡ strings → (w v : Write Open) → Kept tied v → among ks (t .kind) ≡ true → v ≡ w → Kept (has-kind strings t && tied) w
+  kept-string ks p w v a h q = subst (λ (b : Bool). Kept (b && tied) w) (sym h ∙ ap (λ (l : List Kind). among l (t .kind)) p) (subst (Kept tied) q a)
+
+  good-found : (K : List Frame) → T (rid K) → {rs : List (Rule (List Frame))} → Good tied rs → (w : Write Open) → find-rule (t .kind) (above t tied K rs) ≡ some w → Kept (has-kind strings t && tied) w
+  good-found K u no-rule w e = not-none e
+  good-found K u (rule {ks = ks} {w = v} x a c) w e =
+      first-or-later (among ks (t .kind)) e (kept-other ks x w _ (λ m o. let (x, y) = a m o in (x, calm-append false (v m .0) K y u))) (λ d. good-found K u c w d)
+  good-found K u (of-strings {ks = ks} {w = v} p a c) w e =
+      first-or-later (among ks (t .kind)) e (kept-string ks p w _ (λ m o. let (x, y) = a m o in (x, calm-append tied (v m .0) K y u))) (λ d. good-found K u c w d)
+
+  kept-rule : (mode : Mode) (o : Open) (w : Write Open) → find-rule (t .kind) (rules t tied mode o) ≡ some w → T (below o) → Kept (has-kind strings t && tied) w
+  unfolding rules all
+  kept-rule mode (statement (f ∷ K)) w e c = good-found K c (good-frame t tied f) w e
+  kept-rule mode (statement []) w e c =
+      first-or-later (among (at-prefix ∷ []) (t .kind)) e (kept-other (at-prefix ∷ []) tt w _ (λ m o. (o, tt)))
       (λ e₁.
-      first-or-later (among (PREFIX ∷ []) (t .kind)) e₁ (λ h q. subst Kept q (λ m o. (o, tt)))
+      first-or-later (among (PREFIX ∷ []) (t .kind)) e₁ (kept-other (PREFIX ∷ []) tt w _ (λ m o. (o, tt)))
       (λ e₂.
-      first-or-later (among (at-base ∷ []) (t .kind)) e₂ (λ h q. subst Kept q (λ m o. (o, tt)))
+      first-or-later (among (at-base ∷ []) (t .kind)) e₂ (kept-other (at-base ∷ []) tt w _ (λ m o. (o, tt)))
       (λ e₃.
-      first-or-later (among (BASE ∷ []) (t .kind)) e₃ (λ h q. subst Kept q (λ m o. (o, tt)))
-      (λ e₄. good-found (t .kind) [] tt (good-statement t tied mode) w e₄))))
-  sane-rule mode b (directive d) w e c = go d e
+      first-or-later (among (BASE ∷ []) (t .kind)) e₃ (kept-other (BASE ∷ []) tt w _ (λ m o. (o, tt)))
+      (λ e₄. good-found [] tt (good-statement t tied mode) w e₄))))
+  kept-rule mode (directive d) w e c = go d e
     where
-      go : (d : Directive) → find-rule (t .kind) (directive-rules t tied d) ≡ some w → Kept w
-      go (prefix-name x) e = first-or-later (among («PNAME_NS» ∷ []) (t .kind)) e (λ h q. subst Kept q (λ m o. (o, tt))) (λ x. not-none x)
-      go (namespace-of p true) e = first-or-later (among (IRIREF ∷ []) (t .kind)) e (λ h q. subst Kept q (λ m o. (o, tt))) (λ x. not-none x)
-      go (namespace-of p false) e = first-or-later (among (IRIREF ∷ []) (t .kind)) e (λ h q. subst Kept q (λ m o. (o, tt))) (λ x. not-none x)
-      go (new-base true) e = first-or-later (among (IRIREF ∷ []) (t .kind)) e (λ h q. subst Kept q (λ m o. (o, tt))) (λ x. not-none x)
-      go (new-base false) e = first-or-later (among (IRIREF ∷ []) (t .kind)) e (λ h q. subst Kept q (λ m o. (o, tt))) (λ x. not-none x)
-      go last-dot e = first-or-later (among (dot ∷ []) (t .kind)) e (λ h q. subst Kept q (λ m o. (o, tt))) (λ x. not-none x)
+      go : (d : Directive) → find-rule (t .kind) (directive-rules t tied d) ≡ some w → Kept (has-kind strings t && tied) w
+      go (prefix-name x) e = first-or-later (among («PNAME_NS» ∷ []) (t .kind)) e (kept-other («PNAME_NS» ∷ []) tt w _ (λ m o. (o, tt))) (λ x. not-none x)
+      go (namespace-of p true) e = first-or-later (among (IRIREF ∷ []) (t .kind)) e (kept-other (IRIREF ∷ []) tt w _ (λ m o. (o, tt))) (λ x. not-none x)
+      go (namespace-of p false) e = first-or-later (among (IRIREF ∷ []) (t .kind)) e (kept-other (IRIREF ∷ []) tt w _ (λ m o. (o, tt))) (λ x. not-none x)
+      go (new-base true) e = first-or-later (among (IRIREF ∷ []) (t .kind)) e (kept-other (IRIREF ∷ []) tt w _ (λ m o. (o, tt))) (λ x. not-none x)
+      go (new-base false) e = first-or-later (among (IRIREF ∷ []) (t .kind)) e (kept-other (IRIREF ∷ []) tt w _ (λ m o. (o, tt))) (λ x. not-none x)
+      go last-dot e = first-or-later (among (dot ∷ []) (t .kind)) e (kept-other (dot ∷ []) tt w _ (λ m o. (o, tt))) (λ x. not-none x)
 
--- After i tokens.
-pub after-sane : (mode : Mode) (i : ℕ) (ls : List Lexeme) (s s′ : State) → after-rules mode i ls s ≡ some s′ → ObjectsIn (s .memory) → CalmOpen (tied-to ls) (s .open-now)
-    → ObjectsIn (s′ .memory) × CalmOpen (tied-to (drop i ls)) (s′ .open-now)
+  -- A string awaits its tag or type exactly if one is there.
+  pub sane-rule : (mode : Mode) (s : State) (w : Write Open) → find-rule (t .kind) (rules t tied mode (s .open-now)) ≡ some w → Sane s
+      → Sane (obeyed (some w) t s) × (awaits (obeyed (some w) t s .open-now) ≡ (has-kind strings t && tied))
+  sane-rule mode s w e x =
+      let (o, c) = kept-rule mode (s .open-now) w e (x .rest) (s .memory) (x .objects) in
+      let (r, q) = calm-below (has-kind strings t && tied) (w (s .memory) .0) c in
+      (record { objects = o; rest = r }, q)
+
+-- Before the first token, and after i tokens.
+pub start-sane : (base : Text) → Sane (start-state base)
+start-sane base = record { objects = tt; rest = tt }
+
+pub after-sane : (mode : Mode) (i : ℕ) (ls : List Lexeme) (s s′ : State) → after-rules mode i ls s ≡ some s′ → Sane s → (awaits (s .open-now) ≡ true → tied-to ls ≡ true)
+    → Sane s′ × (awaits (s′ .open-now) ≡ true → tied-to (drop i ls) ≡ true)
 unfolding after-rules obey
-after-sane mode zero ls s s′ e o c = subst (λ (x : State). ObjectsIn (x .memory) × CalmOpen (tied-to ls) (x .open-now)) (some-same e) (o, c)
-after-sane mode (suc i) [] s s′ e o c = not-none e
-after-sane mode (suc i) (unreadable p ∷ ls) s s′ e o c = not-none e
-after-sane mode (suc i) (token t ∷ ls) s s′ e o c =
-    go (find-rule (t .kind) (rules t (tied-to ls) mode (s .open-now))) refl e (λ x d u v. after-sane mode i ls x s′ d u v)
+after-sane mode zero ls s s′ e x c = subst (λ (y : State). Sane y × (awaits (y .open-now) ≡ true → tied-to ls ≡ true)) (some-same e) (x, c)
+after-sane mode (suc i) [] s s′ e x c = not-none e
+after-sane mode (suc i) (unreadable p ∷ ls) s s′ e x c = not-none e
+after-sane mode (suc i) (token t ∷ ls) s s′ e x c =
+    go (find-rule (t .kind) (rules t (tied-to ls) mode (s .open-now))) refl e (λ y d u v. after-sane mode i ls y s′ d u v)
   where
-    go : (r : Option (Write Open)) → find-rule (t .kind) (rules t (tied-to ls) mode (s .open-now)) ≡ r → obey r t s (λ x. after-rules mode i ls x) ≡ some s′
-        → ((x : State) → after-rules mode i ls x ≡ some s′ → ObjectsIn (x .memory) → CalmOpen (tied-to ls) (x .open-now) → ObjectsIn (s′ .memory) × CalmOpen (tied-to (drop i ls)) (s′ .open-now))
-        → ObjectsIn (s′ .memory) × CalmOpen (tied-to (drop i ls)) (s′ .open-now)
+    go : (r : Option (Write Open)) → find-rule (t .kind) (rules t (tied-to ls) mode (s .open-now)) ≡ r → obey r t s (λ y. after-rules mode i ls y) ≡ some s′
+        → ((y : State) → after-rules mode i ls y ≡ some s′ → Sane y → (awaits (y .open-now) ≡ true → tied-to ls ≡ true) → Sane s′ × (awaits (s′ .open-now) ≡ true → tied-to (drop i ls) ≡ true))
+        → Sane s′ × (awaits (s′ .open-now) ≡ true → tied-to (drop i ls) ≡ true)
     go none q d k = not-none d
     go (some w) q d k =
-        let (x, y) = sane-rule t (tied-to ls) mode (tied-to (token t ∷ ls)) (s .open-now) w q c (s .memory) o in
-        k (obeyed (some w) t s) d x y
+        let (y, a) = sane-rule t (tied-to ls) mode s w q x in
+        k (obeyed (some w) t s) d y (λ z. and-right (has-kind strings t) (tied-to ls) (sym a ∙ z))

@@ -1,19 +1,18 @@
 -- Where the grammar fails at a token, what stands there says nothing about the token before it: no string awaits its tag or type.
 use mathlib.Core.Path.{_≡_, refl, sym, ap, _∙_, subst}
 use mathlib.Core.Logic.{⊎-elim}
-use mathlib.Core.List.{List, [], _∷_, _++_}
+use mathlib.Core.List.{List, [], _∷_}
 use mathlib.Core.Bool.{Bool, true, false}
 use mathlib.Core.Option.{Option, none, some}
 use Prim.Native.Nat.{ℕ, zero, suc}
 use lib.ListN.{take, drop}
-use Rattle.text.specs.Text.{Text}
+use Rattle.text.proofs.Compare.{contrary}
 use Rattle.token.specs.Tokens.{Token, Lexeme, token, unreadable, tokens-of}
 use Rattle.grammar.specs.Productions.{Mode}
 use Rattle.grammar.proofs.Recogniser.{at-end as end-verdict, later}
-use Rattle.dataset.specs.Constructors.{string-text}
 use Rattle.table.proofs.Numbers.{not-none}
 use Rattle.machine.specs.Memory.{Memory, Write}
-use Rattle.machine.specs.Frame.{Place, Frame, suffix, Open, statement}
+use Rattle.machine.specs.Frame.{Open}
 use Rattle.machine.specs.Rules.{find-rule, rules}
 use Rattle.machine.specs.Step.{State, obeyed, tied-to}
 use Rattle.machine.proofs.Demands.{obey, after-rules}
@@ -21,20 +20,17 @@ use Rattle.machine.proofs.Judge.{tied-same}
 use Rattle.machine.proofs.Link.{follow, finished, machine-verdict}
 use Rattle.machine.proofs.Made.{some-same}
 use Rattle.machine.proofs.Follows.{rule-for, string-rule, asks-or-not}
-
--- No string awaits its tag or type.
-abbrev pub NotAwaiting : Open → Type 0
-NotAwaiting o = (q : Place) (at : ℕ) (x : Text) (K : List Frame) → o ≡ statement (suffix q at x ∷ K) → ⊥
+use Rattle.completions.proofs.Complete.{awaits}
 
 -- ---- A rule that leaves no string waiting does not ask what follows
 
-untied-rule : (t : Token) (mode : Mode) (w : Write Open) (m : Memory) → NotAwaiting (w m .0) → (tied : Bool) (o : Open) → rule-for t mode o tied ≡ some w → rule-for t mode o false ≡ some w
+untied-rule : (t : Token) (mode : Mode) (w : Write Open) (m : Memory) → awaits (w m .0) ≡ false → (tied : Bool) (o : Open) → rule-for t mode o tied ≡ some w → rule-for t mode o false ≡ some w
 untied-rule t mode w m n false o e = e
 untied-rule t mode w m n true o e =
     ⊎-elim (λ p. sym p ∙ e)
     (λ a.
     let q : w ≡ string-rule t (a .begin) (a .below) true = some-same (sym e ∙ a .rule true) in
-    absurd (n (a .begin m .0 .place) (t .start) (string-text t) (a .begin m .0 .after ++ a .below) (ap (λ (v : Write Open). v m .0) q)))
+    contrary (sym (ap (λ (v : Write Open). awaits (v m .0)) q) ∙ n))
     (asks-or-not t mode o)
 
 -- ---- The tokens cut off
@@ -53,7 +49,7 @@ drop-cut (suc i) (l ∷ ls) = drop-cut i ls
 
 module _ (mode : Mode) where
   -- The state after i tokens is that after the same tokens with nothing behind them.
-  pub cut-after : (i : ℕ) (ls : List Lexeme) (s s′ : State) → after-rules mode i ls s ≡ some s′ → NotAwaiting (s′ .open-now) → after-rules mode i (take i ls) s ≡ some s′
+  pub cut-after : (i : ℕ) (ls : List Lexeme) (s s′ : State) → after-rules mode i ls s ≡ some s′ → awaits (s′ .open-now) ≡ false → after-rules mode i (take i ls) s ≡ some s′
   unfolding after-rules obey
   cut-after zero ls s s′ e n = e
   cut-after (suc i) [] s s′ e n = not-none e
@@ -64,7 +60,7 @@ module _ (mode : Mode) where
           → find-rule (t .kind) (rules t (tied-to (take i ls)) mode (s .open-now)) ≡ some w
       same zero ls w d q =
           let p : obeyed (some w) t s ≡ s′ = some-same d in
-          untied-rule t mode w (s .memory) (λ a b c K x. n a b c K (ap (λ (y : State). y .open-now) (sym p) ∙ x)) (tied-to ls) (s .open-now) q
+          untied-rule t mode w (s .memory) (ap (λ (y : State). awaits (y .open-now)) p ∙ n) (tied-to ls) (s .open-now) q
       same (suc i) [] w d q = q
       same (suc i) (unreadable p ∷ ls) w d q = q
       same (suc i) (token u ∷ ls) w d q = q

@@ -25,10 +25,10 @@ tag-first [] = false
 tag-first (t ∷ ts) = has-kind (LANGTAG ∷ carets ∷ []) t
 
 -- "some tokens, or none, put after them give a list with a derivation". "A string not followed by a tag or ^^ is complete at its own token":
--- no tag and no ^^ comes first.
-pub record Completion (mode : Mode) (ts : List Token) : Type 0 where
+-- a tag or ^^ comes first exactly if the last of them is such a string and is tied to one.
+pub record Completion (tied : Bool) (mode : Mode) (ts : List Token) : Type 0 where
   pub rest : List Token
-  pub complete : tag-first rest ≡ false
+  pub complete : tag-first rest ≡ tied
   pub derivation : Derivation mode
   pub tokens : leaves kind-of (production mode) derivation ≡ ts ++ rest
 
@@ -38,18 +38,18 @@ ObjectsThere n [] = Unit {0}
 ObjectsThere n (r ∷ rs) = (r .object ≤ n) × ObjectsThere n rs
 
 -- Rows and terms with which the tables of every completion begin.
-pub record Common (mode : Mode) (base : Text) (ts : List Token) (rows : List Row) (terms : List Term) : Type 0 where
-  pub rows-begin : (c : Completion mode ts) → Beginning rows (tables mode (c .derivation) base .rows)
-  pub terms-begin : (c : Completion mode ts) → Beginning terms (tables mode (c .derivation) base .terms)
+pub record Common (tied : Bool) (mode : Mode) (base : Text) (ts : List Token) (rows : List Row) (terms : List Term) : Type 0 where
+  pub rows-begin : (c : Completion tied mode ts) → Beginning rows (tables mode (c .derivation) base .rows)
+  pub terms-begin : (c : Completion tied mode ts) → Beginning terms (tables mode (c .derivation) base .terms)
   pub there : ObjectsThere (length terms) rows
 
 -- The largest such.
-pub record Written (mode : Mode) (base : Text) (ts : List Token) (rows : List Row) (terms : List Term) : Type 0 where
-  pub common : Common mode base ts rows terms
-  pub largest : (rows′ : List Row) (terms′ : List Term) → Common mode base ts rows′ terms′ → Beginning rows′ rows × Beginning terms′ terms
+pub record Written (tied : Bool) (mode : Mode) (base : Text) (ts : List Token) (rows : List Row) (terms : List Term) : Type 0 where
+  pub common : Common tied mode base ts rows terms
+  pub largest : (rows′ : List Row) (terms′ : List Term) → Common tied mode base ts rows′ terms′ → Beginning rows′ rows × Beginning terms′ terms
 
--- What the tokens write fits.
+-- What the tokens write fits, where no tag and no ^^ follows.
 pub record WrittenFits (mode : Mode) (room : Room) (base : Text) (ts : List Token) : Type 0 where
   pub memory : Memory
-  pub written : Written mode base ts (memory .rows) (memory .terms)
+  pub written : Written false mode base ts (memory .rows) (memory .terms)
   pub fits : Fits room memory
