@@ -8,4 +8,5 @@ pub mod Sane
 pub mod Largest
 pub mod Untied
 pub mod FailsFirst
+pub mod Refused
 pub mod Examples
