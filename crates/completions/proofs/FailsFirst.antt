@@ -59,6 +59,18 @@ written-once tied mode base ts rs rs′ us us′ a b =
     let (r, s) = b .largest rs us (a .common) in
     (both-ways rs rs′ r p, both-ways us us′ s q)
 
+-- ---- What the machine has written
+
+-- What i tokens write is what the machine has written after them.
+pub state-written : (mode : Mode) (base : Text) (i : ℕ) (ls : List Lexeme) (s : State) → after-rules mode i ls (start-state base) ≡ some s
+    → Written (awaits (s .open-now)) mode base (take i (tokens-of ls)) (s .memory .rows) (s .memory .terms)
+state-written mode base i ls s e =
+    by (awaits (s .open-now))
+    (λ a. written mode base i ls s e (after-sane mode i ls (start-state base) s e (start-sane base) (λ z. contrary (sym z)) .1 a ∙ sym a))
+    (λ a.
+    subst (λ (l : List Token). Written (awaits (s .open-now)) mode base l (s .memory .rows) (s .memory .terms)) (tokens-cut i ls)
+    (written mode base i (take i ls) s (cut-after mode i ls (start-state base) s e a) (drop-cut i ls ∙ sym a)))
+
 -- ---- Where the machine fails no string awaits its tag or type
 
 rule-there : {A : Type 0} (a b : Bool) (x y : A) → (a || (b || false)) ≡ true → cond (a || false) (some x) (cond (b || false) (some y) none) ≡ none → ⊥
@@ -110,17 +122,7 @@ not-awaiting mode base i ls f =
 
 -- ---- The failure
 
--- What i tokens write is what the machine has written after them.
-pub state-written : (mode : Mode) (base : Text) (i : ℕ) (ls : List Lexeme) (s : State) → after-rules mode i ls (start-state base) ≡ some s
-    → Written (awaits (s .open-now)) mode base (take i (tokens-of ls)) (s .memory .rows) (s .memory .terms)
-state-written mode base i ls s e =
-    by (awaits (s .open-now))
-    (λ a. written mode base i ls s e (after-sane mode i ls (start-state base) s e (start-sane base) (λ z. contrary (sym z)) .1 a ∙ sym a))
-    (λ a.
-    subst (λ (l : List Token). Written (awaits (s .open-now)) mode base l (s .memory .rows) (s .memory .terms)) (tokens-cut i ls)
-    (written mode base i (take i ls) s (cut-after mode i ls (start-state base) s e a) (drop-cut i ls ∙ sym a)))
-
--- Where the machine fails no string awaits its tag or type.
+-- Where the machine fails, what the tokens before write is what it has written.
 pub fails-written : (mode : Mode) (base : Text) (i : ℕ) (ls : List Lexeme) (f : Fails mode i ls (start-state base)) → Written false mode base (take i (tokens-of ls)) (f .state .memory .rows) (f .state .memory .terms)
 fails-written mode base i ls f =
     subst (λ (b : Bool). Written b mode base (take i (tokens-of ls)) (f .state .memory .rows) (f .state .memory .terms)) (not-awaiting mode base i ls f) (state-written mode base i ls (f .state) (f .reached))

@@ -1,6 +1,6 @@
 -- The refusal that stands where the definition says is the reader's answer, and the reader answers no other.
 use mathlib.Core.Path.{_≡_, refl, sym, ap, ap₂, _∙_, subst}
-use mathlib.Core.Logic.{_⊎_, inl, inr, ⊎-elim}
+use mathlib.Core.Logic.{inl, inr, ⊎-elim}
 use mathlib.Core.List.{List, [], _∷_, _++_}
 use mathlib.Core.Bool.{Bool, true, false, not, _&&_}
 use mathlib.Core.Option.{Option, none, some}
@@ -9,7 +9,7 @@ use native.Mathlib.Omega.{arith}
 use borrow.Author.Tests.{ltb-true, ltb-false}
 use lib.Dec.{T, leb, ltb, leb→le}
 use lib.ListN.{length, take, drop}
-use Rattle.text.specs.Text.{Text, cond}
+use Rattle.text.specs.Text.{Text}
 use Rattle.text.proofs.Booleans.{all}
 use Rattle.text.proofs.Compare.{by, contrary}
 use Rattle.utf8.specs.Utf8.{first-bad}
@@ -31,7 +31,6 @@ use Rattle.machine.specs.Call.{Lent, Room, room-of, mode-of, Test, _when_, firs
 use Rattle.machine.specs.Step.{State, in-force-now, obeyed, tests, answer, step, tied-to, Outcome, accepted, refused, at-end, onward, run}
 use Rattle.machine.specs.Read.{start-state, refusal, reported, read, read-checked, read-utf8, read-tokens}
 use Rattle.machine.specs.Demand.{document-tokens, depth-after}
-use Rattle.machine.proofs.Decide.{tied-kinds}
 use Rattle.machine.proofs.Judge.{tied-same, number-of, refusal-number}
 use Rattle.machine.proofs.Link.{follow, finished, machine-verdict}
 use Rattle.machine.proofs.Grammatical.{machine-grammar}
@@ -39,7 +38,7 @@ use Rattle.machine.proofs.Made.{some-same}
 use Rattle.machine.proofs.Extends.{in-force-rule}
 use Rattle.machine.proofs.Demands.{passed, after-append, depth-append, Tracks, start-tracks, obey, after-rules}
 use Rattle.completions.specs.Written.{tag-first, Written}
-use Rattle.completions.specs.Refused.{Condition, _if_, First, At, Exceeds, TooSmall, refusals, Refused}
+use Rattle.completions.specs.Refused.{Condition, _if_, First, At, TooSmall, refusals, Refused}
 use Rattle.completions.proofs.After.{same-tie}
 use Rattle.completions.proofs.Complete.{awaits}
 use Rattle.completions.proofs.Sane.{Sane, start-sane, sane-rule}

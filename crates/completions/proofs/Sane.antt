@@ -1,4 +1,4 @@
--- After every token: no row has an object that is not there, and only a string that is followed by a tag or ^^ awaits its tag or type.
+-- After every token: no row has an object that is not there, and a string awaits its tag or type exactly if a tag or ^^ follows it.
 use mathlib.Core.Path.{_≡_, refl, sym, ap, _∙_, subst}
 use mathlib.Core.List.{List, [], _∷_, _++_}
 use mathlib.Core.Bool.{Bool, true, false, not, _&&_}
@@ -314,7 +314,7 @@ module _ (t : Token) (tied : Bool) where
       go (new-base false) e = first-or-later (among (IRIREF ∷ []) (t .kind)) e (kept-other (IRIREF ∷ []) tt w _ (λ m o. (o, tt))) (λ x. not-none x)
       go last-dot e = first-or-later (among (dot ∷ []) (t .kind)) e (kept-other (dot ∷ []) tt w _ (λ m o. (o, tt))) (λ x. not-none x)
 
-  -- A string awaits its tag or type exactly if one is there.
+  -- A string awaits its tag or type exactly if it is tied to one.
   pub sane-rule : (mode : Mode) (s : State) (w : Write Open) → find-rule (t .kind) (rules t tied mode (s .open-now)) ≡ some w → Sane s
       → Sane (obeyed (some w) t s) × (awaits (obeyed (some w) t s .open-now) ≡ (has-kind strings t && tied))
   sane-rule mode s w e x =

@@ -25,7 +25,7 @@ tag-first [] = false
 tag-first (t ∷ ts) = has-kind (LANGTAG ∷ carets ∷ []) t
 
 -- "some tokens, or none, put after them give a list with a derivation". "A string not followed by a tag or ^^ is complete at its own token":
--- a tag or ^^ comes first exactly if the last of them is such a string and is tied to one.
+-- tied: the last of them is a string, and a tag or ^^ follows it.
 pub record Completion (tied : Bool) (mode : Mode) (ts : List Token) : Type 0 where
   pub rest : List Token
   pub complete : tag-first rest ≡ tied
