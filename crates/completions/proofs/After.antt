@@ -1,5 +1,5 @@
 -- The machine after some tokens and the derivations of their completions.
-use mathlib.Core.Path.{_≡_, refl, sym, ap, _∙_}
+use mathlib.Core.Path.{_≡_, refl, sym, ap, _∙_, subst}
 use mathlib.Core.List.{List, [], _∷_, _++_}
 use mathlib.Core.Bool.{Bool}
 use mathlib.Core.Option.{Option, none, some}
@@ -31,6 +31,25 @@ same-tie [] = refl
 same-tie (t ∷ us) = refl
 
 module _ (mode : Mode) where
+  -- The rule for a token behind which ls stand.
+  abbrev pub rule-at : Token → List Lexeme → State → Option (Write Open)
+  rule-at t ls s = find-rule (t .kind) (rules t (tied-to ls) mode (s .open-now))
+
+  -- What holds before any token, and of one token more where a rule is there for it.
+  pub after-induction : (P : ℕ → List Lexeme → State → State → Type 0) → ((ls : List Lexeme) (s : State) → P 0 ls s s)
+      → ((i : ℕ) (ls : List Lexeme) (t : Token) (s s′ : State) (w : Write Open) → rule-at t ls s ≡ some w → P i ls (obeyed (some w) t s) s′ → P (suc i) (token t ∷ ls) s s′)
+      → (i : ℕ) (ls : List Lexeme) (s s′ : State) → after-rules mode i ls s ≡ some s′ → P i ls s s′
+  unfolding after-rules obey
+  after-induction P f g zero ls s s′ e = subst (P 0 ls s) (some-same e) (f ls s)
+  after-induction P f g (suc i) [] s s′ e = not-none e
+  after-induction P f g (suc i) (unreadable p ∷ ls) s s′ e = not-none e
+  after-induction P f g (suc i) (token t ∷ ls) s s′ e = go (rule-at t ls s) refl e (λ x d. after-induction P f g i ls x s′ d)
+    where
+      go : (r : Option (Write Open)) → rule-at t ls s ≡ r → obey r t s (λ x. after-rules mode i ls x) ≡ some s′
+          → ((x : State) → after-rules mode i ls x ≡ some s′ → P i ls x s′) → P (suc i) (token t ∷ ls) s s′
+      go none q d k = not-none d
+      go (some w) q d k = g i ls t s s′ w q (k (obeyed (some w) t s) d)
+
   -- The state after i tokens of the document, with other tokens behind them that tie the last as the document does.
   next-tie : (ls : List Lexeme) (i : ℕ) (us : List Token) (s s′ : State) → after-rules mode i ls s ≡ some s′ → tied-kinds (kinds-of us) ≡ tied-to (drop i ls)
       → tied-kinds (kinds-of (take i (tokens-of ls) ++ us)) ≡ tied-to ls

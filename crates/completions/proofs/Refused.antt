@@ -34,12 +34,11 @@ use Rattle.machine.specs.Demand.{document-tokens, depth-after}
 use Rattle.machine.proofs.Judge.{tied-same, number-of, refusal-number}
 use Rattle.machine.proofs.Link.{follow, finished, machine-verdict}
 use Rattle.machine.proofs.Grammatical.{machine-grammar}
-use Rattle.machine.proofs.Made.{some-same}
 use Rattle.machine.proofs.Extends.{in-force-rule}
 use Rattle.machine.proofs.Demands.{passed, after-append, depth-append, Tracks, start-tracks, obey, after-rules}
 use Rattle.completions.specs.Written.{tag-first, Written}
 use Rattle.completions.specs.Refused.{Condition, _if_, First, At, TooSmall, refusals, Refused}
-use Rattle.completions.proofs.After.{same-tie}
+use Rattle.completions.proofs.After.{same-tie, rule-at, after-induction}
 use Rattle.completions.proofs.Complete.{awaits}
 use Rattle.completions.proofs.Sane.{Sane, start-sane, sane-rule}
 use Rattle.completions.proofs.Untied.{later-next}
@@ -127,24 +126,6 @@ moved-later mode (suc i) v e = let (j, p, q) = later-next mode (moved i (later v
 -- ---- After i tokens
 
 module _ (mode : Mode) where
-  abbrev rule-at : Token → List Lexeme → State → Option (Write Open)
-  rule-at t ls s = find-rule (t .kind) (rules t (tied-to ls) mode (s .open-now))
-
-  -- What holds before any token, and of one token more where a rule is there for it.
-  after-induction : (P : ℕ → List Lexeme → State → State → Type 0) → ((ls : List Lexeme) (s : State) → P 0 ls s s)
-      → ((i : ℕ) (ls : List Lexeme) (t : Token) (s s′ : State) (w : Write Open) → rule-at t ls s ≡ some w → P i ls (obeyed (some w) t s) s′ → P (suc i) (token t ∷ ls) s s′)
-      → (i : ℕ) (ls : List Lexeme) (s s′ : State) → after-rules mode i ls s ≡ some s′ → P i ls s s′
-  unfolding after-rules obey
-  after-induction P f g zero ls s s′ e = subst (P 0 ls s) (some-same e) (f ls s)
-  after-induction P f g (suc i) [] s s′ e = not-none e
-  after-induction P f g (suc i) (unreadable p ∷ ls) s s′ e = not-none e
-  after-induction P f g (suc i) (token t ∷ ls) s s′ e = go (rule-at t ls s) refl e (λ x d. after-induction P f g i ls x s′ d)
-    where
-      go : (r : Option (Write Open)) → rule-at t ls s ≡ r → obey r t s (λ x. after-rules mode i ls x) ≡ some s′
-          → ((x : State) → after-rules mode i ls x ≡ some s′ → P i ls x s′) → P (suc i) (token t ∷ ls) s s′
-      go none q d k = not-none d
-      go (some w) q d k = g i ls t s s′ w q (k (obeyed (some w) t s) d)
-
   -- The rest of the document, and the verdict on its tokens.
   record Rest (i : ℕ) (ls : List Lexeme) (s s′ : State) : Type 0 where
     place : (n : ℕ) → place-of n ls i ≡ place-of n (drop i ls) 0
@@ -156,7 +137,7 @@ module _ (mode : Mode) where
   rest : (i : ℕ) (ls : List Lexeme) (s s′ : State) → after-rules mode i ls s ≡ some s′ → Rest i ls s s′
   unfolding place-of readable tokens-of machine-verdict follow moved
   rest =
-      after-induction Rest
+      after-induction mode Rest
       (λ ls s. record { place = λ n. refl; cuts = refl; tokens = refl; number = omega arith; verdict = refl })
       (λ i ls t s s′ w q r.
       record {
@@ -171,10 +152,10 @@ module _ (mode : Mode) where
 
   -- One token more.
   after-next : (t : Token) (us : List Lexeme) (w : Write Open) (i : ℕ) (ls : List Lexeme) (s s′ : State) → after-rules mode i ls s ≡ some s′
-      → drop i ls ≡ token t ∷ us → rule-at t us s′ ≡ some w → after-rules mode (suc i) ls s ≡ some (obeyed (some w) t s′)
+      → drop i ls ≡ token t ∷ us → rule-at mode t us s′ ≡ some w → after-rules mode (suc i) ls s ≡ some (obeyed (some w) t s′)
   unfolding after-rules obey
   after-next t us w =
-      after-induction (λ i ls s s′. drop i ls ≡ token t ∷ us → rule-at t us s′ ≡ some w → after-rules mode (suc i) ls s ≡ some (obeyed (some w) t s′))
+      after-induction mode (λ i ls s s′. drop i ls ≡ token t ∷ us → rule-at mode t us s′ ≡ some w → after-rules mode (suc i) ls s ≡ some (obeyed (some w) t s′))
       (λ ls s p q. subst (λ l. after-rules mode 1 l s ≡ some (obeyed (some w) t s)) (sym p) (ap (λ r. obey r t s (λ x. some x)) q))
       (λ i ls u s s′ v e k p q. ap (λ r. obey r u s (λ x. after-rules mode (suc i) ls x)) e ∙ k p q)
 

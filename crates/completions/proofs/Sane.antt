@@ -3,7 +3,7 @@ use mathlib.Core.Path.{_≡_, refl, sym, ap, _∙_, subst}
 use mathlib.Core.List.{List, [], _∷_, _++_}
 use mathlib.Core.Bool.{Bool, true, false, not, _&&_}
 use mathlib.Core.Option.{Option, none, some}
-use Prim.Native.Nat.{ℕ, zero, suc, _≤_}
+use Prim.Native.Nat.{ℕ, suc, _≤_}
 use native.Mathlib.Omega.{arith}
 use lib.Dec.{T}
 use lib.ListN.{length, drop, length-append}
@@ -11,7 +11,7 @@ use Rattle.text.specs.Text.{Text}
 use Rattle.text.proofs.Booleans.{all, and-0, and-1, and-in}
 use Rattle.text.proofs.Compare.{contrary, and-right}
 use Rattle.token.specs.Kind.{Kind, kinds, among, strings, at-prefix, at-base, PREFIX, BASE, IRIREF, «PNAME_NS», dot}
-use Rattle.token.specs.Tokens.{Token, has-kind, Lexeme, token, unreadable}
+use Rattle.token.specs.Tokens.{Token, has-kind, Lexeme}
 use Rattle.token.proofs.KindCodes.{all-kinds}
 use Rattle.grammar.specs.Productions.{Mode, trig, turtle}
 use Rattle.dataset.specs.Terms.{Term, label, bracket as bracket-node, cell, iri, blank, literal, tagged, rdf-type, rdf-first, rdf-rest, rdf-nil, xsd-string, xsd-integer, xsd-decimal, xsd-double, xsd-boolean}
@@ -25,10 +25,11 @@ use Rattle.machine.specs.Frame.{Ending, full-stop, brace, bracket-end, Place, t
 use Rattle.machine.specs.Rules.{Rule, _⇒_, find-rule, hold, new-cell, extended, end-list, after-node, after-properties, Opening, end-rules, verb-rules, subject-rules, simple, string, object-rules, frame-rules, directive-rules, above, statement-rules, rules}
 use Rattle.machine.specs.Step.{State, obeyed, tied-to}
 use Rattle.machine.specs.Read.{start-state}
-use Rattle.machine.proofs.Demands.{obey, after-rules}
-use Rattle.machine.proofs.Made.{some-same, first-or-later}
+use Rattle.machine.proofs.Demands.{after-rules}
+use Rattle.machine.proofs.Made.{first-or-later}
 use Rattle.machine.proofs.Extends.{Extends, adds-term}
 use Rattle.completions.specs.Written.{ObjectsThere}
+use Rattle.completions.proofs.After.{after-induction}
 use Rattle.completions.proofs.Complete.{is-suffix, awaits}
 use Rattle.completions.proofs.Effects.{ext-hold}
 
@@ -328,17 +329,10 @@ start-sane base = record { objects = tt; rest = tt }
 
 pub after-sane : (mode : Mode) (i : ℕ) (ls : List Lexeme) (s s′ : State) → after-rules mode i ls s ≡ some s′ → Sane s → (awaits (s .open-now) ≡ true → tied-to ls ≡ true)
     → Sane s′ × (awaits (s′ .open-now) ≡ true → tied-to (drop i ls) ≡ true)
-unfolding after-rules obey
-after-sane mode zero ls s s′ e x c = subst (λ (y : State). Sane y × (awaits (y .open-now) ≡ true → tied-to ls ≡ true)) (some-same e) (x, c)
-after-sane mode (suc i) [] s s′ e x c = not-none e
-after-sane mode (suc i) (unreadable p ∷ ls) s s′ e x c = not-none e
-after-sane mode (suc i) (token t ∷ ls) s s′ e x c =
-    go (find-rule (t .kind) (rules t (tied-to ls) mode (s .open-now))) refl e (λ y d u v. after-sane mode i ls y s′ d u v)
-  where
-    go : (r : Option (Write Open)) → find-rule (t .kind) (rules t (tied-to ls) mode (s .open-now)) ≡ r → obey r t s (λ y. after-rules mode i ls y) ≡ some s′
-        → ((y : State) → after-rules mode i ls y ≡ some s′ → Sane y → (awaits (y .open-now) ≡ true → tied-to ls ≡ true) → Sane s′ × (awaits (s′ .open-now) ≡ true → tied-to (drop i ls) ≡ true))
-        → Sane s′ × (awaits (s′ .open-now) ≡ true → tied-to (drop i ls) ≡ true)
-    go none q d k = not-none d
-    go (some w) q d k =
-        let (y, a) = sane-rule t (tied-to ls) mode s w q x in
-        k (obeyed (some w) t s) d y (λ z. and-right (has-kind strings t) (tied-to ls) (sym a ∙ z))
+after-sane mode =
+    after-induction mode
+    (λ i ls s s′. Sane s → (awaits (s .open-now) ≡ true → tied-to ls ≡ true) → Sane s′ × (awaits (s′ .open-now) ≡ true → tied-to (drop i ls) ≡ true))
+    (λ ls s x c. (x, c))
+    (λ i ls t s s′ w q k x c.
+    let (y, a) = sane-rule t (tied-to ls) mode s w q x in
+    k y (λ z. and-right (has-kind strings t) (tied-to ls) (sym a ∙ z)))
