@@ -1,7 +1,7 @@
 -- The demands, and C-22, over the contract of the reader's call.
 use mathlib.Core.Path.{_≡_, sym, ap, subst, _∙_}
 use mathlib.Core.Logic.{_↔_}
-use Prim.Native.Nat.{ℕ}
+use Prim.Native.Nat.{ℕ, _≤_}
 use lib.ListN.{length}
 use Rattle.text.specs.Text.{Text}
 use Rattle.token.specs.Tokens.{lexemes, place-of}
@@ -9,14 +9,17 @@ use Rattle.table.specs.Layout.{Slices}
 use Rattle.machine.specs.Read.{Answer, read}
 use Rattle.machine.specs.Demand.{Meets}
 use Rattle.machine.proofs.Demands.{accepted-iff-meets}
-use Rattle.reader.specs.Reader.{LentSlices, lengths, Contract}
+use Rattle.reader.specs.Reader.{LentSlices, lengths, Gives, Contract}
 use Rattle.reader.specs.declared.Reading.{Reading}
 use Rattle.readback.specs.ReadBack.{slices-after, RoundTrip}
 use Rattle.readback.specs.HandedOver.{HandedOver}
 use Rattle.readback.proofs.RoundTrip.{written-again}
 use Rattle.readback.proofs.HandedOver.{handed-over}
 use Rattle.completions.specs.FailsFirst.{grammar-refusal, FailsFirst}
+use Rattle.completions.specs.Refused.{Refused}
+use Rattle.completions.specs.Answered.{Answered}
 use Rattle.completions.proofs.FailsFirst.{fails-answer, eight-fails-first}
+use Rattle.completions.proofs.Refused.{refused-answer, refused-only, answered, answered-once}
 use Rattle.appended.specs.Appended.{with-text-added, Begins}
 use Rattle.appended.specs.Parts.{MeetsBehind}
 use Rattle.appended.proofs.Appended.{appended}
@@ -36,6 +39,14 @@ module _ (doc : Text) (mode : ℕ) (base : Text) (old new : LentSlices) (r : Rea
         store = sym (c .store) i;
         store-count = sym (c .store-count) i;
       }
+
+  -- "every call ends with its number, its byte position and exactly known contents of all lent memory": there is an answer,
+  pub some-answer : (a : Answer) × Answered doc mode base (lengths old) a × Gives a old new r
+  some-answer = (read doc mode base (lengths old), answered doc mode base (lengths old), c)
+
+  -- and whatever the papers say is the answer is what the call gives and leaves.
+  pub the-answer : (a : Answer) → Answered doc mode base (lengths old) a → Gives a old new r
+  the-answer a x = subst (λ (b : Answer). Gives b old new r) (sym (answered-once doc mode base (lengths old) a x)) c
 
   -- "A document is accepted exactly when the published rules say so"
   pub accepted-exactly : (r .number ≡ accepted) ↔ Meets doc mode base (lengths old)
@@ -59,6 +70,17 @@ module _ (doc : Text) (mode : ℕ) (base : Text) (old new : LentSlices) (r : Rea
 
   pub only-there : r .number ≡ grammar-refusal → (i : ℕ) × FailsFirst doc mode base (lengths old) i × (r .position ≡ place-of (length doc) (lexemes doc) i)
   only-there e = let (i, f, p) = eight-fails-first doc mode base (lengths old) (sym (c .number) ∙ e) in (i, f, c .position ∙ p)
+
+  -- "token by token; at each token 6 to 16 in number order": a refusal from 6 on is given exactly where it stands
+  pub refused-exactly : (i n : ℕ) → Refused doc mode base (lengths old) i n → (r .number ≡ n) × (r .position ≡ place-of (length doc) (lexemes doc) i)
+  refused-exactly i n f =
+      let e = refused-answer doc mode base (lengths old) i n f in
+      (c .number ∙ ap (λ (a : Answer). a .number) e, c .position ∙ ap (λ (a : Answer). a .position) e)
+
+  pub refused-nowhere-else : 6 ≤ r .number → (i : ℕ) × Refused doc mode base (lengths old) i (r .number) × (r .position ≡ place-of (length doc) (lexemes doc) i)
+  refused-nowhere-else h =
+      let (i, f, p) = refused-only doc mode base (lengths old) (subst (λ n. 6 ≤ n) (c .number) h) in
+      (i, subst (Refused doc mode base (lengths old) i) (sym (c .number)) f, c .position ∙ p)
 
 -- Two calls with one mode and one base, whatever each is lent: the second reads the first's document, a line feed and further text.
 module _ (doc more : Text) (mode : ℕ) (base : Text) (old new old′ new′ : LentSlices) (r r′ : Reading) (c : Contract doc mode base old new r)

@@ -1,4 +1,4 @@
--- The refusal that stands where the definition says is the reader's answer, and the reader answers no other.
+-- The refusal that stands where the definition says is the reader's answer, and the reader answers no other; so the whole answer is what the papers say.
 use mathlib.Core.Path.{_≡_, refl, sym, ap, ap₂, _∙_, subst}
 use mathlib.Core.Logic.{inl, inr, ⊎-elim}
 use mathlib.Core.List.{List, [], _∷_, _++_}
@@ -29,14 +29,15 @@ use Rattle.machine.specs.Rules.{find-rule, rules}
 use Rattle.machine.specs.Refusals.{no-character, undeclared, no-base, too-long, one-prefix-more, too-deep, new-depth}
 use Rattle.machine.specs.Call.{Lent, Room, room-of, mode-of, Test, _when_, first-checks, first-refusal}
 use Rattle.machine.specs.Step.{State, in-force-now, obeyed, tests, answer, step, tied-to, Outcome, accepted, refused, at-end, onward, run}
-use Rattle.machine.specs.Read.{start-state, refusal, reported, read, read-checked, read-utf8, read-tokens}
+use Rattle.machine.specs.Read.{Answer, start-state, refusal, reported, read, read-checked, read-utf8, read-tokens}
 use Rattle.machine.specs.Demand.{document-tokens, depth-after}
 use Rattle.machine.proofs.Judge.{tied-same, number-of, refusal-number}
 use Rattle.machine.proofs.Link.{follow, finished, machine-verdict}
 use Rattle.machine.proofs.Grammatical.{machine-grammar}
 use Rattle.machine.proofs.Extends.{in-force-rule}
-use Rattle.machine.proofs.Demands.{passed, after-append, depth-append, Tracks, start-tracks, obey, after-rules}
+use Rattle.machine.proofs.Demands.{zero-meets, meets-answer, passed, after-append, depth-append, Tracks, start-tracks, obey, after-rules}
 use Rattle.completions.specs.Written.{tag-first, Written}
+use Rattle.completions.specs.Answered.{Answered, unusable, not-utf8, refused as refused-there, accepted as accepted-there}
 use Rattle.completions.specs.Refused.{Condition, _if_, First, At, TooSmall, refusals, Refused}
 use Rattle.completions.proofs.After.{same-tie, rule-at, after-induction}
 use Rattle.completions.proofs.Complete.{awaits}
@@ -445,3 +446,32 @@ module _ (doc : Text) (mode : ℕ) (base : Text) (lent : Lent) where
           → RefusedAt (read-checked o doc mode base lent .number) (read-checked o doc mode base lent .position)
       checked (some c) u h = let l = leb→le c 4 (refusal-number (λ x. leb x 4) (first-checks doc mode base lent) tt c u) in absurd (omega arith)
       checked none u h = decoded u (first-bad doc) refl h
+
+  -- ---- The whole answer
+
+  abbrev IfZero : Answer → Type 0
+  IfZero a = read doc mode base lent .number ≡ 0 → a ≡ read doc mode base lent → Answered doc mode base lent a
+
+  pub answered : Answered doc mode base lent (read doc mode base lent)
+  unfolding read read-checked read-utf8 read-tokens
+  answered = checked (first-refusal (first-checks doc mode base lent)) refl (λ e x. accepted-there (zero-meets doc mode base lent e) (x ∙ meets-answer doc mode base lent (zero-meets doc mode base lent e)))
+    where
+      ran : first-refusal (first-checks doc mode base lent) ≡ none → first-bad doc ≡ none → (o : Outcome) → run-of ≡ o → Right o → IfZero (reported (length doc) o) → Answered doc mode base lent (reported (length doc) o)
+      ran u v (accepted m) r f g = let e = read-run u v ∙ ap (λ o. reported (length doc) o) r in g (ap (λ (a : Answer). a .number) e) (sym e)
+      ran u v (refused c p) r (i, e, f, q) g = refused-there i c (record { usable = u; utf8 = v; earlier = e; here = f }) (ap (refusal c) q)
+
+      decoded : first-refusal (first-checks doc mode base lent) ≡ none → (o : Option ℕ) → first-bad doc ≡ o → IfZero (read-utf8 o doc mode base lent) → Answered doc mode base lent (read-utf8 o doc mode base lent)
+      decoded u (some p) v g = not-utf8 p u v refl
+      decoded u none v g = ran u v run-of refl right-run g
+
+      checked : (o : Option ℕ) → first-refusal (first-checks doc mode base lent) ≡ o → IfZero (read-checked o doc mode base lent) → Answered doc mode base lent (read-checked o doc mode base lent)
+      checked (some n) u g = unusable n u refl
+      checked none u g = decoded u (first-bad doc) refl g
+
+  -- There is no other.
+  pub answered-once : (a : Answer) → Answered doc mode base lent a → a ≡ read doc mode base lent
+  unfolding read read-checked read-utf8
+  answered-once a (unusable n u e) = e ∙ sym (ap (λ o. read-checked o doc mode base lent) u)
+  answered-once a (not-utf8 p u v e) = e ∙ sym (ap (λ o. read-checked o doc mode base lent) u ∙ ap (λ o. read-utf8 o doc mode base lent) v)
+  answered-once a (refused-there i n x e) = e ∙ sym (refused-answer i n x)
+  answered-once a (accepted-there x e) = e ∙ sym (meets-answer doc mode base lent x)

@@ -1,5 +1,5 @@
 -- What `best` computes is the longest match.
-use mathlib.Core.Path.{_≡_, refl, subst, sym, ap, _∙_}
+use mathlib.Core.Path.{_≡_, refl, subst, sym, ap, ap₂, _∙_}
 use mathlib.Core.Logic.{_⊎_, inl, inr, ⊎-elim}
 use mathlib.Core.Bool.{Bool, true, false, _&&_, _||_}
 use mathlib.Core.List.{List, [], _∷_, _++_}
@@ -11,7 +11,7 @@ use lib.ListN.{length}
 use Rattle.text.specs.Text.{cond}
 use Rattle.utf8.specs.Utf8.{width}
 use Rattle.utf8.proofs.Tests.{and-true}
-use Rattle.token.specs.Regular.{Re, eps, set, seq, alt, star, in-set, Star, stop, more, Matches, Item, item, Some, Match, nothing, hit, Hit, Longest, nullable, cat, cats, after, of-kind, step, least-of, now-at, later, best}
+use Rattle.token.specs.Regular.{Re, eps, set, seq, alt, star, in-set, Star, stop, more, Matches, Item, item, Some, Match, nothing, hit, Hit, Longest, size, nullable, cat, cats, after, of-kind, step, least-of, now-at, later, best}
 use Rattle.token.specs.Terminals.{token-at, terminals-at}
 
 head-eq : {a b : ℕ} {x y : List ℕ} → a ∷ x ≡ b ∷ y → a ≡ b
@@ -269,6 +269,26 @@ module _ (w : ℕ → ℕ) where
   pub best-longest : (S : List Item) (cs : List ℕ) → Longest w S cs (best w S cs)
   best-longest S [] = now-longest S (now-at S) (now-ok S)
   best-longest S (c ∷ cs) = later-ok S c cs (best w (step c S) cs) (best-longest (step c S) cs)
+
+-- Two beginnings of a text that are as long are the same.
+same-front : (x y x′ y′ : List ℕ) → x ++ y ≡ x′ ++ y′ → length x ≡ length x′ → x ≡ x′
+same-front [] y [] y′ e l = refl
+same-front [] y (b ∷ x′) y′ e l = absurd (omega arith)
+same-front (a ∷ x) y [] y′ e l = absurd (omega arith)
+same-front (a ∷ x) y (b ∷ x′) y′ e l = ap₂ _∷_ (head-eq e) (same-front x y x′ y′ (tail-eq e) (omega arith))
+
+-- There is one longest match, so that nothing else need be known of how it is computed.
+pub longest-once : (w : ℕ → ℕ) (S : List Item) (z : List ℕ) (m m′ : Match) → Longest w S z m → Longest w S z m′ → m ≡ m′
+longest-once w S z nothing nothing h g = refl
+longest-once w S z nothing (hit j n) h g = absurd (h (g .front) (g .back) j (g .whole) (g .match))
+longest-once w S z (hit k n) nothing h g = absurd (g (h .front) (h .back) k (h .whole) (h .match))
+longest-once w S z (hit k n) (hit j n′) h g =
+    let a = h .longest (g .front) (g .back) j (g .whole) (g .match) in
+    let b = g .longest (h .front) (h .back) k (h .whole) (h .match) in
+    let f = same-front (h .front) (h .back) (g .front) (g .back) (sym (h .whole) ∙ g .whole) (omega arith) in
+    let c = h .least j (subst (Some S j) (sym f) (g .match)) in
+    let d = g .least k (subst (Some S k) f (h .match)) in
+    ap₂ hit (omega arith) (h .bytes ∙ ap (size w) f ∙ sym (g .bytes))
 
 -- The token at the front is the longest match over the terminals that may stand there.
 pub token-longest : (cs : List ℕ) → Longest width (terminals-at cs) cs (token-at cs)
