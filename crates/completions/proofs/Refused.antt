@@ -1,6 +1,6 @@
 -- The refusal that stands where the definition says is the reader's answer, and the reader answers no other; so the whole answer is what the papers say.
 use mathlib.Core.Path.{_≡_, refl, sym, ap, ap₂, _∙_, subst}
-use mathlib.Core.Logic.{inl, inr, ⊎-elim}
+use mathlib.Core.Logic.{_↔_, inl, inr, ⊎-elim}
 use mathlib.Core.List.{List, [], _∷_, _++_}
 use mathlib.Core.Bool.{Bool, true, false, not, _&&_}
 use mathlib.Core.Option.{Option, none, some}
@@ -8,9 +8,9 @@ use Prim.Native.Nat.{ℕ, zero, suc, _+_, _≤_, _<_}
 use native.Mathlib.Omega.{arith}
 use borrow.Author.Tests.{ltb-true, ltb-false}
 use lib.Dec.{T, leb, ltb, leb→le}
-use lib.ListN.{length, take, drop}
+use lib.ListN.{length, take, drop, drop-of-length-le}
 use Rattle.text.specs.Text.{Text}
-use Rattle.text.proofs.Booleans.{all}
+use Rattle.text.proofs.Booleans.{all, and-0, and-1}
 use Rattle.text.proofs.Compare.{by, contrary}
 use Rattle.utf8.specs.Utf8.{first-bad}
 use Rattle.token.specs.Kind.{strings}
@@ -34,16 +34,18 @@ use Rattle.machine.specs.Demand.{document-tokens, depth-after}
 use Rattle.machine.proofs.Judge.{tied-same, number-of, refusal-number}
 use Rattle.machine.proofs.Link.{follow, finished, machine-verdict}
 use Rattle.machine.proofs.Grammatical.{machine-grammar}
+use Rattle.machine.proofs.Made.{some-same}
 use Rattle.machine.proofs.Extends.{in-force-rule}
 use Rattle.machine.proofs.Demands.{zero-meets, meets-answer, passed, after-append, depth-append, Tracks, start-tracks, obey, after-rules}
 use Rattle.completions.specs.Written.{tag-first, Written}
+use Rattle.completions.specs.FailsFirst.{grammar-refusal, FailsFirst}
 use Rattle.completions.specs.Answered.{Answered, unusable, not-utf8, refused as refused-there, accepted as accepted-there}
 use Rattle.completions.specs.Refused.{Condition, _if_, First, At, TooSmall, refusals, Refused}
 use Rattle.completions.proofs.After.{same-tie, rule-at, after-induction}
 use Rattle.completions.proofs.Complete.{awaits}
 use Rattle.completions.proofs.Sane.{Sane, start-sane, sane-rule}
 use Rattle.completions.proofs.Untied.{later-next}
-use Rattle.completions.proofs.FailsFirst.{written-once, state-written}
+use Rattle.completions.proofs.FailsFirst.{written-once, state-written, fails-answer, eight-fails-first}
 
 -- ---- The first that applies
 
@@ -54,6 +56,17 @@ first-once ((k if A) ∷ cs) m n (inl x) (inl y) = x .1 ∙ sym (y .1)
 first-once ((k if A) ∷ cs) m n (inl x) (inr y) = absurd (y .0 (x .0))
 first-once ((k if A) ∷ cs) m n (inr x) (inl y) = absurd (x .0 (y .0))
 first-once ((k if A) ∷ cs) m n (inr x) (inr y) = first-once cs m n (x .1) (y .1)
+
+-- What holds of every number holds of the first's.
+numbers : (ℕ → Bool) → List Condition → Bool
+numbers p [] = true
+numbers p ((k if A) ∷ cs) = p k && numbers p cs
+
+first-number : (p : ℕ → Bool) (cs : List Condition) (n : ℕ) → T (numbers p cs) → First cs n → T (p n)
+unfolding numbers
+first-number p [] n t x = absurd x
+first-number p ((k if A) ∷ cs) n t (inl x) = subst (λ m. T (p m)) (sym (x .1)) (and-0 (p k) (numbers p cs) t)
+first-number p ((k if A) ∷ cs) n t (inr x) = first-number p cs n (and-1 (p k) (numbers p cs) t) (x .1)
 
 -- The first test that holds is the first that applies, and where none holds none applies.
 abbrev Says : List Condition → Option ℕ → Type 0
@@ -97,12 +110,6 @@ drop-next zero [] x ys e = nothing-there x ys e
 drop-next zero (a ∷ xs) x ys e = cc
 drop-next (suc i) [] x ys e = nothing-there x ys e
 drop-next (suc i) (a ∷ xs) x ys e = drop-next i xs x ys e
-
-drop-all : {A : Type 0} (i : ℕ) (xs : List A) → length xs ≤ i → drop i xs ≡ []
-drop-all zero [] h = refl
-drop-all zero (a ∷ xs) h = absurd (omega arith)
-drop-all (suc i) [] h = refl
-drop-all (suc i) (a ∷ xs) h = drop-all i xs (omega arith)
 
 -- The verdict on tokens when i more stand before them.
 moved : ℕ → Option ℕ → Option ℕ
@@ -182,6 +189,15 @@ module _ (doc : Text) (mode : ℕ) (base : Text) (lent : Lent) where
   unfolding after-rules
   behind-none = record { reached = refl; tracks = start-tracks base; sane = start-sane base }
 
+  left : (i : ℕ) (s : State) → Behind i s → Rest (mode-of mode) i ls (start-state base) s
+  left i s b = rest (mode-of mode) i ls (start-state base) s (b .reached)
+
+  abbrev place : ℕ → ℕ
+  place i = place-of (length doc) ls i
+
+  placed : (i : ℕ) (s : State) → Behind i s → (us : List Lexeme) → drop i ls ≡ us → place-of (length doc) us 0 ≡ place i
+  placed i s b us p = sym (left i s b .place (length doc) ∙ ap (λ l. place-of (length doc) l 0) p)
+
   -- Where the grammar fails, and where it does not.
   verdict-fails : (i : ℕ) → machine-verdict (mode-of mode) (statement []) (start-memory base) ts ≡ some i → GrammarFailsAt (mode-of mode) ts i
   verdict-fails i v = refused-iff (mode-of mode) ts i .0 (sym (machine-grammar (mode-of mode) (start-memory base) ts) ∙ v)
@@ -192,7 +208,7 @@ module _ (doc : Text) (mode : ℕ) (base : Text) (lent : Lent) where
   -- ---- Where there is no token
 
   no-token : (i : ℕ) {P : Token → Type 0} → length ts ≤ i → ¬ (At ts i P)
-  no-token i h a = nothing-there (a .token) [] (ap (λ l. take 1 l) (sym (drop-all i ts h)) ∙ a .there)
+  no-token i h a = nothing-there (a .token) [] (ap (λ l. take 1 l) (sym (drop-of-length-le ts {i = i} h)) ∙ a .there)
 
   not-cut : (b : Bool) → b ≡ true → ¬ (T (not b))
   not-cut true e x = x
@@ -215,19 +231,19 @@ module _ (doc : Text) (mode : ℕ) (base : Text) (lent : Lent) where
   module _ (i : ℕ) (s : State) (b : Behind i s) (t : Token) (us : List Lexeme) (p : drop i ls ≡ token t ∷ us) where
     here : drop i ts ≡ t ∷ tokens-of us
     unfolding tokens-of
-    here = rest (mode-of mode) i ls (start-state base) s (b .reached) .tokens ∙ ap tokens-of p
+    here = left i s b .tokens ∙ ap tokens-of p
 
     there : take 1 (drop i ts) ≡ t ∷ []
     there = ap (λ l. take 1 l) here
 
     not-over : {X : Type 0} → i ≡ length ts → X
-    not-over e = nothing-there t (tokens-of us) (sym (drop-all i ts (omega arith)) ∙ here)
+    not-over e = nothing-there t (tokens-of us) (sym (drop-of-length-le ts {i = i} (omega arith)) ∙ here)
 
     verdict : machine-verdict (mode-of mode) (statement []) (start-memory base) ts
         ≡ moved i (follow (rule-at (mode-of mode) t us s) (s .memory) (λ o m. machine-verdict (mode-of mode) o m (tokens-of us)))
     unfolding machine-verdict tokens-of
     verdict =
-        rest (mode-of mode) i ls (start-state base) s (b .reached) .verdict
+        left i s b .verdict
         ∙ ap (λ l. moved i (machine-verdict (mode-of mode) (s .open-now) (s .memory) (tokens-of l))) p
         ∙ ap (λ x. moved i (follow (find-rule (t .kind) (rules t x (mode-of mode) (s .open-now))) (s .memory) (λ o m. machine-verdict (mode-of mode) o m (tokens-of us)))) (sym (tied-same us))
 
@@ -317,9 +333,6 @@ module _ (doc : Text) (mode : ℕ) (base : Text) (lent : Lent) where
 
   -- ---- The run
 
-  abbrev place : ℕ → ℕ
-  place i = place-of (length doc) ls i
-
   -- None of the refusals stands before token i.
   abbrev Clear : ℕ → Type 0
   Clear i = (j k : ℕ) → j < i → ¬ (First (refusals doc mode base lent j) k)
@@ -334,7 +347,7 @@ module _ (doc : Text) (mode : ℕ) (base : Text) (lent : Lent) where
   right-end i s b p c o q = go o q
     where
       r : Rest (mode-of mode) i ls (start-state base) s
-      r = rest (mode-of mode) i ls (start-state base) s (b .reached)
+      r = left i s b
 
       over : length ts ≤ i
       over = let e = r .number ∙ ap (λ l. i + length (tokens-of l)) p in omega arith
@@ -347,7 +360,7 @@ module _ (doc : Text) (mode : ℕ) (base : Text) (lent : Lent) where
 
       fails : (o : Open) → s .open-now ≡ o → finished o ≡ false → Right (refused 8 (length doc))
       fails o q f =
-          (i, c, end-fails i over cuts (verdict-fails i (verdict-end o q ∙ ap (λ x. moved i (end-verdict x)) f ∙ moved-some i)), sym (r .place (length doc) ∙ ap (λ l. place-of (length doc) l 0) p))
+          (i, c, end-fails i over cuts (verdict-fails i (verdict-end o q ∙ ap (λ x. moved i (end-verdict x)) f ∙ moved-some i)), placed i s b [] p)
 
       go : (o : Open) → s .open-now ≡ o → Right (at-end o (length doc) (s .memory))
       go (directive d) q = fails (directive d) q refl
@@ -369,15 +382,15 @@ module _ (doc : Text) (mode : ℕ) (base : Text) (lent : Lent) where
   unfolding run step readable place-of tokens-of
   right [] i s b p c = right-end i s b p c (s .open-now) refl
   right (unreadable q ∷ us) i s b p c =
-      let r = rest (mode-of mode) i ls (start-state base) s (b .reached) in
+      let r = left i s b in
       let e = r .number ∙ ap (λ l. i + length (tokens-of l)) p in
-      (i, c, unread i (omega arith) (r .cuts ∙ ap readable p), sym (r .place (length doc) ∙ ap (λ l. place-of (length doc) l 0) p))
+      (i, c, unread i (omega arith) (r .cuts ∙ ap readable p), placed i s b (unreadable q ∷ us) p)
   right (token t ∷ us) i s b p c = go (rule-at (mode-of mode) t us s) refl (λ j x d e f. right us j x d e f)
     where
       goes : (o : Option ℕ) (x : State) → Says (refusals doc mode base lent i) o → (o ≡ none → Right (run (mode-of mode) room (length doc) us x))
           → Right (onward (λ y. run (mode-of mode) room (length doc) us y) (answer o (t .start) x))
       goes none x d k = k refl
-      goes (some n) x d k = (i, c, d, sym (rest (mode-of mode) i ls (start-state base) s (b .reached) .place (length doc) ∙ ap (λ l. place-of (length doc) l 0) p))
+      goes (some n) x d k = (i, c, d, placed i s b (token t ∷ us) p)
 
       clear-next : ((k : ℕ) → ¬ (First (refusals doc mode base lent i) k)) → Clear (suc i)
       clear-next d j k h x =
@@ -446,6 +459,31 @@ module _ (doc : Text) (mode : ℕ) (base : Text) (lent : Lent) where
           → RefusedAt (read-checked o doc mode base lent .number) (read-checked o doc mode base lent .position)
       checked (some c) u h = let l = leb→le c 4 (refusal-number (λ x. leb x 4) (first-checks doc mode base lent) tt c u) in absurd (omega arith)
       checked none u h = decoded u (first-bad doc) refl h
+
+  -- ---- 8
+
+  eight-fails : (i : ℕ) → First (refusals doc mode base lent i) 8 → GrammarFailsAt (mode-of mode) ts i
+  unfolding refusals numbers
+  eight-fails i (inl x) = let e : _≡_ {A = ℕ} 8 6 = x .1 in absurd (omega arith)
+  eight-fails i (inr (g, inl x)) = let e : _≡_ {A = ℕ} 8 7 = x .1 in absurd (omega arith)
+  eight-fails i (inr (g, inr (h, inl x))) = x .0
+  eight-fails i (inr (g, inr (h, inr (k, x)))) = absurd (first-number (ltb 8) (drop 3 (refusals doc mode base lent i)) 8 tt x)
+
+  one-failure : (i j : ℕ) → GrammarFailsAt (mode-of mode) ts i → GrammarFailsAt (mode-of mode) ts j → i ≡ j
+  one-failure i j f g = some-same (sym (fails-verdict i f) ∙ fails-verdict j g)
+
+  -- 8 stands just where the grammar fails first.
+  pub eight-stands : (i : ℕ) → FailsFirst doc mode base lent i ↔ Refused doc mode base lent i grammar-refusal
+  eight-stands i = (
+    λ f.
+        let e = ap (λ (a : Answer). a .number) (fails-answer doc mode base lent i f) in
+        let (j, r, q) = refused-only (subst (λ n. 6 ≤ n) (sym e) (omega arith)) in
+        let x = subst (Refused doc mode base lent j) e r in
+        subst (λ k. Refused doc mode base lent k 8) (one-failure j i (eight-fails j (x .here)) (f .fails)) x,
+    λ x.
+        let (j, f, q) = eight-fails-first doc mode base lent (ap (λ (a : Answer). a .number) (refused-answer i 8 x)) in
+        subst (FailsFirst doc mode base lent) (one-failure j i (f .fails) (eight-fails i (x .here))) f,
+  )
 
   -- ---- The whole answer
 
