@@ -123,12 +123,43 @@ line = '''@base <http://motors.example/line4/> .
 @prefix unit: <http://motors.example/units#> .
 PREFIX xsd: <http://www.w3.org/2001/XMLSchema#>
 '''
+
+
+def escaped(every):
+    """Strings of about 60 to 300 bytes with an escape every so many bytes."""
+    def part(i):
+        text = sentence(40)
+        pieces = (text[k:k + every - 2] for k in range(0, len(text), every - 2))
+        return '<part/%d> m:note "%s" .\n' % (i, ''.join(piece + random.choice(['\\n', '\\"', '\\t', '\\\\']) for piece in pieces))
+    return part
+
+
+def serial(i):
+    """The graph of one motor, as the bench writes it: 20 to 40 statements about its serial number."""
+    lines = ['<motor/%d> {' % i, '    <motor/%d> a m:Motor ; m:serial "BX-%07d" ; m:built "2026-11-%02d"^^xsd:date ;' % (i, i, i % 30 + 1)]
+    lines += ['        m:%s %s ;' % (word(), random.choice([number(), '"%s"' % sentence(3), '"%s"@de' % word(), 'm:' + word(), 'true'])) for _ in range(random.randint(8, 18))]
+    lines += ['        m:stop _:s%d, _:t%d .' % (i, i)]
+    lines += ['    _:%s%d m:side m:%s ; m:at %.2f ; m:unit unit:degree ; m:label "%s"@en .' % (b, i, side, random.uniform(0, 90), sentence(3)) for b, side in [('s', 'open'), ('t', 'closed')]]
+    return '\n'.join(lines) + '\n}\n'
+
+
+def full(i):
+    return '<http://motors.example/line4/part/%d> <http://motors.example/terms#%s> <http://motors.example/parts/%s/%d#%s> .\n' % (i // 4, word(), word(), i % 999, word())
+
+
 shapes = {
     'mixed.trig': (line, motor, ''),
     'few_terms.ttl': (line, lambda i: 'm:%s m:%s m:%s, m:%s ; m:%s %d, true .\n' % (word(), word(), word(), word(), word(), i % 9), ''),
     'many_terms.ttl': (line, lambda i: '<http://motors.example/line4/part/%d> m:%s m:of-%d, "number %d" .\n' % (i, word(), i, i), ''),
     'long_strings.ttl': (line, lambda i: '<part/%d> m:note """%s\n%s\\t%s""" .\n' % (i, sentence(400), sentence(400), sentence(400)), ''),
     'deep.ttl': (line, nested, ''),
+    'motors.trig': (line, serial, ''),
+    'full_iris.ttl': (line, full, ''),
+    'relative.ttl': (line, lambda i: '<part/%d> <../terms/%s> <%s#%d>, <./%s/../%d> .\n' % (i // 4, word(), word(), i % 999, word(), i % 99), ''),
+    'flat_lists.ttl': (line, lambda i: 'm:s%d m:p ( %s ) .\n' % (i % 9, ' '.join(random.choice(['m:' + word(), number()]) for _ in range(40))), ''),
+    'commented.ttl': (line, lambda i: '# %s\n# %s\nm:%s m:%s %d . # %s\n' % (sentence(), sentence(), word(), word(), i, sentence()), ''),
+    'escapes_30.ttl': (line, escaped(30), ''),
+    'escapes_7.ttl': (line, escaped(7), ''),
 }
 
 one = line + 'm:s m:p '

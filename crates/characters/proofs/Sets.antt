@@ -3,9 +3,9 @@ use mathlib.Core.Path.{_≡_, refl, subst, sym, ap, _∙_}
 use mathlib.Core.Logic.{inl, inr, ⊎-elim}
 use mathlib.Core.Bool.{Bool, true, false, _&&_, _||_}
 use mathlib.Core.List.{List, [], _∷_}
-use Prim.Native.Nat.{ℕ, _+_, _-_, _≤_, _<_}
+use Prim.Native.Nat.{ℕ, _+_, _-_, _/_, _%_, _^_, _≤_, _<_}
 use native.Mathlib.Omega.{arith}
-use lib.Dec.{T, ltb, ltb→lt}
+use lib.Dec.{T, eqb, ltb, ltb→lt}
 use lib.ListN.{length, getD}
 use types.Run.{OneOf, hit}
 use mir.Val.{hasKey}
@@ -66,6 +66,12 @@ ranged-rest rs v kss lo n t b r l u =
     subst (λ (x : ℕ). T (has-any kss x || same v (in-ranges x rs))) e
     (below-at (λ k. has-any kss (lo + k) || same v (in-ranges (lo + k) rs)) n t (b - lo) (omega arith)) in
     same-eq v (in-ranges b rs) (subst (λ (x : Bool). T (x || same v (in-ranges b rs))) (has-none kss b r) w)
+
+-- The bits of a number are the set, for 64 bytes from lo on.
+pub bit-set : (rs : List Range) (n lo : ℕ) → T (below (λ k. same (eqb (n / 2 ^ k % 2) 1) (in-ranges (lo + k) rs)) 64)
+    → (b k : ℕ) → lo + k ≡ b → k < 64 → eqb (n / 2 ^ k % 2) 1 ≡ in-ranges b rs
+bit-set rs n lo t b k e h =
+    same-eq (eqb (n / 2 ^ k % 2) 1) (in-ranges (lo + k) rs) (below-at (λ k. same (eqb (n / 2 ^ k % 2) 1) (in-ranges (lo + k) rs)) 64 t k h) ∙ ap (λ (x : ℕ). in-ranges x rs) e
 
 -- ---- Sets below 128
 

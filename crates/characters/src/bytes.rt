@@ -1,7 +1,13 @@
-// Whether a byte below 128 is of a set of the terminals.
+// Whether a byte below 128 is of a set of the terminals. The larger sets are bits of two numbers, which the compiler tests at once.
 ghost use mathlib.Core.Path.{_≡_};
 ghost use Rattle.token.specs.Regular.{in-ranges};
 ghost use Rattle.characters.specs.Bytes.{digit, letter, letter-or-digit, hex, sign, exponent, name, local, local-first, label-first, reserved, iri, echar};
+
+fn wide(b: u8) -> usize
+    ensures { λ r. ⌜ r ≡ b ⌝ }
+{
+    b as usize
+}
 
 // [0-9]
 pub fn is_digit(b: u8) -> bool
@@ -27,10 +33,14 @@ pub fn is_letter(b: u8) -> bool
 pub fn is_letter_or_digit(b: u8) -> bool
     ensures { λ r. ⌜ r ≡ in-ranges b letter-or-digit ⌝ }
 {
-    match b {
-        b'0'..=b'9' | b'A'..=b'Z' | b'a'..=b'z' => true,
-        _ => false,
+    let k = wide(b);
+    if k < 64 {
+        return (0x03FF000000000000usize >> k) % 2 == 1;
     }
+    if k < 128 {
+        return (0x07FFFFFE07FFFFFEusize >> (k - 64)) % 2 == 1;
+    }
+    false
 }
 
 // HEX ::= [0-9] | [A-F] | [a-f]
@@ -67,40 +77,56 @@ pub fn is_exponent(b: u8) -> bool
 pub fn is_name(b: u8) -> bool
     ensures { λ r. ⌜ r ≡ in-ranges b name ⌝ }
 {
-    match b {
-        b'0'..=b'9' | b'A'..=b'Z' | b'a'..=b'z' | b'_' | b'-' => true,
-        _ => false,
+    let k = wide(b);
+    if k < 64 {
+        return (0x03FF200000000000usize >> k) % 2 == 1;
     }
+    if k < 128 {
+        return (0x07FFFFFE87FFFFFEusize >> (k - 64)) % 2 == 1;
+    }
+    false
 }
 
 // PN_CHARS | ':' below 128
 pub fn is_local(b: u8) -> bool
     ensures { λ r. ⌜ r ≡ in-ranges b local ⌝ }
 {
-    match b {
-        b'0'..=b'9' | b'A'..=b'Z' | b'a'..=b'z' | b'_' | b'-' | b':' => true,
-        _ => false,
+    let k = wide(b);
+    if k < 64 {
+        return (0x07FF200000000000usize >> k) % 2 == 1;
     }
+    if k < 128 {
+        return (0x07FFFFFE87FFFFFEusize >> (k - 64)) % 2 == 1;
+    }
+    false
 }
 
 // PN_CHARS_U | ':' | [0-9] below 128
 pub fn is_local_first(b: u8) -> bool
     ensures { λ r. ⌜ r ≡ in-ranges b local-first ⌝ }
 {
-    match b {
-        b'0'..=b'9' | b'A'..=b'Z' | b'a'..=b'z' | b'_' | b':' => true,
-        _ => false,
+    let k = wide(b);
+    if k < 64 {
+        return (0x07FF000000000000usize >> k) % 2 == 1;
     }
+    if k < 128 {
+        return (0x07FFFFFE87FFFFFEusize >> (k - 64)) % 2 == 1;
+    }
+    false
 }
 
 // PN_CHARS_U | [0-9] below 128
 pub fn is_label_first(b: u8) -> bool
     ensures { λ r. ⌜ r ≡ in-ranges b label-first ⌝ }
 {
-    match b {
-        b'0'..=b'9' | b'A'..=b'Z' | b'a'..=b'z' | b'_' => true,
-        _ => false,
+    let k = wide(b);
+    if k < 64 {
+        return (0x03FF000000000000usize >> k) % 2 == 1;
     }
+    if k < 128 {
+        return (0x07FFFFFE87FFFFFEusize >> (k - 64)) % 2 == 1;
+    }
+    false
 }
 
 // PN_LOCAL_ESC after the backslash
@@ -117,10 +143,14 @@ pub fn is_reserved(b: u8) -> bool
 pub fn is_iri(b: u8) -> bool
     ensures { λ r. ⌜ r ≡ in-ranges b iri ⌝ }
 {
-    match b {
-        b'!' | b'#'..=b';' | b'=' | b'?'..=b'[' | b']' | b'_' | b'a'..=b'z' | b'~'..=127 => true,
-        _ => false,
+    let k = wide(b);
+    if k < 64 {
+        return (0xAFFFFFFA00000000usize >> k) % 2 == 1;
     }
+    if k < 128 {
+        return (0xC7FFFFFEAFFFFFFFusize >> (k - 64)) % 2 == 1;
+    }
+    false
 }
 
 // ECHAR after the backslash

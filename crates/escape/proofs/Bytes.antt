@@ -5,7 +5,7 @@ use mathlib.Core.List.{List, [], _∷_, _++_}
 use mathlib.Core.Bool.{Bool, true, false, _||_}
 use native.Mathlib.Nat.{mod-eq-of-lt}
 use native.Mathlib.Omega.{arith}
-use lib.ListN.{getD}
+use lib.ListN.{getD, take, drop}
 use lib.Dec.{eqb, ltb}
 use borrow.Author.Tests.{ltb-true, ltb-false}
 use Rattle.text.specs.Text.{Text, between}
@@ -24,6 +24,16 @@ pub data Bytes : Text → Type 0 where
 pub bytes-of : (s : Text) → ((i : ℕ) → getD s i 0 < 256) → Bytes s
 bytes-of [] f = none
 bytes-of (b ∷ s) f = more (f 0) (bytes-of s (λ i. f (suc i)))
+
+pub bytes-take : {s : Text} (n : ℕ) → Bytes s → Bytes (take n s)
+bytes-take zero b = none
+bytes-take (suc n) none = none
+bytes-take (suc n) (more h b) = more h (bytes-take n b)
+
+pub bytes-drop : {s : Text} (n : ℕ) → Bytes s → Bytes (drop n s)
+bytes-drop zero b = b
+bytes-drop (suc n) none = none
+bytes-drop (suc n) (more h b) = bytes-drop n b
 
 bytes-append : {s t : Text} → Bytes s → Bytes t → Bytes (s ++ t)
 bytes-append none q = q

@@ -11,14 +11,16 @@ use lib.Dec.{eqb, ltb}
 use borrow.Author.Tests.{eqb-false}
 use Rattle.text.specs.Text.{Text, is, same-text, begins, some-byte}
 use Rattle.text.specs.Slice.{over, over-at}
-use Rattle.text.proofs.Compare.{by, begins-length, begins-more, same-append, same-end}
+use Rattle.text.specs.Runs.{byte, next-at}
+use Rattle.text.proofs.Runs.{next-split, next-free}
+use Rattle.text.proofs.Compare.{by, contrary, begins-length, begins-more, same-append, same-end}
 use Rattle.text.proofs.Over.{over-append, over-length}
 use Rattle.utf8.specs.Utf8.{encode}
 use Rattle.escape.specs.Escape.{outside, behind, digits, hex-value, pieces-from, pieces, unescape-piece, unescape-pieces, unescape, bad-pieces, bad-escape, unreserve}
 use Rattle.escape.specs.Escape as escape
-use Rattle.escape.specs.Code.{step, four, piece, bad, place, undone, low, Fair, Starts, Written}
+use Rattle.escape.specs.Code.{step, four, piece, bad, place, undone, low, Fair, Starts, Stretch, Written}
 use Rattle.escape.specs.declared.Scan.{Scan}
-use Rattle.escape.proofs.Bytes.{or-left, or-right, bytes-of, low-bytes, unescape-bytes, unreserve-bytes}
+use Rattle.escape.proofs.Bytes.{or-left, or-right, bytes-of, bytes-take, bytes-drop, low-bytes, unescape-bytes, unreserve-bytes}
 use Rattle.escape.proofs.Steps.{at-backslash, at-plain, at-short, at-long, at-letter, fair-step, fair-start, fair-name-start, undone-step, undone-name, step-agrees, stays-text}
 
 -- Before the first byte.
@@ -254,3 +256,80 @@ module _ (s : Scan) (st : Starts s) (cs : Text) (h : some-byte (is "\\") cs ≡ 
 
   pub plain-written : (x y : Text) → ((i : ℕ) → getD cs i 0 < 256) → y ≡ over cs x → (length cs ≡ length (undone s cs)) × (y ≡ over (low (undone s cs)) x)
   plain-written x y small e = (plain-length, e ∙ rw (st .plain cs h, low-bytes (bytes-of cs small)))
+
+-- Bytes without a backslash, where no escape has begun.
+run-pieces : (a t : Text) → some-byte (is "\\") a ≡ false
+    → (unescape-pieces (pieces-from outside (a ++ t)) ≡ a ++ unescape-pieces (pieces-from outside t)) × (bad-pieces (pieces-from outside (a ++ t)) ≡ bad-pieces (pieces-from outside t))
+unfolding unescape-pieces unescape-piece bad-pieces some-byte
+run-pieces [] t e = (refl, refl)
+run-pieces (c ∷ a) t e =
+    let here : eqb c 92 ≡ false = or-left (eqb c 92) (some-byte (is "\\") a) e in
+    let rest = run-pieces a t (or-right (eqb c 92) (some-byte (is "\\") a) e) in
+    (rw (at-plain c (a ++ t) here) (ap (λ (l : Text). c ∷ l) (rest .0)), rw (at-plain c (a ++ t) here) (rest .1))
+
+run-name : (a t : Text) → some-byte (is "\\") a ≡ false → unreserve (a ++ t) ≡ a ++ unreserve t
+unfolding unreserve some-byte
+run-name [] t e = refl
+run-name (c ∷ a) t e =
+    rw (or-left (eqb c 92) (some-byte (is "\\") a) e) (ap (λ (l : Text). c ∷ l) (run-name a t (or-right (eqb c 92) (some-byte (is "\\") a) e)))
+
+-- The bytes up to the next backslash.
+module _ (cs : Text) (i k : ℕ) (e : k ≡ next-at (byte 92) cs i) where
+  part : Text
+  part = take (k - i) (drop i cs)
+
+  pub stretch-text : i ≤ k → k ≤ length cs → Stretch 0 cs i k
+  unfolding undone place part
+  stretch-text after fits =
+      let split : drop i cs ≡ take (k - i) (drop i cs) ++ drop k cs = next-split (byte 92) cs i k e in
+      let both = run-pieces (take (k - i) (drop i cs)) (drop k cs) (next-free (byte 92) cs i k e) in
+      record {
+        after = after;
+        fits = fits;
+        text = λ s z. rw z (ap (λ (l : Text). unescape-pieces (pieces-from outside l)) split ∙ both .0);
+        named = λ s z q. rw z (ap (λ (l : Text). bad-pieces (pieces-from outside l)) split ∙ both .1);
+      }
+
+  pub stretch-name : i ≤ k → k ≤ length cs → Stretch 10 cs i k
+  stretch-name after fits =
+      let split : drop i cs ≡ take (k - i) (drop i cs) ++ drop k cs = next-split (byte 92) cs i k e in
+      record {
+        after = after;
+        fits = fits;
+        text = λ s z. rw (undone-name s (drop i cs) z, undone-name s (drop k cs) z) (ap unreserve split ∙ run-name (take (k - i) (drop i cs)) (drop k cs) (next-free (byte 92) cs i k e));
+        named = λ s z q. contrary q;
+      }
+
+pub stretch-none : (left : ℕ) (cs : Text) (i : ℕ) → i ≤ length cs → Stretch left cs i i
+stretch-none left cs i h =
+    let none : i - i ≡ 0 = omega arith in
+    record { after = omega arith; fits = h; text = λ s z. rw none; named = λ s z q. refl }
+
+-- What a walk learns of such bytes.
+module _ (s : Scan) (cs : Text) (i k : ℕ) (st : Stretch (s .left) cs i k) where
+  pub stretch-long : length (take (k - i) (drop i cs)) ≡ k - i
+  stretch-long = length-take-le (k - i) (drop i cs) (omega (arith, st .fits, length-drop i cs))
+
+  pub stretch-length : length (undone s (drop i cs)) ≡ (k - i) + length (undone s (drop k cs))
+  stretch-length = ap length (st .text s refl) ∙ (length-append (take (k - i) (drop i cs)) (undone s (drop k cs)) ∙ ap (λ (n : ℕ). n + length (undone s (drop k cs))) stretch-long)
+
+  module _ (x : Text) (j : ℕ) (r : Bool) (er : r ≡ begins (take (k - i) (drop i cs)) (drop j x)) where
+    stretched : same-text (undone s (drop i cs)) (drop j x) ≡ (r && same-text (undone s (drop k cs)) (drop (j + (k - i)) x))
+    stretched =
+        ap (λ (l : Text). same-text l (drop j x)) (st .text s refl)
+        ∙ (same-append (take (k - i) (drop i cs)) (undone s (drop k cs)) (drop j x) ∙ rw (stretch-long, drop-drop (k - i) j x, er))
+
+    pub stretch-same : r ≡ true → same-text (undone s (drop i cs)) (drop j x) ≡ same-text (undone s (drop k cs)) (drop (j + (k - i)) x)
+    stretch-same g = stretched ∙ rw g
+
+    pub stretch-not : r ≡ false → same-text (undone s (drop i cs)) (drop j x) ≡ false
+    stretch-not g = stretched ∙ rw g
+
+    pub stretch-fits : j ≤ length x → r ≡ true → j + (k - i) ≤ length x
+    stretch-fits h g = omega (arith, begins-length (take (k - i) (drop i cs)) (drop j x) (sym er ∙ g), stretch-long, length-drop j x)
+
+  pub stretch-written : ((n : ℕ) → getD cs n 0 < 256) → (w x y z : Text) (j : ℕ) → Halfway w (undone s (drop i cs)) x y j → z ≡ over-at j (take (k - i) (drop i cs)) y
+      → Halfway w (undone s (drop k cs)) x z (j + (k - i))
+  stretch-written small w x y z j h o =
+      halfway-more w (undone s (drop i cs)) (take (k - i) (drop i cs)) (undone s (drop k cs)) x y z j (k - i) h (st .text s refl) stretch-long
+      (o ∙ rw (low-bytes (bytes-take (k - i) (bytes-drop i (bytes-of cs small)))))

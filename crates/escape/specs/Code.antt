@@ -1,14 +1,14 @@
 -- The scan of an escaped text byte by byte, as the code does it.
-use mathlib.Core.List.{[], _∷_}
+use mathlib.Core.List.{[], _∷_, _++_}
 use mathlib.Core.Path.{_≡_}
 use mathlib.Core.Bool.{Bool, false}
 use Prim.Native.Nat.{ℕ, zero, suc, _+_, _*_, _-_, _/_, _%_, _≤_}
 use lib.Dec.{eqb, ltb}
-use lib.ListN.{length, take}
+use lib.ListN.{length, take, drop}
 use Rattle.text.specs.Text.{Text, cond, is, some-byte}
 use Rattle.text.specs.Slice.{over}
 use Rattle.utf8.specs.Utf8.{width}
-use Rattle.escape.specs.Escape.{outside, behind, digits, hex-value, letter-value, pieces-from, unescape-pieces, no-character, unreserve}
+use Rattle.escape.specs.Escape.{outside, behind, digits, hex-value, letter-value, pieces-from, unescape-pieces, bad-pieces, no-character, unreserve}
 use Rattle.escape.specs.Escape as escape
 use Rattle.escape.specs.declared.Scan.{Scan}
 
@@ -82,6 +82,13 @@ pub record Starts (s : Scan) : Type 0 where
   pub fair : Fair s
   pub short : (cs : Text) → length (undone s cs) ≤ length cs
   pub plain : (cs : Text) → some-byte (is "\\") cs ≡ false → undone s cs ≡ cs
+
+-- From i to k the bytes of the text stand for themselves, for a scan with so much left.
+pub record Stretch (left : ℕ) (cs : Text) (i k : ℕ) : Type 0 where
+  pub after : i ≤ k
+  pub fits : k ≤ length cs
+  pub text : (s : Scan) → s .left ≡ left → undone s (drop i cs) ≡ take (k - i) (drop i cs) ++ undone s (drop k cs)
+  pub named : (s : Scan) → s .left ≡ left → eqb left 10 ≡ false → bad-pieces (pieces-from (place s) (drop i cs)) ≡ bad-pieces (pieces-from (place s) (drop k cs))
 
 -- What writing the text t over the front of x answers and leaves, if `bytes` (then each number of t is a byte).
 pub record Written (bytes : Type 0) (t x y : Text) (r : ℕ) : Type 0 where

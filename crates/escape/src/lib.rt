@@ -7,7 +7,7 @@ ghost use Rattle.text.specs.Text.{is, same-text, begins, some-byte};
 ghost use Rattle.text.specs.Slice.{over, over-at};
 ghost use Rattle.utf8.specs.Utf8.{width};
 ghost use Rattle.escape.specs.Escape.{hex-value, letter-value, no-character, bad-escape, unescape, unreserve};
-ghost use Rattle.escape.specs.Code.{step-outside, step-behind, step-name, step-digit, step-escape, step, four, bad, undone, low, Starts, Written};
+ghost use Rattle.escape.specs.Code.{step-outside, step-behind, step-name, step-digit, step-escape, step, four, bad, undone, low, Starts, Stretch, Written};
 
 // A place in an escaped text. left: 0 outside an escape, 9 behind a backslash, 1 to 8 where so many hex digits
 // are to come, 10 in a local name. n: how many bytes the piece that has just ended stands for; value: its
@@ -279,14 +279,34 @@ fn put(out: &mut [u8], j: usize, b: &[usize])
 pub fn has_backslash(s: &[u8]) -> bool
     ensures { λ r. ⌜ r ≡ some-byte (is "\\") (now (s .entry)) ⌝ }
 {
-    let mut i: usize = 0;
-    while i < s.len() {
-        if s[i] == 92 {
-            return true;
-        }
-        i += 1;
+    text::has(s, 92)
+}
+
+// Where the bytes end that stand for themselves, from a place on: at the next backslash, or at the end; inside an escape there are none.
+pub fn plain_to(left: usize, s: &[u8], at: usize) -> usize
+    requires { ⌜ at < length (now s) ⌝ }
+    ensures { λ r. ⌜ Stretch left (now (s .entry)) at r ⌝ }
+{
+    if s[at] == 92 {
+        return at;
     }
-    false
+    if left == 0 {
+        return text::next(s, at, 92);
+    }
+    if left == 10 {
+        return text::next(s, at, 92);
+    }
+    at
+}
+
+// Writes the bytes from j on, as far as out goes.
+fn put_plain(out: &mut [u8], j: usize, s: &[u8])
+    ensures { λ r. ⌜ now (out .exit) ≡ over-at j (now (s .entry)) (now (out .entry)) ⌝ }
+{
+    if out.len() <= j {
+        return;
+    }
+    text::copy(s, &mut out[j..]);
 }
 
 // How long the text is from the scan on.
@@ -301,9 +321,15 @@ fn length_from(start: Scan, s: &[u8]) -> usize
     let mut i: usize = 0;
     let mut total: usize = 0;
     while i < s.len() {
-        scan = scan.step(s[i]);
-        total += scan.n;
-        i += 1;
+        let to = plain_to(scan.left, s, i);
+        if i < to {
+            total += to - i;
+            i = to;
+        } else {
+            scan = scan.step(s[i]);
+            total += scan.n;
+            i += 1;
+        }
     }
     total
 }
@@ -320,14 +346,23 @@ fn same_from(start: Scan, s: &[u8], t: &[u8]) -> bool
     let mut i: usize = 0;
     let mut j: usize = 0;
     while i < s.len() {
-        scan = scan.step(s[i]);
-        let n = scan.n;
-        let b = scan.bytes();
-        if goes_on(t, j, &b[..n]) {
-            j += n;
-            i += 1;
+        let to = plain_to(scan.left, s, i);
+        if i < to {
+            if !text::begins(&s[i..to], &t[j..]) {
+                return false;
+            }
+            j += to - i;
+            i = to;
         } else {
-            return false;
+            scan = scan.step(s[i]);
+            let n = scan.n;
+            let b = scan.bytes();
+            if goes_on(t, j, &b[..n]) {
+                j += n;
+                i += 1;
+            } else {
+                return false;
+            }
         }
     }
     j == t.len()
@@ -346,12 +381,19 @@ fn write_from(start: Scan, s: &[u8], out: &mut [u8]) -> usize
     let mut i: usize = 0;
     let mut j: usize = 0;
     while i < s.len() {
-        scan = scan.step(s[i]);
-        let n = scan.n;
-        let b = scan.bytes();
-        put(out, j, &b[..n]);
-        j += n;
-        i += 1;
+        let to = plain_to(scan.left, s, i);
+        if i < to {
+            put_plain(out, j, &s[i..to]);
+            j += to - i;
+            i = to;
+        } else {
+            scan = scan.step(s[i]);
+            let n = scan.n;
+            let b = scan.bytes();
+            put(out, j, &b[..n]);
+            j += n;
+            i += 1;
+        }
     }
     j
 }
@@ -366,11 +408,16 @@ pub fn has_bad_escape(s: &[u8]) -> bool
     let mut scan = Scan::text();
     let mut i: usize = 0;
     while i < s.len() {
-        scan = scan.step(s[i]);
-        if is_bad(scan) {
-            return true;
+        let to = plain_to(scan.left, s, i);
+        if i < to {
+            i = to;
+        } else {
+            scan = scan.step(s[i]);
+            if is_bad(scan) {
+                return true;
+            }
+            i += 1;
         }
-        i += 1;
     }
     false
 }

@@ -14,6 +14,10 @@ most-multiplier = 33554432
 unfoldable pub stir : ℕ → ℕ → ℕ → ℕ
 stir m h n = cond (eqb m first-multiplier) ((h * m + n) % 4294967296) ((h * m + h / 32768 + n) % 4294967296)
 
+-- Four numbers more, by the first multiplier.
+unfoldable pub stir-4 : ℕ → ℕ → ℕ → ℕ → ℕ → ℕ
+stir-4 h a b c d = stir first-multiplier (stir first-multiplier (stir first-multiplier (stir first-multiplier h a) b) c) d
+
 unfoldable pub hash-from : ℕ → ℕ → Text → ℕ
 hash-from m h [] = h
 hash-from m h (b ∷ s) = hash-from m (stir m h (b % 256)) s

@@ -2,12 +2,12 @@
 ghost use mathlib.Core.Path.{_≡_};
 ghost use mathlib.Core.Bool.{false};
 ghost use Prim.Native.Nat.{_≤_, _<_};
-ghost use lib.ListN.{length};
+ghost use lib.ListN.{length, drop};
 ghost use Rattle.text.specs.Text.{same-text};
 ghost use Rattle.text.specs.Slice.{over};
 ghost use Rattle.escape.specs.Code.{undone, Starts, Written};
 ghost use Rattle.form.specs.Form.{undo, bad, joined};
-ghost use Rattle.form.specs.Hash.{most-multiplier, stir, hash-from};
+ghost use Rattle.form.specs.Hash.{first-multiplier, most-multiplier, stir, stir-4, hash-from};
 use escape::Scan;
 
 // How the back is written: as it is, with the escapes of strings and references, or with those of local names.
@@ -108,18 +108,55 @@ pub fn stir(m: usize, h: usize, n: usize) -> usize
     (h * m + h / 32768 + n) % 4294967296
 }
 
-// The hash h with the bytes of s.
-pub fn hash_bytes(m: usize, h: usize, s: &[u8]) -> usize
-    requires { ⌜ (m ≤ most-multiplier) × (h < 4294967296) ⌝ }
-    ensures { λ r. ⌜ (r ≡ hash-from m h (now (s .entry))) × (r < 4294967296) ⌝ }
+// The hash h with four bytes more, by the first multiplier: one product lies on the way from h.
+fn stir_4(h: usize, a: usize, b: usize, c: usize, d: usize) -> usize
+    requires { ⌜ (h < 4294967296) × ((a < 256) × ((b < 256) × ((c < 256) × (d < 256)))) ⌝ }
+    ensures { λ r. ⌜ (r ≡ stir-4 h a b c d) × (r < 4294967296) ⌝ }
+{
+    (h * 1345077009 + (a * 1055306571 + b * 637696617 + c * 16777619 + d)) % 4294967296
+}
+
+fn hash_slow(m: usize, h: usize, s: &[u8], at: usize) -> usize
+    requires { ⌜ (m ≤ most-multiplier) × ((h < 4294967296) × (at ≤ length (now s))) ⌝ }
+    ensures { λ r. ⌜ (r ≡ hash-from m h (drop at (now (s .entry)))) × (r < 4294967296) ⌝ }
 {
     let mut total = h;
-    let mut i: usize = 0;
+    let mut i: usize = at;
     while i < s.len() {
         total = stir(m, total, wide(s[i]) % 256);
         i += 1;
     }
     total
+}
+
+fn hash_first(h: usize, s: &[u8]) -> usize
+    requires { ⌜ h < 4294967296 ⌝ }
+    ensures { λ r. ⌜ (r ≡ hash-from first-multiplier h (now (s .entry))) × (r < 4294967296) ⌝ }
+{
+    let mut total = h;
+    let mut i: usize = 0;
+    while 4 <= s.len() - i {
+        total = stir_4(
+            total,
+            wide(s[i]),
+            wide(s[i + 1]),
+            wide(s[i + 2]),
+            wide(s[i + 3]),
+        );
+        i += 4;
+    }
+    hash_slow(16777619, total, s, i)
+}
+
+// The hash h with the bytes of s.
+pub fn hash_bytes(m: usize, h: usize, s: &[u8]) -> usize
+    requires { ⌜ (m ≤ most-multiplier) × (h < 4294967296) ⌝ }
+    ensures { λ r. ⌜ (r ≡ hash-from m h (now (s .entry))) × (r < 4294967296) ⌝ }
+{
+    if m == 16777619 {
+        return hash_first(h, s);
+    }
+    hash_slow(m, h, s, 0)
 }
 
 // The same with bytes that are given as numbers.
@@ -148,11 +185,17 @@ fn hash_scan(start: Scan, m: usize, h: usize, s: &[u8]) -> usize
     let mut total = h;
     let mut i: usize = 0;
     while i < s.len() {
-        scan = scan.step(s[i]);
-        let n = scan.n;
-        let b = scan.bytes();
-        total = hash_numbers(m, total, &b[..n]);
-        i += 1;
+        let to = escape::plain_to(scan.left, s, i);
+        if i < to {
+            total = hash_bytes(m, total, &s[i..to]);
+            i = to;
+        } else {
+            scan = scan.step(s[i]);
+            let n = scan.n;
+            let b = scan.bytes();
+            total = hash_numbers(m, total, &b[..n]);
+            i += 1;
+        }
     }
     total
 }

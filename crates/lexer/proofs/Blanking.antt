@@ -7,11 +7,14 @@ use Prim.Native.Nat.{ℕ, suc, _+_, _≤_, _<_}
 use native.Mathlib.Omega.{arith}
 use native.Mathlib.Nat.{zero-add}
 use native.Mathlib.Numerals.{add-one}
-use borrow.Author.Tests.{lt-ltb, ne-eqb, eq-eqb, eqb-true}
-use lib.Dec.{T}
+use borrow.Author.Tests.{lt-ltb, ltb-true, ltb-false, ne-eqb, eq-eqb, eqb-true, eqb-false}
+use lib.Dec.{T, eqb, ltb}
 use lib.ListN.{length, getD, drop, drop-of-length-le}
 use lib.Seq.{drop-cons}
 use Rattle.text.specs.Text.{Text, cond, is}
+use Rattle.text.specs.Runs.{four, next-at}
+use Rattle.text.proofs.Compare.{contrary, or-left, or-right}
+use Rattle.text.proofs.Runs.{next-walk, next-stop}
 use Rattle.utf8.specs.Utf8.{encode, encodes, width, decode}
 use Rattle.utf8.specs.Scalar.{Highs}
 use Rattle.utf8.proofs.Tests.{by, split, below, below-at, same, same-eq}
@@ -25,6 +28,10 @@ use Rattle.lexer.specs.Blanks.{blanks, white-spaces, skips, CommentTo, B
 -- A byte or code point from 128 on ends no line.
 pub high-line : (c : ℕ) → 128 ≤ c → line-end c ≡ false
 high-line c h = simp (ne-eqb c 13 (omega arith), ne-eqb c 10 (omega arith))
+
+-- The test of the code.
+pub blank-ranges : (b : ℕ) → b < 256 → (eqb b 32 || eqb b 9 || eqb b 13 || eqb b 10) ≡ in-ranges b white-spaces
+blank-ranges b h = same-eq (eqb b 32 || eqb b 9 || eqb b 13 || eqb b 10) (in-ranges b white-spaces) (below-at (λ k. same (eqb k 32 || eqb k 9 || eqb k 13 || eqb k 10) (in-ranges k white-spaces)) 256 tt b h)
 
 skips-highs : (m t : Text) → Highs m → skips true (m ++ t) ≡ length m + skips true t
 unfolding skips
@@ -130,6 +137,23 @@ module _ (s : Text) (at i : ℕ) (e : at + skips true (drop at s) ≡ i + skips 
 
   pub comment-return : at ≤ i → i < length s → getD s i 0 ≡ 13 → CommentTo s at i
   comment-return l u f = let a = line-blank s i u (rw f) (rw f) (rw f) in record { from = l; within = omega arith; same = omega arith }
+
+-- The end of a comment is the next end of a line.
+pub comment-next : (s : Text) (at k : ℕ) → at ≤ length s → k ≡ next-at (four 10 13 10 13) s at → at ≤ k → k ≤ length s → CommentTo s at k
+comment-next s at k h e l u =
+    let x : at + skips true (drop at s) ≡ k + skips true (drop k s) =
+    next-walk (four 10 13 10 13) s (λ (j : ℕ). at + skips true (drop at s) ≡ j + skips true (drop j s)) on at k h e refl in
+    by (ltb k (length s))
+    (λ q. let g : k < length s = ltb-true k (length s) q in
+    by (eqb (getD s k 0) 10) (λ f. comment-feed s at k x l g (eqb-true _ _ f))
+    (λ f. by (eqb (getD s k 0) 13) (λ r. comment-return s at k x l g (eqb-true _ _ r)) (λ r. contrary (sym (next-stop (four 10 13 10 13) s at k e g) ∙ rw (f, r)))))
+    (λ q. comment-stop s at k x l u (ltb-false k (length s) q))
+  where
+    on : (j : ℕ) → j < length s → four 10 13 10 13 (getD s j 0) ≡ false → at + skips true (drop at s) ≡ j + skips true (drop j s) → at + skips true (drop at s) ≡ j + 1 + skips true (drop (j + 1) s)
+    on j g f y =
+        let c = getD s j 0 in
+        let z = or-left (eqb c 10 || eqb c 13) (eqb c 10 || eqb c 13) f in
+        comment-on s at j y g (eqb-false c 10 (or-left (eqb c 10) (eqb c 13) z)) (eqb-false c 13 (or-right (eqb c 10) (eqb c 13) z))
 
 -- skip_blanks: what is left is that of the rest.
 module _ (s : Text) (i : ℕ) (e : skips false s ≡ i + skips false (drop i s)) where

@@ -26,10 +26,7 @@ use lexer_words::tags::at_sign;
 fn is_white_space(b: u8) -> bool
     ensures { λ r. ⌜ r ≡ in-ranges b white-spaces ⌝ }
 {
-    match b {
-        b' ' | b'\t' | b'\r' | b'\n' => true,
-        _ => false,
-    }
+    (b == b' ') | (b == b'\t') | (b == b'\r') | (b == b'\n')
 }
 
 // The end of a comment: where a line ends, or the text.
@@ -37,18 +34,7 @@ fn comment_end(s: &[u8], at: usize) -> usize
     requires { ⌜ at ≤ length (now s) ⌝ }
     ensures { λ r. ⌜ CommentTo (now (s .entry)) at r ⌝ }
 {
-    let mut i: usize = at;
-    while i < s.len() {
-        let b = s[i];
-        if b == b'\n' {
-            return i;
-        }
-        if b == b'\r' {
-            return i;
-        }
-        i += 1;
-    }
-    i
+    text::next_of_four(s, at, b'\n', b'\r', b'\n', b'\r')
 }
 
 // How many bytes of blanks and comments stand at the front.

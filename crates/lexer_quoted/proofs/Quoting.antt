@@ -1,14 +1,17 @@
 -- Strings, short and long, for either quote.
 use mathlib.Core.Path.{_≡_, refl, subst, sym, _∙_}
 use mathlib.Core.Logic.{_⊎_, inl, inr, ⊎-elim}
-use mathlib.Core.Bool.{Bool, true, false, not, _&&_}
+use mathlib.Core.Bool.{Bool, true, false, not, _&&_, _||_}
 use mathlib.Core.List.{[], _∷_}
 use Prim.Native.Nat.{ℕ, zero, suc, _+_, _≤_, _<_}
 use native.Mathlib.Omega.{arith}
-use borrow.Author.Tests.{eq-eqb, ne-eqb}
+use borrow.Author.Tests.{eq-eqb, ne-eqb, eqb-false}
 use lib.Dec.{T, eqb, eqb→eq}
 use lib.ListN.{length, getD, drop}
 use Rattle.text.specs.Text.{Text}
+use Rattle.text.specs.Runs.{four, next-at}
+use Rattle.text.proofs.Compare.{or-left, or-right}
+use Rattle.text.proofs.Runs.{next-walk}
 use Rattle.utf8.proofs.Tests.{by, split, and-true}
 use Rattle.token.specs.Terminals.{tripled}
 use Rattle.automaton.specs.Levels.{intervals}
@@ -131,6 +134,17 @@ module _ (s : Text) (q kind : ℕ) (short : Short q kind) where
 
         pub str-escaped : (n ≡ 0 → ⊥) → In s (in-string q) (i + 1 + n) 0 0
         str-escaped z = at-in (escaped .whole z)
+
+  -- A byte that none of the tests stops at, and on to the next that one does.
+  str-on : (j : ℕ) → j < length s → four q 10 13 92 (getD s j 0) ≡ false → In s (in-string q) j 0 0 → In s (in-string q) (j + 1) 0 0
+  str-on j h f g =
+      let c = getD s j 0 in
+      let a = or-left (eqb c q || eqb c 10) (eqb c 13 || eqb c 92) f in
+      let b = or-right (eqb c q || eqb c 10) (eqb c 13 || eqb c 92) f in
+      str-plain j g h (eqb-false c q (or-left (eqb c q) (eqb c 10) a)) (eqb-false c 10 (or-right (eqb c q) (eqb c 10) a)) (eqb-false c 13 (or-left (eqb c 13) (eqb c 92) b)) (eqb-false c 92 (or-right (eqb c 13) (eqb c 92) b))
+
+  pub str-run : (i k : ℕ) → i ≤ length s → k ≡ next-at (four q 10 13 92) s i → In s (in-string q) i 0 0 → In s (in-string q) k 0 0
+  str-run i k h e g = next-walk (four q 10 13 92) s (λ (j : ℕ). In s (in-string q) j 0 0) str-on i k h e g
 
 -- ---- Long strings
 
@@ -320,6 +334,15 @@ module _ (s : Text) (q kind : ℕ) (long : Long q kind) where
 
         pub long-escaped : (n ≡ 0 → ⊥) → In s (in-long q) (i + 1 + n) 0 0
         long-escaped z = at-in (escaped-long .whole z)
+
+  long-on : (j : ℕ) → j < length s → four q 92 q 92 (getD s j 0) ≡ false → In s (in-long q) j 0 0 → In s (in-long q) (j + 1) 0 0
+  long-on j h f g =
+      let c = getD s j 0 in
+      let a = or-left (eqb c q || eqb c 92) (eqb c q || eqb c 92) f in
+      long-plain j 0 g h (eqb-false c q (or-left (eqb c q) (eqb c 92) a)) (eqb-false c 92 (or-right (eqb c q) (eqb c 92) a))
+
+  pub long-run : (i k : ℕ) → i ≤ length s → k ≡ next-at (four q 92 q 92) s i → In s (in-long q) i 0 0 → In s (in-long q) k 0 0
+  long-run i k h e g = next-walk (four q 92 q 92) s (λ (j : ℕ). In s (in-long q) j 0 0) long-on i k h e g
 
 -- ---- Which of them
 

@@ -37,7 +37,7 @@ fn short_string(s: &[u8], quote: u8, kind: u8) -> Token
             }
             i = i + 1 + n;
         } else {
-            i += 1;
+            i = text::next_of_four(s, i + 1, quote, b'\n', b'\r', b'\\');
         }
     }
     Token { kind: 0, len: 0 }
@@ -72,7 +72,7 @@ fn long_string(s: &[u8], quote: u8, kind: u8) -> Token
                 }
                 i = i + 1 + n;
             } else {
-                i += 1;
+                i = text::next_of_four(s, i + 1, quote, b'\\', quote, b'\\');
             }
         }
     }

@@ -20,8 +20,9 @@ use Rattle.automaton.specs.Run.{tok, At, TokenAt}
 use Rattle.automaton.proofs.Steps.{only, never, sends, high-sends, mimics, Sent, Ends, Alias, pass, done, at-end, as-other}
 use Rattle.characters.specs.Bytes.{hex, name, local, local-first, label-first, reserved}
 use Rattle.characters.specs.Names.{base, inner, CharAt}
-use Rattle.characters.specs.Runs.{hex-run}
+use Rattle.characters.specs.Runs.{hex-run, Span}
 use Rattle.characters.proofs.Sets.{take-pass, take-gain}
+use Rattle.characters.proofs.Spans.{stay}
 use Rattle.characters.proofs.Points.{CharSent, CharEnds, char-on, char-off}
 use Rattle.lexer_words.specs.Locals.{reserved-size, plx-size, is-plx, LocalAt}
 
@@ -230,6 +231,13 @@ moves = record {
 }
 
 module _ (s : Text) where
+  -- Over characters of the set to the end of them.
+  pub rest-run : (a e : ℕ) → At s in-local a 3 a → Span local s a e → At s in-local e 3 e
+  rest-run a e g sp = stay local tt (omega arith) (moves .next .low) sp g
+
+  pub label-run : (a e : ℕ) → At s in-label a 4 a → Span name s a e → At s in-label e 4 e
+  label-run a e g sp = stay name tt (omega arith) (moves .label-next .low) sp g
+
   -- local_rest
   module _ (i end : ℕ) (g : At s in-local i 3 end) where
     pub rest-end : length s ≤ i → TokenAt s (tok 3 end)

@@ -4,7 +4,7 @@ use mathlib.Core.Path.{_≡_, refl, subst, sym, ap, ap₂, _∙_}
 use mathlib.Core.Logic.{_⊎_, inl, inr, ⊎-elim}
 use mathlib.Core.Bool.{Bool, true, false, _||_}
 use mathlib.Core.List.{List, [], _∷_, _++_, append-assoc, append-nil}
-use Prim.Native.Nat.{ℕ, _+_, _-_, _%_, _≤_, _<_}
+use Prim.Native.Nat.{ℕ, zero, suc, _+_, _-_, _%_, _≤_, _<_}
 use native.Mathlib.Omega.{arith}
 use native.Mathlib.Nat.{add-zero, add-assoc}
 use borrow.Author.Tests.{eq-eqb, ne-eqb, eqb-true, lt-ltb, le-ltb}
@@ -17,13 +17,15 @@ use Rattle.utf8.specs.Scalar.{Scalar, Scalars, Encodes}
 use Rattle.utf8.proofs.Tests.{by, or-false}
 use Rattle.utf8.proofs.Encoding.{by-width, length-encode, width-pos}
 use Rattle.utf8.proofs.Decoding.{encodes-append}
-use Rattle.token.specs.Regular.{Match, nothing, step, now-at, size}
+use Rattle.token.specs.Regular.{Match, nothing, in-ranges, step, now-at, size}
 use Rattle.automaton.specs.States.{State, dead}
 use Rattle.automaton.specs.Run.{seen-kind, seen-len, run, Front}
 use Rattle.automaton.proofs.Steps.{only, Sent, sent-to, sent-kind, at-first, next-left, front-whole}
 use Rattle.characters.specs.Bytes.{name}
 use Rattle.characters.specs.Names.{inner, passes, CharAt}
-use Rattle.characters.proofs.Points.{first, CharSent, CharEnds, point-to, point-dead}
+use Rattle.characters.specs.Runs.{Span}
+use Rattle.characters.proofs.Sets.{set-low}
+use Rattle.characters.proofs.Points.{first, char-low, CharSent, CharEnds, point-to, point-dead}
 use Rattle.lexer_words.specs.Runs.{in-run, All-run, Scan, Beyond, Scanned, RunAt}
 use Rattle.lexer_words.proofs.Muting.{Mute, mute-dead}
 
@@ -116,6 +118,22 @@ module _ (s : Text) (at : ℕ) where
           let q = width-pos c in
           absurd (omega arith);
     }
+
+  -- Over bytes of PN_CHARS to the end of them.
+  pub scan-run : (e : ℕ) → at ≤ length s → Span name s at e → Scanned s at e
+  scan-run e h sp =
+      let f = sp .from in
+      let m : at + (e - at) ≡ e = omega arith in
+      subst (λ (n : ℕ). Scanned s at n) m (up (e - at) (omega arith))
+    where
+      up : (n : ℕ) → at + n ≤ e → Scanned s at (at + n)
+      up zero l = subst (λ (n : ℕ). Scanned s at n) (sym (add-zero at)) (scan-begin h)
+      up (suc n) l =
+          let w = sp .within in
+          let m : at + n + 1 ≡ at + suc n = omega arith in
+          let b : in-ranges (getD s (at + n) 0) name ≡ true = sp .all (at + n) (omega arith) (omega arith) in
+          subst (λ (n : ℕ). Scanned s at n) m
+          (scan-name (at + n) (up n (omega arith)) 1 (char-low name inner s (at + n) (omega arith) true (set-low name tt (getD s (at + n) 0) b) (sym b) 1 refl) (λ z. absurd (omega arith)))
 
 -- Of UTF-8, the end of the run is not behind.
 pub whole-scan : (s : Text) (at i : ℕ) → Scanned s at i → (cs : List ℕ) → Encodes (drop at s) cs → Scan s at i cs []

@@ -5,6 +5,7 @@ ghost use Rattle.automaton.specs.Run.{At, TokenAt};
 use automaton::Token;
 use characters::names::label_start;
 use characters::names::name_char;
+use characters::runs::names;
 
 // BLANK_NODE_LABEL ::= '_:' (PN_CHARS_U | [0-9]) ((PN_CHARS | '.')* PN_CHARS)?, after its first character.
 // Dots at its end are given back.
@@ -12,8 +13,8 @@ fn label_rest(s: &[u8], at: usize) -> Token
     requires { ⌜ At (now s) in-label at (kind-code «BLANK_NODE_LABEL») at ⌝ }
     ensures { λ r. ⌜ TokenAt (now (s .entry)) r ⌝ }
 {
-    let mut i: usize = at;
-    let mut end: usize = at;
+    let mut i: usize = names(s, at);
+    let mut end: usize = i;
     while i < s.len() {
         if s[i] == b'.' {
             i += 1;

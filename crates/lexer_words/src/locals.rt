@@ -13,6 +13,7 @@ use characters::bytes::is_reserved;
 use characters::names::local_char;
 use characters::names::local_start;
 use characters::runs::hexes;
+use characters::runs::locals;
 
 // PLX ::= PERCENT | PN_LOCAL_ESC, where PERCENT ::= '%' HEX HEX
 // Its length, or 0.
@@ -69,8 +70,8 @@ fn local_rest(s: &[u8], at: usize) -> Token
     requires { ⌜ At (now s) in-local at (kind-code «PNAME_LN») at ⌝ }
     ensures { λ r. ⌜ TokenAt (now (s .entry)) r ⌝ }
 {
-    let mut i: usize = at;
-    let mut end: usize = at;
+    let mut i: usize = locals(s, at);
+    let mut end: usize = i;
     while i < s.len() {
         if s[i] == b'.' {
             i += 1;

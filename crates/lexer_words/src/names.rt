@@ -18,13 +18,14 @@ use automaton::Next;
 use automaton::Token;
 use characters::names::base_char;
 use characters::names::name_char;
+use characters::runs::names;
 
 // The end of the run of PN_CHARS and dots there.
 fn name_run(s: &[u8], at: usize) -> usize
     requires { ⌜ at ≤ length (now s) ⌝ }
     ensures { λ r. ⌜ RunAt (now (s .entry)) at r ⌝ }
 {
-    let mut i: usize = at;
+    let mut i: usize = names(s, at);
     while i < s.len() {
         let b = s[i];
         if b == b'.' {

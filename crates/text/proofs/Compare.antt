@@ -2,10 +2,10 @@
 use Prim.Native.Nat.{ℕ, _+_, _≤_, _<_}
 use mathlib.Core.Path.{_≡_, refl, ap, sym}
 use mathlib.Core.List.{[], _∷_, _++_}
-use mathlib.Core.Bool.{Bool, true, false, _&&_}
+use mathlib.Core.Bool.{Bool, true, false, _&&_, _||_}
 use native.Mathlib.Numerals.{add-one}
 use native.Mathlib.Omega.{arith}
-use lib.ListN.{length, getD, drop, drop-of-length-le}
+use lib.ListN.{length, getD, take, drop, drop-of-length-le}
 use lib.Seq.{drop-cons}
 use lib.Dec.{eqb, ltb}
 use borrow.Author.Tests.{eq-eqb, ne-eqb, eqb-true, eqb-false, ltb-true, ltb-false}
@@ -26,6 +26,14 @@ and-left false b e = e
 pub and-right : (a b : Bool) → (a && b) ≡ true → b ≡ true
 and-right true b e = e
 and-right false b e = contrary (sym e)
+
+pub or-left : (a b : Bool) → (a || b) ≡ false → a ≡ false
+or-left true b e = e
+or-left false b e = refl
+
+pub or-right : (a b : Bool) → (a || b) ≡ false → b ≡ false
+or-right true b e = contrary e
+or-right false b e = e
 
 pub same-eq : (s t : Text) → same-text s t ≡ true → s ≡ t
 unfolding same-text
@@ -51,6 +59,13 @@ unfolding same-text begins
 same-append [] u t = refl
 same-append (a ∷ s) u [] = refl
 same-append (a ∷ s) u (b ∷ t) = by (eqb a b) (λ e. rw e (same-append s u t)) (λ e. rw e)
+
+-- A text begins with another if its front of that length is the other.
+pub begins-front : (s t : Text) → length s ≤ length t → begins s t ≡ same-text s (take (length s) t)
+unfolding same-text begins
+begins-front [] t h = refl
+begins-front (a ∷ s) [] h = absurd (omega arith)
+begins-front (a ∷ s) (b ∷ t) h = by (eqb a b) (λ e. rw e (begins-front s t (omega arith))) (λ e. rw e)
 
 -- One byte further in a comparison.
 module _ (s t : Text) (i j : ℕ) (h : i < length s) (g : j < length t) where

@@ -4,3 +4,4 @@ pub mod Compare
 pub mod Over
 pub mod Table
 pub mod Words
+pub mod Runs

@@ -1,14 +1,15 @@
 -- Laws of writing a text over the front of a slice.
 use Prim.Native.Nat.{ℕ, zero, suc, _+_, _-_, _≤_, _<_}
 use mathlib.Core.Path.{_≡_, refl, ap, sym, _∙_}
+use mathlib.Core.Logic.{_⊎_, inl, inr}
 use mathlib.Core.List.{[], _∷_, _++_, append-nil}
 use native.Mathlib.Numerals.{add-one}
 use native.Mathlib.Nat.{zero-add, suc-add}
 use native.Mathlib.Omega.{arith}
-use lib.ListN.{length, getD, take, drop, set, length-drop, drop-of-length-le}
+use lib.ListN.{length, getD, take, drop, set, length-set, length-drop, drop-of-length-le}
 use lib.Seq.{take-nil, take-all, take-append-seam, getD-drop}
 use Rattle.text.specs.Text.{Text}
-use Rattle.text.specs.Slice.{over, over-at}
+use Rattle.text.specs.Slice.{over, over-at, laid}
 
 pub over-nothing : (s : Text) → over s [] ≡ []
 unfolding over
@@ -156,3 +157,72 @@ over-at-past zero s [] h = over-nothing s
 over-at-past zero s (b ∷ x) h = absurd (omega arith)
 over-at-past (suc at) s [] h = over-nothing s
 over-at-past (suc at) s (b ∷ x) h = ap (λ (l : Text). b ∷ l) (over-at-past at s x (omega arith))
+
+-- Writing some bytes of a text where they stand, behind those that are written, or once more.
+over-again : (s x : Text) (i k : ℕ) → k < i → k < length s → set (over (take i s) x) k (getD s k 0) ≡ over (take i s) x
+unfolding over
+over-again [] x i k h g = absurd (omega arith)
+over-again (a ∷ s) [] zero k h g = absurd (omega arith)
+over-again (a ∷ s) [] (suc i) k h g = refl
+over-again (a ∷ s) (b ∷ x) zero k h g = absurd (omega arith)
+over-again (a ∷ s) (b ∷ x) (suc i) zero h g = refl
+over-again (a ∷ s) (b ∷ x) (suc i) (suc k) h g = ap (λ (l : Text). a ∷ l) (over-again s x i k (omega arith) (omega arith))
+
+pub laid-more : (s x : Text) (i n : ℕ) → i + n ≤ length s → laid s i n (over (take i s) x) ≡ over (take (i + n) s) x
+unfolding laid
+laid-more s x i zero h = ap (λ (k : ℕ). over (take k s) x) (let z : i ≡ i + 0 = omega arith in z)
+laid-more s x i (suc n) h =
+    over-next s x (laid s i n (over (take i s) x)) (i + n) (omega arith) (laid-more s x i n (omega arith))
+    ∙ ap (λ (k : ℕ). over (take k s) x) (let z : i + n + 1 ≡ i + suc n = omega arith in z)
+
+laid-again : (s x : Text) (i j n : ℕ) → j + n ≤ i → i ≤ length s → laid s j n (over (take i s) x) ≡ over (take i s) x
+unfolding laid
+laid-again s x i j zero h g = refl
+laid-again s x i j (suc n) h g =
+    ap (λ (l : Text). set l (j + n) (getD s (j + n) 0)) (laid-again s x i j n (omega arith) g) ∙ over-again s x i (j + n) (omega arith) (omega arith)
+
+laid-append : (s y : Text) (j d m : ℕ) → laid s j (d + m) y ≡ laid s (j + d) m (laid s j d y)
+unfolding laid
+laid-append s y j d zero = ap (λ (k : ℕ). laid s j k y) (let z : d + 0 ≡ d = omega arith in z)
+laid-append s y j d (suc m) =
+    let z : d + suc m ≡ suc (d + m) = omega arith in
+    let w : j + (d + m) ≡ j + d + m = omega arith in
+    rw (z, w, laid-append s y j d m)
+
+-- The last bytes, some of which may be written already.
+pub laid-last : (s x : Text) (i j n : ℕ) → j ≤ i → i ≤ j + n → j + n ≤ length s → laid s j n (over (take i s) x) ≡ over (take (j + n) s) x
+laid-last s x i j n h g l =
+    let d : n ≡ i - j + (n - (i - j)) = omega arith in
+    let e : j + (i - j) ≡ i = omega arith in
+    let f : i + (n - (i - j)) ≡ j + n = omega arith in
+    ap (λ (k : ℕ). laid s j k (over (take i s) x)) d
+    ∙ (laid-append s (over (take i s) x) j (i - j) (n - (i - j))
+    ∙ (rw (e, laid-again s x i j (i - j) (omega arith) (omega arith)) (laid-more s x i (n - (i - j)) (omega arith))
+    ∙ ap (λ (k : ℕ). over (take k s) x) f))
+
+pub over-least : (s x : Text) (n : ℕ) → (length s ≤ n) ⊎ (length x ≤ n) → over (take n s) x ≡ over s x
+over-least s x n (inl h) = over-whole s x n h
+over-least s x n (inr h) = over-enough s x n h
+
+pub laid-length : (s : Text) (i n : ℕ) (x : Text) → length (laid s i n x) ≡ length x
+unfolding laid
+laid-length s i zero x = refl
+laid-length s i (suc n) x = length-set (laid s i n x) (i + n) (getD s (i + n) 0) ∙ laid-length s i n x
+
+pub laid-below : (s : Text) (i n : ℕ) (x : Text) → i + n < length x → i + n < length (laid s i n x)
+laid-below s i n x h = rw (laid-length s i n x) h
+
+-- A loop that writes a text eight bytes at a time: its turn and its end.
+module _ (s x y : Text) (i : ℕ) where
+  pub copied-length : y ≡ over (take i s) x → length y ≡ length x
+  copied-length e = ap length e ∙ over-length (take i s) x
+
+  pub copied-more : (z : Text) → i + 8 ≤ length s → y ≡ over (take i s) x → z ≡ laid s i 8 y → z ≡ over (take (i + 8) s) x
+  copied-more z h e f = f ∙ rw e (laid-more s x i 8 h)
+
+  pub copied-last : (n : ℕ) (z : Text) → 8 ≤ n → n ≤ i + 8 → i ≤ n → n ≤ length s → (length s ≤ n) ⊎ (length x ≤ n) → y ≡ over (take i s) x → z ≡ laid s (n - 8) 8 y → z ≡ over s x
+  copied-last n z a b d g l e f =
+      let k : n - 8 + 8 ≡ n = omega arith in
+      let w : laid s (n - 8) 8 y ≡ over (take (n - 8 + 8) s) x = rw e (laid-last s x i (n - 8) 8 (omega arith) (omega arith) (omega arith)) in
+      let v : over (take (n - 8 + 8) s) x ≡ over s x = rw k (over-least s x n l) in
+      f ∙ (w ∙ v)

@@ -6,11 +6,13 @@ use mathlib.Core.Option.{none, some}
 use Prim.Native.Nat.{ℕ, zero, suc, pred, _+_, _*_, _-_, _/_, _%_, _≤_, _<_}
 use native.Mathlib.Omega.{arith}
 use native.Mathlib.Nat.{add-zero, div-div-eq-div-mul}
-use borrow.Author.Tests.{lt-ltb, le-ltb}
+use borrow.Author.Tests.{lt-ltb, le-ltb, leb-false}
 use lib.Dec.{eqb, eqb·suc-zero}
 use lib.ListN.{length, getD, take, drop, length-append, length-drop, drop-of-length-le}
 use lib.Seq.{take-at, take-all, drop-at, drop-drop, drop-cons}
 use Rattle.text.specs.Text.{Text, cond}
+use Rattle.text.specs.Runs.{high, next-at}
+use Rattle.text.proofs.Runs.{next-walk}
 use Rattle.utf8.specs.Utf8.{sequence-size, lead-bits, more-bits, code-point, decode-from, decode, bad-from, first-bad, encode, encodes}
 use Rattle.utf8.specs.Scalar.{Scalar, Scalars, Encodes}
 use Rattle.utf8.proofs.Encoding.{by-width, length-encode, width-pos, width-most, size-encode, size-one, size-reads}
@@ -239,3 +241,8 @@ module _ (s : Text) (n : ℕ) (e : n ≡ sequence-size s) where
       go (p ∷ q ∷ []) l f f′ f″ f‴ = absurd (omega arith)
       go (p ∷ q ∷ r ∷ []) l f f′ f″ f‴ = absurd (omega arith)
       go (p ∷ q ∷ r ∷ o ∷ s) l f f′ f″ f‴ = rw (f, f′, f″, f‴)
+
+-- From an ASCII character to the next byte that is none.
+pub bad-run : (s : Text) (i k : ℕ) → i < length s → getD s i 0 < 128 → k ≡ next-at high s (i + 1) → first-bad s ≡ bad-from i 0 (drop i s) → first-bad s ≡ bad-from k 0 (drop k s)
+bad-run s i k h l e x =
+    next-walk high s (λ (j : ℕ). first-bad s ≡ bad-from j 0 (drop j s)) (λ j g f y. y ∙ bad-ascii s j g (leb-false 128 (getD s j 0) f)) (i + 1) k (omega arith) e (x ∙ bad-ascii s i h l)

@@ -144,7 +144,7 @@ pub fn first_bad(s: &[u8]) -> Validity
     let mut i: usize = 0;
     while i < s.len() {
         if s[i] < 128 {
-            i += 1;
+            i = text::next_high(s, i + 1);
         } else {
             let n = sequence_size(&s[i..]);
             if n == 0 {

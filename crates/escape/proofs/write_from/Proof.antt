@@ -6,7 +6,7 @@ use borrow.Author.Tests.{not-true}
 use lib.ListN.{length, drop}
 use lib.Seq.{length-take-le}
 use Rattle.escape.specs.Code.{undone, Fair}
-use Rattle.escape.proofs.Walk.{fair-more, length-more, four-fits, Halfway, halfway-start, halfway-turn, halfway-fits, halfway-size, halfway-done, undone-end, plain-written}
+use Rattle.escape.proofs.Walk.{fair-more, length-more, four-fits, Halfway, halfway-start, halfway-turn, halfway-fits, halfway-size, halfway-done, undone-end, plain-written, stretch-length, stretch-written}
 use borrow.Author.Needs.{needs}
 use Rattle.escape.proofs.write_from.Statement.{statement}
 use Rattle.escape.proofs.write_from.Tie as tie
@@ -32,6 +32,33 @@ returns c = plain-written (c .before .before .before .before .before .before .be
 loop-holds : tie.Need-loop-holds Inv-loop μ-loop
 loop-holds c = ((omega arith, c .before .before .before .before .pre .fair), halfway-start _ (c .before .before .before .before .args .out .now))
 
+plain-to-requires : tie.Need-plain-to-requires Inv-loop μ-loop
+plain-to-requires c κs = search needs
+
+sub-put-plain : tie.Need-sub-put-plain Inv-loop μ-loop
+sub-put-plain c = c .before .before .plain-to .ensures .after
+
+part-put-plain-start : tie.Need-part-put-plain-start Inv-loop μ-loop
+part-put-plain-start c = c .before .before .plain-to .ensures .after
+
+part-put-plain-end : tie.Need-part-put-plain-end Inv-loop μ-loop
+part-put-plain-end c = c .before .before .plain-to .ensures .fits
+
+put-plain-requires : tie.Need-put-plain-requires Inv-loop μ-loop
+put-plain-requires c κs = search needs
+
+sub-j : tie.Need-sub-j Inv-loop μ-loop
+sub-j c = c .before .before .before .before .before .before .plain-to .ensures .after
+
+add-j : tie.Need-add-j Inv-loop μ-loop
+add-j c = omega (arith, stretch-length (c .before .before .before .before .before .before .before .before .loop .scan) (c .before .before .before .before .before .before .before .before .before .before .before .before .before .args .s .now) (c .before .before .before .before .before .before .before .before .loop .i) (c .before .before .before .before .before .before .plain-to .result) (c .before .before .before .before .before .before .plain-to .ensures), halfway-fits _ _ _ _ _ (c .before .before .before .before .before .before .before .before .loop .inv .1), c .before .before .before .before .before .before .before .before .before .before .before .before .before .pre .short (c .before .before .before .before .before .before .before .before .before .before .before .before .before .args .s .now))
+
+loop-less : tie.Need-loop-less Inv-loop μ-loop
+loop-less c = omega (arith, c .before .before .before .before .before .before .plain-to .ensures .fits)
+
+loop-again : tie.Need-loop-again Inv-loop μ-loop
+loop-again c = ((c .before .before .before .before .before .before .plain-to .ensures .fits, c .before .before .before .before .before .before .before .before .loop .inv .0 .1), stretch-written (c .before .before .before .before .before .before .before .before .loop .scan) (c .before .before .before .before .before .before .before .before .before .before .before .before .before .args .s .now) (c .before .before .before .before .before .before .before .before .loop .i) (c .before .before .before .before .before .before .plain-to .result) (c .before .before .before .before .before .before .plain-to .ensures) (λ i. c .before .before .before .before .before .before .before .before .before .before .before .before .shared-slice-known .given i .fits) (undone (c .before .before .before .before .before .before .before .before .before .before .before .before .before .args .start) (c .before .before .before .before .before .before .before .before .before .before .before .before .before .args .s .now)) (c .before .before .before .before .before .before .before .before .before .before .before .before .before .args .out .now) (c .before .before .before .before .before .before .before .before .loop .out) _ (c .before .before .before .before .before .before .before .before .loop .j) (c .before .before .before .before .before .before .before .before .loop .inv .1) (c .before .before .put-plain .ensures))
+
 shared-slice-read-step : tie.Need-shared-slice-read-step Inv-loop μ-loop
 shared-slice-read-step c = search needs
 
@@ -42,25 +69,25 @@ bytes-requires : tie.Need-bytes-requires Inv-loop μ-loop
 bytes-requires c κs = search needs
 
 array-share-prefix-b : tie.Need-array-share-prefix-b Inv-loop μ-loop
-array-share-prefix-b c = four-fits (c .before .before .step .result) (c .before .bytes .result) (c .before .bytes .ensures) (fair-more (c .before .before .before .before .before .loop .scan) (c .before .before .step .result) (c .before .before .before .before .before .before .before .before .before .before .args .s .now) (c .before .before .before .before .before .loop .i) (omega arith) (c .before .before .before .before .before .loop .inv .0 .1) (c .before .before .step .ensures) (c .before .before .before .shared-slice-known2 .given (c .before .before .before .before .before .loop .i) .fits) .small)
+array-share-prefix-b c = four-fits (c .before .before .step .result) (c .before .bytes .result) (c .before .bytes .ensures) (fair-more (c .before .before .before .before .before .before .before .loop .scan) (c .before .before .step .result) (c .before .before .before .before .before .before .before .before .before .before .before .before .args .s .now) (c .before .before .before .before .before .before .before .loop .i) (omega arith) (c .before .before .before .before .before .before .before .loop .inv .0 .1) (c .before .before .step .ensures) (c .before .before .before .shared-slice-known2 .given (c .before .before .before .before .before .before .before .loop .i) .fits) .small)
 
 slice-aggregate-put : tie.Need-slice-aggregate-put Inv-loop μ-loop
-slice-aggregate-put c = sym (length-take-le (c .before .before .before .step .result .n) (c .before .before .bytes .result) (four-fits (c .before .before .before .step .result) (c .before .before .bytes .result) (c .before .before .bytes .ensures) (fair-more (c .before .before .before .before .before .before .loop .scan) (c .before .before .before .step .result) (c .before .before .before .before .before .before .before .before .before .before .before .args .s .now) (c .before .before .before .before .before .before .loop .i) (omega arith) (c .before .before .before .before .before .before .loop .inv .0 .1) (c .before .before .before .step .ensures) (c .before .before .before .before .shared-slice-known2 .given (c .before .before .before .before .before .before .loop .i) .fits) .small)))
+slice-aggregate-put c = sym (length-take-le (c .before .before .before .step .result .n) (c .before .before .bytes .result) (four-fits (c .before .before .before .step .result) (c .before .before .bytes .result) (c .before .before .bytes .ensures) (fair-more (c .before .before .before .before .before .before .before .before .loop .scan) (c .before .before .before .step .result) (c .before .before .before .before .before .before .before .before .before .before .before .before .before .args .s .now) (c .before .before .before .before .before .before .before .before .loop .i) (omega arith) (c .before .before .before .before .before .before .before .before .loop .inv .0 .1) (c .before .before .before .step .ensures) (c .before .before .before .before .shared-slice-known2 .given (c .before .before .before .before .before .before .before .before .loop .i) .fits) .small)))
 
 put-requires : tie.Need-put-requires Inv-loop μ-loop
-put-requires c κs = omega (arith, length-take-le (c .before .before .before .step .result .n) (c .before .before .bytes .result) (four-fits (c .before .before .before .step .result) (c .before .before .bytes .result) (c .before .before .bytes .ensures) (fair-more (c .before .before .before .before .before .before .loop .scan) (c .before .before .before .step .result) (c .before .before .before .before .before .before .before .before .before .before .before .args .s .now) (c .before .before .before .before .before .before .loop .i) (omega arith) (c .before .before .before .before .before .before .loop .inv .0 .1) (c .before .before .before .step .ensures) (c .before .before .before .before .shared-slice-known2 .given (c .before .before .before .before .before .before .loop .i) .fits) .small)), length-more (c .before .before .before .before .before .before .loop .scan) (c .before .before .before .step .result) (c .before .before .before .before .before .before .before .before .before .before .before .args .s .now) (c .before .before .before .before .before .before .loop .i) (omega arith) (c .before .before .before .before .before .before .loop .inv .0 .1) (c .before .before .before .step .ensures) (c .before .before .before .before .shared-slice-known2 .given (c .before .before .before .before .before .before .loop .i) .fits), halfway-fits _ _ _ _ _ (c .before .before .before .before .before .before .loop .inv .1), c .before .before .before .before .before .before .before .before .before .before .before .pre .short (c .before .before .before .before .before .before .before .before .before .before .before .args .s .now))
+put-requires c κs = omega (arith, length-take-le (c .before .before .before .step .result .n) (c .before .before .bytes .result) (four-fits (c .before .before .before .step .result) (c .before .before .bytes .result) (c .before .before .bytes .ensures) (fair-more (c .before .before .before .before .before .before .before .before .loop .scan) (c .before .before .before .step .result) (c .before .before .before .before .before .before .before .before .before .before .before .before .before .args .s .now) (c .before .before .before .before .before .before .before .before .loop .i) (omega arith) (c .before .before .before .before .before .before .before .before .loop .inv .0 .1) (c .before .before .before .step .ensures) (c .before .before .before .before .shared-slice-known2 .given (c .before .before .before .before .before .before .before .before .loop .i) .fits) .small)), length-more (c .before .before .before .before .before .before .before .before .loop .scan) (c .before .before .before .step .result) (c .before .before .before .before .before .before .before .before .before .before .before .before .before .args .s .now) (c .before .before .before .before .before .before .before .before .loop .i) (omega arith) (c .before .before .before .before .before .before .before .before .loop .inv .0 .1) (c .before .before .before .step .ensures) (c .before .before .before .before .shared-slice-known2 .given (c .before .before .before .before .before .before .before .before .loop .i) .fits), halfway-fits _ _ _ _ _ (c .before .before .before .before .before .before .before .before .loop .inv .1), c .before .before .before .before .before .before .before .before .before .before .before .before .before .pre .short (c .before .before .before .before .before .before .before .before .before .before .before .before .before .args .s .now))
 
-add-j : tie.Need-add-j Inv-loop μ-loop
-add-j c = omega (arith, length-more (c .before .before .before .before .before .before .before .before .before .loop .scan) (c .before .before .before .before .before .before .step .result) (c .before .before .before .before .before .before .before .before .before .before .before .before .before .before .args .s .now) (c .before .before .before .before .before .before .before .before .before .loop .i) (omega arith) (c .before .before .before .before .before .before .before .before .before .loop .inv .0 .1) (c .before .before .before .before .before .before .step .ensures) (c .before .before .before .before .before .before .before .shared-slice-known2 .given (c .before .before .before .before .before .before .before .before .before .loop .i) .fits), halfway-fits _ _ _ _ _ (c .before .before .before .before .before .before .before .before .before .loop .inv .1), c .before .before .before .before .before .before .before .before .before .before .before .before .before .before .pre .short (c .before .before .before .before .before .before .before .before .before .before .before .before .before .before .args .s .now))
+add-j-2 : tie.Need-add-j-2 Inv-loop μ-loop
+add-j-2 c = omega (arith, length-more (c .before .before .before .before .before .before .before .before .before .before .before .loop .scan) (c .before .before .before .before .before .before .step .result) (c .before .before .before .before .before .before .before .before .before .before .before .before .before .before .before .before .args .s .now) (c .before .before .before .before .before .before .before .before .before .before .before .loop .i) (omega arith) (c .before .before .before .before .before .before .before .before .before .before .before .loop .inv .0 .1) (c .before .before .before .before .before .before .step .ensures) (c .before .before .before .before .before .before .before .shared-slice-known2 .given (c .before .before .before .before .before .before .before .before .before .before .before .loop .i) .fits), halfway-fits _ _ _ _ _ (c .before .before .before .before .before .before .before .before .before .before .before .loop .inv .1), c .before .before .before .before .before .before .before .before .before .before .before .before .before .before .before .before .pre .short (c .before .before .before .before .before .before .before .before .before .before .before .before .before .before .before .before .args .s .now))
 
 add-i : tie.Need-add-i Inv-loop μ-loop
 add-i c = search needs
 
-loop-less : tie.Need-loop-less Inv-loop μ-loop
-loop-less c = search needs
+loop-less-2 : tie.Need-loop-less-2 Inv-loop μ-loop
+loop-less-2 c = search needs
 
-loop-again : tie.Need-loop-again Inv-loop μ-loop
-loop-again c = ((omega arith, fair-more (c .before .before .before .before .before .before .before .before .before .loop .scan) (c .before .before .before .before .before .before .step .result) (c .before .before .before .before .before .before .before .before .before .before .before .before .before .before .args .s .now) (c .before .before .before .before .before .before .before .before .before .loop .i) (omega arith) (c .before .before .before .before .before .before .before .before .before .loop .inv .0 .1) (c .before .before .before .before .before .before .step .ensures) (c .before .before .before .before .before .before .before .shared-slice-known2 .given (c .before .before .before .before .before .before .before .before .before .loop .i) .fits)), halfway-turn (c .before .before .before .before .before .before .before .before .before .loop .scan) (c .before .before .before .before .before .before .step .result) (c .before .before .before .before .before .before .before .before .before .before .before .before .before .before .args .s .now) (c .before .before .before .before .before .before .before .before .before .loop .i) (omega arith) (c .before .before .before .before .before .before .before .before .before .loop .inv .0 .1) (c .before .before .before .before .before .before .step .ensures) (c .before .before .before .before .before .before .before .shared-slice-known2 .given (c .before .before .before .before .before .before .before .before .before .loop .i) .fits) (c .before .before .before .before .before .bytes .result) (c .before .before .before .before .before .bytes .ensures) (undone (c .before .before .before .before .before .before .before .before .before .before .before .before .before .before .args .start) (c .before .before .before .before .before .before .before .before .before .before .before .before .before .before .args .s .now)) (c .before .before .before .before .before .before .before .before .before .before .before .before .before .before .args .out .now) (c .before .before .before .before .before .before .before .before .before .loop .out) _ (c .before .before .before .before .before .before .before .before .before .loop .j) (c .before .before .before .before .before .before .before .before .before .loop .inv .1) (c .before .before .put .ensures))
+loop-again-2 : tie.Need-loop-again-2 Inv-loop μ-loop
+loop-again-2 c = ((omega arith, fair-more (c .before .before .before .before .before .before .before .before .before .before .before .loop .scan) (c .before .before .before .before .before .before .step .result) (c .before .before .before .before .before .before .before .before .before .before .before .before .before .before .before .before .args .s .now) (c .before .before .before .before .before .before .before .before .before .before .before .loop .i) (omega arith) (c .before .before .before .before .before .before .before .before .before .before .before .loop .inv .0 .1) (c .before .before .before .before .before .before .step .ensures) (c .before .before .before .before .before .before .before .shared-slice-known2 .given (c .before .before .before .before .before .before .before .before .before .before .before .loop .i) .fits)), halfway-turn (c .before .before .before .before .before .before .before .before .before .before .before .loop .scan) (c .before .before .before .before .before .before .step .result) (c .before .before .before .before .before .before .before .before .before .before .before .before .before .before .before .before .args .s .now) (c .before .before .before .before .before .before .before .before .before .before .before .loop .i) (omega arith) (c .before .before .before .before .before .before .before .before .before .before .before .loop .inv .0 .1) (c .before .before .before .before .before .before .step .ensures) (c .before .before .before .before .before .before .before .shared-slice-known2 .given (c .before .before .before .before .before .before .before .before .before .before .before .loop .i) .fits) (c .before .before .before .before .before .bytes .result) (c .before .before .before .before .before .bytes .ensures) (undone (c .before .before .before .before .before .before .before .before .before .before .before .before .before .before .before .before .args .start) (c .before .before .before .before .before .before .before .before .before .before .before .before .before .before .before .before .args .s .now)) (c .before .before .before .before .before .before .before .before .before .before .before .before .before .before .before .before .args .out .now) (c .before .before .before .before .before .before .before .before .before .before .before .loop .out) _ (c .before .before .before .before .before .before .before .before .before .before .before .loop .j) (c .before .before .before .before .before .before .before .before .before .before .before .loop .inv .1) (c .before .before .put .ensures))
 
 same-length-2 : tie.Need-same-length-2 Inv-loop μ-loop
 same-length-2 c = halfway-size _ _ _ _ _ (c .before .loop .inv .1)
@@ -79,15 +106,24 @@ write-from-spec =
     same-length
     returns
     loop-holds
+    plain-to-requires
+    sub-put-plain
+    part-put-plain-start
+    part-put-plain-end
+    put-plain-requires
+    sub-j
+    add-j
+    loop-less
+    loop-again
     shared-slice-read-step
     step-requires
     bytes-requires
     array-share-prefix-b
     slice-aggregate-put
     put-requires
-    add-j
+    add-j-2
     add-i
-    loop-less
-    loop-again
+    loop-less-2
+    loop-again-2
     same-length-2
     returns-2)

@@ -1,55 +1,21 @@
--- The invariant: the hash of the whole is that of the rest from the number so far on.
-use Prim.Native.Nat.{_≤_, _<_, _-_}
-use mathlib.Core.Path.{_≡_, sym, _∙_}
-use native.Mathlib.Omega.{arith}
-use lib.ListN.{length, drop}
+use Prim.Native.Nat.{ℕ}
+use mathlib.Core.Path.{ap, sym, _∙_}
 use Rattle.form.specs.Hash.{hash-from}
-use Rattle.form.proofs.Hashes.{hash-more, hash-end}
 use borrow.Author.Needs.{needs}
 use Rattle.form.proofs.hash_bytes.Statement.{statement}
 use Rattle.form.proofs.hash_bytes.Tie as tie
 
-abbrev Inv-loop : tie.InvT-loop
-Inv-loop m h s total₀ i₀ total i = ((i ≤ length s) × (total < 4294967296)) × (hash-from m h s ≡ hash-from m total (drop i s))
+hash-first-requires : tie.Need-hash-first-requires
+hash-first-requires c κs = search needs
 
-abbrev μ-loop : tie.MeasureT-loop
-μ-loop m h s total₀ i₀ total i = length s - i
+returns : tie.Need-returns
+returns c = (c .hash-first .ensures .0 ∙ ap (λ (m : ℕ). hash-from m (c .before .before .before .args .h) (c .before .before .before .args .s .now)) (sym (c .before .if1 .taken)), c .hash-first .ensures .1)
 
-loop-holds : tie.Need-loop-holds Inv-loop μ-loop
-loop-holds c = search needs
+hash-slow-requires : tie.Need-hash-slow-requires
+hash-slow-requires c κs = search needs
 
-shared-slice-read-wide : tie.Need-shared-slice-read-wide Inv-loop μ-loop
-shared-slice-read-wide c = search needs
-
-wide-requires : tie.Need-wide-requires Inv-loop μ-loop
-wide-requires c κs = search needs
-
-stir-requires : tie.Need-stir-requires Inv-loop μ-loop
-stir-requires c κs = search needs
-
-add-i : tie.Need-add-i Inv-loop μ-loop
-add-i c = search needs
-
-loop-less : tie.Need-loop-less Inv-loop μ-loop
-loop-less c = search needs
-
-loop-again : tie.Need-loop-again Inv-loop μ-loop
-loop-again c = ((omega arith, c .stir .ensures .1), c .before .before .before .before .loop .inv .1 ∙ rw (c .stir .ensures .0, c .before .wide .ensures) (hash-more (c .before .before .before .before .before .before .args .m) (c .before .before .before .before .loop .total) (c .before .before .before .before .before .before .args .s .now) (c .before .before .before .before .loop .i) (omega arith)))
-
-returns : tie.Need-returns Inv-loop μ-loop
-returns c = (sym (c .before .loop .inv .1 ∙ hash-end (c .before .before .before .args .m) (c .before .loop .total) (c .before .before .before .args .s .now) (c .before .loop .i) (omega arith)), c .before .loop .inv .0 .1)
+returns-2 : tie.Need-returns-2
+returns-2 c = search needs
 
 pub hash-bytes-spec : {M : Type 1} → statement M
-hash-bytes-spec =
-    tie.close
-    (tie.spec
-    Inv-loop
-    μ-loop
-    loop-holds
-    shared-slice-read-wide
-    wide-requires
-    stir-requires
-    add-i
-    loop-less
-    loop-again
-    returns)
+hash-bytes-spec = tie.close (tie.spec hash-first-requires returns hash-slow-requires returns-2)

@@ -8,7 +8,7 @@ use borrow.Author.Tests.{not-true}
 use Rattle.escape.specs.Code.{undone, Fair}
 use Rattle.escape.proofs.Walk.{fair-more, four-fits}
 use Rattle.form.specs.Hash.{hash-from}
-use Rattle.form.proofs.Hashes.{hash-piece, hash-done}
+use Rattle.form.proofs.Hashes.{hash-piece, hash-stretch, hash-done}
 use borrow.Author.Needs.{needs}
 use Rattle.form.proofs.hash_scan.Statement.{statement}
 use Rattle.form.proofs.hash_scan.Tie as tie
@@ -31,6 +31,27 @@ returns c = (c .hash-bytes .ensures .0 ∙ ap (hash-from (c .before .before .bef
 loop-holds : tie.Need-loop-holds Inv-loop μ-loop
 loop-holds c = (((omega arith, c .before .before .before .pre .0 .fair), c .before .before .before .pre .1 .1), refl)
 
+plain-to-requires : tie.Need-plain-to-requires Inv-loop μ-loop
+plain-to-requires c κs = search needs
+
+sub-hash-bytes : tie.Need-sub-hash-bytes Inv-loop μ-loop
+sub-hash-bytes c = c .before .plain-to .ensures .after
+
+part-hash-bytes-start : tie.Need-part-hash-bytes-start Inv-loop μ-loop
+part-hash-bytes-start c = c .before .plain-to .ensures .after
+
+part-hash-bytes-end : tie.Need-part-hash-bytes-end Inv-loop μ-loop
+part-hash-bytes-end c = c .before .plain-to .ensures .fits
+
+hash-bytes-requires-2 : tie.Need-hash-bytes-requires-2 Inv-loop μ-loop
+hash-bytes-requires-2 c κs = (c .before .before .before .before .before .before .before .before .pre .1 .0, c .before .before .before .before .loop .inv .0 .1)
+
+loop-less : tie.Need-loop-less Inv-loop μ-loop
+loop-less c = omega (arith, c .before .before .before .plain-to .ensures .fits)
+
+loop-again : tie.Need-loop-again Inv-loop μ-loop
+loop-again c = (((c .before .before .before .plain-to .ensures .fits, c .before .before .before .before .before .loop .inv .0 .0 .1), c .hash-bytes2 .ensures .1), c .before .before .before .before .before .loop .inv .1 ∙ hash-stretch (c .before .before .before .before .before .before .before .before .before .args .m) (c .before .before .before .before .before .loop .scan) (c .before .before .before .before .before .before .before .before .before .args .s .now) (c .before .before .before .before .before .loop .i) (c .before .before .before .plain-to .result) (c .before .before .before .plain-to .ensures) (c .before .before .before .before .before .loop .total) (c .hash-bytes2 .result) (c .hash-bytes2 .ensures .0))
+
 shared-slice-read-step : tie.Need-shared-slice-read-step Inv-loop μ-loop
 shared-slice-read-step c = search needs
 
@@ -41,22 +62,22 @@ bytes-requires : tie.Need-bytes-requires Inv-loop μ-loop
 bytes-requires c κs = search needs
 
 array-share-prefix-b : tie.Need-array-share-prefix-b Inv-loop μ-loop
-array-share-prefix-b c = four-fits (c .before .step .result) (c .bytes .result) (c .bytes .ensures) (fair-more (c .before .before .before .before .loop .scan) (c .before .step .result) (c .before .before .before .before .before .before .before .before .args .s .now) (c .before .before .before .before .loop .i) (omega arith) (c .before .before .before .before .loop .inv .0 .0 .1) (c .before .step .ensures) (c .before .before .shared-slice-known2 .given (c .before .before .before .before .loop .i) .fits) .small)
+array-share-prefix-b c = four-fits (c .before .step .result) (c .bytes .result) (c .bytes .ensures) (fair-more (c .before .before .before .before .before .before .loop .scan) (c .before .step .result) (c .before .before .before .before .before .before .before .before .before .before .args .s .now) (c .before .before .before .before .before .before .loop .i) (omega arith) (c .before .before .before .before .before .before .loop .inv .0 .0 .1) (c .before .step .ensures) (c .before .before .shared-slice-known2 .given (c .before .before .before .before .before .before .loop .i) .fits) .small)
 
 slice-aggregate-hash-numbers : tie.Need-slice-aggregate-hash-numbers Inv-loop μ-loop
-slice-aggregate-hash-numbers c = sym (length-take-le (c .before .before .step .result .n) (c .before .bytes .result) (four-fits (c .before .before .step .result) (c .before .bytes .result) (c .before .bytes .ensures) (fair-more (c .before .before .before .before .before .loop .scan) (c .before .before .step .result) (c .before .before .before .before .before .before .before .before .before .args .s .now) (c .before .before .before .before .before .loop .i) (omega arith) (c .before .before .before .before .before .loop .inv .0 .0 .1) (c .before .before .step .ensures) (c .before .before .before .shared-slice-known2 .given (c .before .before .before .before .before .loop .i) .fits) .small)))
+slice-aggregate-hash-numbers c = sym (length-take-le (c .before .before .step .result .n) (c .before .bytes .result) (four-fits (c .before .before .step .result) (c .before .bytes .result) (c .before .bytes .ensures) (fair-more (c .before .before .before .before .before .before .before .loop .scan) (c .before .before .step .result) (c .before .before .before .before .before .before .before .before .before .before .before .args .s .now) (c .before .before .before .before .before .before .before .loop .i) (omega arith) (c .before .before .before .before .before .before .before .loop .inv .0 .0 .1) (c .before .before .step .ensures) (c .before .before .before .shared-slice-known2 .given (c .before .before .before .before .before .before .before .loop .i) .fits) .small)))
 
 hash-numbers-requires : tie.Need-hash-numbers-requires Inv-loop μ-loop
-hash-numbers-requires c κs = (c .before .before .before .before .before .before .before .before .before .pre .1 .0, c .before .before .before .before .before .loop .inv .0 .1)
+hash-numbers-requires c κs = (c .before .before .before .before .before .before .before .before .before .before .before .pre .1 .0, c .before .before .before .before .before .before .before .loop .inv .0 .1)
 
 add-i : tie.Need-add-i Inv-loop μ-loop
 add-i c = search needs
 
-loop-less : tie.Need-loop-less Inv-loop μ-loop
-loop-less c = search needs
+loop-less-2 : tie.Need-loop-less-2 Inv-loop μ-loop
+loop-less-2 c = search needs
 
-loop-again : tie.Need-loop-again Inv-loop μ-loop
-loop-again c = (((omega arith, fair-more (c .before .before .before .before .before .before .loop .scan) (c .before .before .before .step .result) (c .before .before .before .before .before .before .before .before .before .before .args .s .now) (c .before .before .before .before .before .before .loop .i) (omega arith) (c .before .before .before .before .before .before .loop .inv .0 .0 .1) (c .before .before .before .step .ensures) (c .before .before .before .before .shared-slice-known2 .given (c .before .before .before .before .before .before .loop .i) .fits)), c .hash-numbers .ensures .1), c .before .before .before .before .before .before .loop .inv .1 ∙ hash-piece (c .before .before .before .before .before .before .before .before .before .before .args .m) (c .before .before .before .before .before .before .loop .scan) (c .before .before .before .step .result) (c .before .before .before .before .before .before .before .before .before .before .args .s .now) (c .before .before .before .before .before .before .loop .i) (omega arith) (c .before .before .before .before .before .before .loop .inv .0 .0 .1) (c .before .before .before .step .ensures) (c .before .before .before .before .shared-slice-known2 .given (c .before .before .before .before .before .before .loop .i) .fits) (c .before .before .bytes .result) (c .before .before .bytes .ensures) (c .before .before .before .before .before .before .loop .total) (c .hash-numbers .result) (c .hash-numbers .ensures .0))
+loop-again-2 : tie.Need-loop-again-2 Inv-loop μ-loop
+loop-again-2 c = (((omega arith, fair-more (c .before .before .before .before .before .before .before .before .loop .scan) (c .before .before .before .step .result) (c .before .before .before .before .before .before .before .before .before .before .before .before .args .s .now) (c .before .before .before .before .before .before .before .before .loop .i) (omega arith) (c .before .before .before .before .before .before .before .before .loop .inv .0 .0 .1) (c .before .before .before .step .ensures) (c .before .before .before .before .shared-slice-known2 .given (c .before .before .before .before .before .before .before .before .loop .i) .fits)), c .hash-numbers .ensures .1), c .before .before .before .before .before .before .before .before .loop .inv .1 ∙ hash-piece (c .before .before .before .before .before .before .before .before .before .before .before .before .args .m) (c .before .before .before .before .before .before .before .before .loop .scan) (c .before .before .before .step .result) (c .before .before .before .before .before .before .before .before .before .before .before .before .args .s .now) (c .before .before .before .before .before .before .before .before .loop .i) (omega arith) (c .before .before .before .before .before .before .before .before .loop .inv .0 .0 .1) (c .before .before .before .step .ensures) (c .before .before .before .before .shared-slice-known2 .given (c .before .before .before .before .before .before .before .before .loop .i) .fits) (c .before .before .bytes .result) (c .before .before .bytes .ensures) (c .before .before .before .before .before .before .before .before .loop .total) (c .hash-numbers .result) (c .hash-numbers .ensures .0))
 
 returns-2 : tie.Need-returns-2 Inv-loop μ-loop
 returns-2 c = (sym (c .before .loop .inv .1 ∙ hash-done (c .before .before .before .before .before .args .m) (c .before .loop .scan) (c .before .before .before .before .before .args .s .now) (c .before .loop .i) (c .before .loop .total) (omega arith)), c .before .loop .inv .0 .1)
@@ -71,6 +92,13 @@ hash-scan-spec =
     hash-bytes-requires
     returns
     loop-holds
+    plain-to-requires
+    sub-hash-bytes
+    part-hash-bytes-start
+    part-hash-bytes-end
+    hash-bytes-requires-2
+    loop-less
+    loop-again
     shared-slice-read-step
     step-requires
     bytes-requires
@@ -78,6 +106,6 @@ hash-scan-spec =
     slice-aggregate-hash-numbers
     hash-numbers-requires
     add-i
-    loop-less
-    loop-again
+    loop-less-2
+    loop-again-2
     returns-2)

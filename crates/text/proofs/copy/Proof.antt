@@ -4,46 +4,55 @@ use mathlib.Core.Path.{_≡_, ap, _∙_}
 use native.Mathlib.Omega.{arith}
 use lib.ListN.{length, take}
 use Rattle.text.specs.Slice.{over}
-use Rattle.text.proofs.Over.{over-length, over-start, over-next, over-enough, over-whole}
+use Rattle.text.proofs.Over.{over-length, over-start, copied-length, copied-more, copied-last}
 use borrow.Author.Needs.{needs}
 use Rattle.text.proofs.copy.Statement.{statement}
 use Rattle.text.proofs.copy.Tie as tie
 
 abbrev Inv-loop : tie.InvT-loop
-Inv-loop s out₀ i₀ out i = (i ≤ length s) × (out ≡ over (take i s) out₀)
+Inv-loop s out₀ n i₀ out i = (i ≤ n) × (out ≡ over (take i s) out₀)
 
 abbrev μ-loop : tie.MeasureT-loop
-μ-loop s out₀ i₀ out i = length s - i
+μ-loop s out₀ n i₀ out i = n - i
 
-loop-holds : tie.Need-loop-holds Inv-loop μ-loop
-loop-holds c = (omega arith, over-start (c .args .out .now))
+least-requires : tie.Need-least-requires Inv-loop μ-loop
+least-requires c κs = search needs
+
+copy-few-requires : tie.Need-copy-few-requires Inv-loop μ-loop
+copy-few-requires c κs = search needs
 
 same-length : tie.Need-same-length Inv-loop μ-loop
-same-length c = ap length (c .before .before .loop .inv .1) ∙ over-length _ (c .before .before .before .args .out .now)
+same-length c = search needs
 
 returns : tie.Need-returns Inv-loop μ-loop
-returns c = c .before .before .loop .inv .1 ∙ over-enough (c .before .before .before .args .s .now) (c .before .before .before .args .out .now) (c .before .before .loop .i) (omega (arith, ap length (c .before .before .loop .inv .1), over-length (take (c .before .before .loop .i) (c .before .before .before .args .s .now)) (c .before .before .before .args .out .now)))
+returns c = search needs
 
-shared-slice-read-out : tie.Need-shared-slice-read-out Inv-loop μ-loop
-shared-slice-read-out c = search needs
+loop-holds : tie.Need-loop-holds Inv-loop μ-loop
+loop-holds c = (omega arith, over-start (c .before .before .before .before .args .out .now))
 
-slice-write-out : tie.Need-slice-write-out Inv-loop μ-loop
-slice-write-out c = search needs
+sub-loop : tie.Need-sub-loop Inv-loop μ-loop
+sub-loop c = search needs
+
+copy-8-requires : tie.Need-copy-8-requires Inv-loop μ-loop
+copy-8-requires c κs = (omega (arith, c .before .before .before .before .least .ensures .0), omega (arith, c .before .before .before .before .least .ensures .0, c .before .before .before .before .least .ensures .1 .0, c .before .before .loop .inv .0, copied-length (c .before .before .before .before .before .before .before .args .s .now) (c .before .before .before .before .before .before .before .args .out .now) (c .before .before .loop .out) (c .before .before .loop .i) (c .before .before .loop .inv .1)))
 
 add-i : tie.Need-add-i Inv-loop μ-loop
 add-i c = search needs
 
 loop-less : tie.Need-loop-less Inv-loop μ-loop
-loop-less c = search needs
+loop-less c = omega arith
 
 loop-again : tie.Need-loop-again Inv-loop μ-loop
-loop-again c = (omega arith, over-next (c .before .before .before .before .args .s .now) (c .before .before .before .before .args .out .now) (c .before .before .before .loop .out) (c .before .before .before .loop .i) (omega arith) (c .before .before .before .loop .inv .1))
+loop-again c = (omega arith, copied-more (c .before .before .before .before .before .before .before .before .before .before .args .s .now) (c .before .before .before .before .before .before .before .before .before .before .args .out .now) (c .before .before .before .before .before .loop .out) (c .before .before .before .before .before .loop .i) _ (omega (arith, c .before .before .before .before .before .before .before .least .ensures .0)) (c .before .before .before .before .before .loop .inv .1) (c .before .before .copy-8 .ensures))
+
+copy-8-requires-2 : tie.Need-copy-8-requires-2 Inv-loop μ-loop
+copy-8-requires-2 c κs = (omega (arith, c .before .before .before .before .least .ensures .0), omega (arith, c .before .before .before .before .least .ensures .0, c .before .before .before .before .least .ensures .1 .0, c .before .before .loop .inv .0, copied-length (c .before .before .before .before .before .before .before .args .s .now) (c .before .before .before .before .before .before .before .args .out .now) (c .before .before .loop .out) (c .before .before .loop .i) (c .before .before .loop .inv .1)))
 
 same-length-2 : tie.Need-same-length-2 Inv-loop μ-loop
-same-length-2 c = ap length (c .before .loop .inv .1) ∙ over-length _ (c .before .before .args .out .now)
+same-length-2 c = ap length (copied-last (c .before .before .before .before .before .before .before .before .before .before .args .s .now) (c .before .before .before .before .before .before .before .before .before .before .args .out .now) (c .before .before .before .before .before .loop .out) (c .before .before .before .before .before .loop .i) (c .before .before .before .before .before .before .before .least .result) _ (omega arith) (omega arith) (omega arith) (c .before .before .before .before .before .before .before .least .ensures .0) (c .before .before .before .before .before .before .before .least .ensures .1 .1) (c .before .before .before .before .before .loop .inv .1) (c .before .before .copy-82 .ensures)) ∙ over-length (c .before .before .before .before .before .before .before .before .before .before .args .s .now) (c .before .before .before .before .before .before .before .before .before .before .args .out .now)
 
 returns-2 : tie.Need-returns-2 Inv-loop μ-loop
-returns-2 c = c .before .loop .inv .1 ∙ over-whole (c .before .before .args .s .now) (c .before .before .args .out .now) (c .before .loop .i) (omega arith)
+returns-2 c = copied-last (c .before .before .before .before .before .before .before .before .before .before .args .s .now) (c .before .before .before .before .before .before .before .before .before .before .args .out .now) (c .before .before .before .before .before .loop .out) (c .before .before .before .before .before .loop .i) (c .before .before .before .before .before .before .before .least .result) _ (omega arith) (omega arith) (omega arith) (c .before .before .before .before .before .before .before .least .ensures .0) (c .before .before .before .before .before .before .before .least .ensures .1 .1) (c .before .before .before .before .before .loop .inv .1) (c .before .before .copy-82 .ensures)
 
 pub copy-spec : {M : Type 1} → statement M
 copy-spec =
@@ -51,13 +60,16 @@ copy-spec =
     (tie.spec
     Inv-loop
     μ-loop
-    loop-holds
+    least-requires
+    copy-few-requires
     same-length
     returns
-    shared-slice-read-out
-    slice-write-out
+    loop-holds
+    sub-loop
+    copy-8-requires
     add-i
     loop-less
     loop-again
+    copy-8-requires-2
     same-length-2
     returns-2)

@@ -5,19 +5,25 @@ use native.Mathlib.Omega.{arith}
 use lib.ListN.{length, drop}
 use Rattle.text.specs.Text.{same-text}
 use Rattle.text.proofs.Compare.{same-length}
-use Rattle.text.proofs.Words.{eight-more, eight-not}
+use Rattle.text.proofs.Words.{eight-more, eight-not, eight-last}
 use borrow.Author.Needs.{needs}
 use Rattle.text.proofs.same.Statement.{statement}
 use Rattle.text.proofs.same.Tie as tie
 
 abbrev Inv-loop : tie.InvT-loop
-Inv-loop s t i₀ i = (i ≤ length s) × (same-text s t ≡ same-text (drop i s) (drop i t))
+Inv-loop s t n i₀ i = (i ≤ length s) × (same-text s t ≡ same-text (drop i s) (drop i t))
 
 abbrev μ-loop : tie.MeasureT-loop
-μ-loop s t i₀ i = length s - i
+μ-loop s t n i₀ i = length s - i
 
 returns : tie.Need-returns Inv-loop μ-loop
 returns c = sym (same-length (c .before .before .before .args .s .now) (c .before .before .before .args .t .now) (c .if1 .taken))
+
+same-few-requires : tie.Need-same-few-requires Inv-loop μ-loop
+same-few-requires c κs = search needs
+
+returns-2 : tie.Need-returns-2 Inv-loop μ-loop
+returns-2 c = search needs
 
 loop-holds : tie.Need-loop-holds Inv-loop μ-loop
 loop-holds c = (omega arith, refl)
@@ -31,8 +37,8 @@ eight-requires c κs = search needs
 eight-requires-2 : tie.Need-eight-requires-2 Inv-loop μ-loop
 eight-requires-2 c κs = search needs
 
-returns-2 : tie.Need-returns-2 Inv-loop μ-loop
-returns-2 c = sym (c .before .before .before .before .loop .inv .1 ∙ eight-not (c .before .before .before .before .before .before .before .before .args .s .now) (c .before .before .before .before .before .before .before .before .args .t .now) (c .before .before .before .before .loop .i) (λ e. c .if2 .taken (c .before .before .eight .ensures ∙ (e ∙ sym (c .before .eight2 .ensures)))))
+returns-3 : tie.Need-returns-3 Inv-loop μ-loop
+returns-3 c = sym (c .before .before .before .before .loop .inv .1 ∙ eight-not (c .before .before .before .before .before .before .before .before .before .args .s .now) (c .before .before .before .before .before .before .before .before .before .args .t .now) (c .before .before .before .before .loop .i) (λ e. c .if3 .taken (c .before .before .eight .ensures ∙ (e ∙ sym (c .before .eight2 .ensures)))))
 
 add-i : tie.Need-add-i Inv-loop μ-loop
 add-i c = search needs
@@ -41,13 +47,16 @@ loop-less : tie.Need-loop-less Inv-loop μ-loop
 loop-less c = search needs
 
 loop-again : tie.Need-loop-again Inv-loop μ-loop
-loop-again c = (omega arith, c .before .before .before .before .loop .inv .1 ∙ eight-more (c .before .before .before .before .before .before .before .before .args .s .now) (c .before .before .before .before .before .before .before .before .args .t .now) (λ k. c .before .before .before .before .before .before .before .shared-slice-known .given k .fits) (λ k. c .before .before .before .before .before .before .shared-slice-known2 .given k .fits) (c .before .before .before .before .loop .i) (omega arith) (omega arith) (sym (c .before .before .eight .ensures) ∙ (c .if2 .left ∙ c .before .eight2 .ensures)))
+loop-again c = (omega arith, c .before .before .before .before .loop .inv .1 ∙ eight-more (c .before .before .before .before .before .before .before .before .before .args .s .now) (c .before .before .before .before .before .before .before .before .before .args .t .now) (λ k. c .before .before .before .before .before .before .before .before .shared-slice-known .given k .fits) (λ k. c .before .before .before .before .before .before .before .shared-slice-known2 .given k .fits) (c .before .before .before .before .loop .i) (omega arith) (omega (arith, c .before .before .before .before .before .before .if1 .left)) (sym (c .before .before .eight .ensures) ∙ (c .if3 .left ∙ c .before .eight2 .ensures)))
 
-same-end-requires : tie.Need-same-end-requires Inv-loop μ-loop
-same-end-requires c κs = search needs
+eight-requires-3 : tie.Need-eight-requires-3 Inv-loop μ-loop
+eight-requires-3 c κs = search needs
 
-returns-3 : tie.Need-returns-3 Inv-loop μ-loop
-returns-3 c = c .same-end .ensures ∙ sym (c .before .before .loop .inv .1)
+eight-requires-4 : tie.Need-eight-requires-4 Inv-loop μ-loop
+eight-requires-4 c κs = search needs
+
+returns-4 : tie.Need-returns-4 Inv-loop μ-loop
+returns-4 c = eight-last (c .before .before .before .before .before .before .before .before .args .s .now) (c .before .before .before .before .before .before .before .before .args .t .now) (λ k. c .before .before .before .before .before .before .before .shared-slice-known .given k .fits) (λ k. c .before .before .before .before .before .before .shared-slice-known2 .given k .fits) (c .before .before .before .before .before .if1 .left) (c .before .before .before .loop .i) (length (c .before .before .before .before .before .before .before .before .args .s .now) - 8) (omega arith) (c .before .before .before .loop .inv .1) (omega arith) (c .before .eight3 .result) (c .eight4 .result) (c .before .eight3 .ensures) (c .eight4 .ensures)
 
 pub same-spec : {M : Type 1} → statement M
 same-spec =
@@ -56,13 +65,16 @@ same-spec =
     Inv-loop
     μ-loop
     returns
+    same-few-requires
+    returns-2
     loop-holds
     sub-loop
     eight-requires
     eight-requires-2
-    returns-2
+    returns-3
     add-i
     loop-less
     loop-again
-    same-end-requires
-    returns-3)
+    eight-requires-3
+    eight-requires-4
+    returns-4)

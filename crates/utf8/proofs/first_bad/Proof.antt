@@ -1,12 +1,11 @@
 -- `first_bad` meets its contract. The invariant: what is left of the search is that of the rest, from there on.
 use native.Mathlib.Omega.{arith}
-use borrow.Author.Needs.{needs}
-use denote.Ref.{now}
 use mathlib.Core.Path.{_≡_, refl, sym, _∙_}
 use Prim.Native.Nat.{_≤_, _-_}
 use lib.ListN.{length, drop}
-use Rattle.utf8.specs.Utf8.{first-bad, bad-from, sequence-size}
-use Rattle.utf8.proofs.Decoding.{bad-on, bad-ascii, bad-here, bad-none}
+use Rattle.utf8.specs.Utf8.{first-bad, bad-from}
+use Rattle.utf8.proofs.Decoding.{bad-on, bad-run, bad-here, bad-none}
+use borrow.Author.Needs.{needs}
 use Rattle.utf8.proofs.first_bad.Statement.{statement}
 use Rattle.utf8.proofs.first_bad.Tie as tie
 
@@ -23,14 +22,17 @@ loop-holds c = (omega arith, refl)
 shared-slice-read-if1 : tie.Need-shared-slice-read-if1 Inv-loop μ-loop
 shared-slice-read-if1 c = search needs
 
-add-i : tie.Need-add-i Inv-loop μ-loop
-add-i c = search needs
+add-next-high : tie.Need-add-next-high Inv-loop μ-loop
+add-next-high c = search needs
+
+next-high-requires : tie.Need-next-high-requires Inv-loop μ-loop
+next-high-requires c κs = search needs
 
 loop-less : tie.Need-loop-less Inv-loop μ-loop
-loop-less c = search needs
+loop-less c = omega (arith, c .next-high .ensures .1 .0, c .next-high .ensures .1 .1)
 
 loop-again : tie.Need-loop-again Inv-loop μ-loop
-loop-again c = (omega arith, (c .before .before .before .loop .inv .1) ∙ bad-ascii (now (c .before .before .before .before .before .args .s)) (c .before .before .before .loop .i) (c .before .before .loop-test .taken) (c .if1 .taken))
+loop-again c = (c .next-high .ensures .1 .1, bad-run (c .before .before .before .before .before .before .args .s .now) (c .before .before .before .before .loop .i) (c .next-high .result) (c .before .before .before .loop-test .taken) (c .before .if1 .taken) (c .next-high .ensures .0) (c .before .before .before .before .loop .inv .1))
 
 sub-sequence-size : tie.Need-sub-sequence-size Inv-loop μ-loop
 sub-sequence-size c = search needs
@@ -45,19 +47,19 @@ sequence-size-requires : tie.Need-sequence-size-requires Inv-loop μ-loop
 sequence-size-requires c κs = search needs
 
 returns : tie.Need-returns Inv-loop μ-loop
-returns c = sym ((c .before .before .before .before .before .before .loop .inv .1) ∙ bad-here (now (c .before .before .before .before .before .before .before .before .args .s)) (c .before .before .before .before .before .before .loop .i) (c .before .before .before .before .before .loop-test .taken) (sym (c .before .sequence-size .ensures) ∙ (c .if2 .taken)))
+returns c = sym (c .before .before .before .before .before .before .loop .inv .1 ∙ bad-here (c .before .before .before .before .before .before .before .before .args .s .now) (c .before .before .before .before .before .before .loop .i) (c .before .before .before .before .before .loop-test .taken) (sym (c .before .sequence-size .ensures) ∙ c .if2 .taken))
 
-add-i-2 : tie.Need-add-i-2 Inv-loop μ-loop
-add-i-2 c = omega (arith, bad-on (now (c .before .before .before .before .before .before .before .before .args .s)) (c .before .before .before .before .before .before .loop .i) (c .before .sequence-size .result) (c .before .sequence-size .ensures) (c .if2 .left) .0)
+add-i : tie.Need-add-i Inv-loop μ-loop
+add-i c = omega (arith, bad-on (c .before .before .before .before .before .before .before .before .args .s .now) (c .before .before .before .before .before .before .loop .i) (c .before .sequence-size .result) (c .before .sequence-size .ensures) (c .if2 .left) .0)
 
 loop-less-2 : tie.Need-loop-less-2 Inv-loop μ-loop
-loop-less-2 c = omega (arith, bad-on (now (c .before .before .before .before .before .before .before .before .args .s)) (c .before .before .before .before .before .before .loop .i) (c .before .sequence-size .result) (c .before .sequence-size .ensures) (c .if2 .left) .0)
+loop-less-2 c = omega (arith, bad-on (c .before .before .before .before .before .before .before .before .args .s .now) (c .before .before .before .before .before .before .loop .i) (c .before .sequence-size .result) (c .before .sequence-size .ensures) (c .if2 .left) .0)
 
 loop-again-2 : tie.Need-loop-again-2 Inv-loop μ-loop
-loop-again-2 c = (bad-on (now (c .before .before .before .before .before .before .before .before .args .s)) (c .before .before .before .before .before .before .loop .i) (c .before .sequence-size .result) (c .before .sequence-size .ensures) (c .if2 .left) .0, (c .before .before .before .before .before .before .loop .inv .1) ∙ bad-on (now (c .before .before .before .before .before .before .before .before .args .s)) (c .before .before .before .before .before .before .loop .i) (c .before .sequence-size .result) (c .before .sequence-size .ensures) (c .if2 .left) .1)
+loop-again-2 c = (bad-on (c .before .before .before .before .before .before .before .before .args .s .now) (c .before .before .before .before .before .before .loop .i) (c .before .sequence-size .result) (c .before .sequence-size .ensures) (c .if2 .left) .0, c .before .before .before .before .before .before .loop .inv .1 ∙ bad-on (c .before .before .before .before .before .before .before .before .args .s .now) (c .before .before .before .before .before .before .loop .i) (c .before .sequence-size .result) (c .before .sequence-size .ensures) (c .if2 .left) .1)
 
 returns-2 : tie.Need-returns-2 Inv-loop μ-loop
-returns-2 c = sym ((c .before .loop .inv .1) ∙ bad-none (now (c .before .before .before .args .s)) (c .before .loop .i) (c .loop-test .left))
+returns-2 c = sym (c .before .loop .inv .1 ∙ bad-none (c .before .before .before .args .s .now) (c .before .loop .i) (c .loop-test .left))
 
 pub first-bad-spec : {M : Type 1} → statement M
 first-bad-spec =
@@ -67,7 +69,8 @@ first-bad-spec =
     μ-loop
     loop-holds
     shared-slice-read-if1
-    add-i
+    add-next-high
+    next-high-requires
     loop-less
     loop-again
     sub-sequence-size
@@ -75,7 +78,7 @@ first-bad-spec =
     part-sequence-size-end
     sequence-size-requires
     returns
-    add-i-2
+    add-i
     loop-less-2
     loop-again-2
     returns-2)

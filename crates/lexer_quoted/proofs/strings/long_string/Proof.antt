@@ -2,9 +2,9 @@
 use native.Mathlib.Omega.{arith}
 use borrow.Author.Needs.{needs}
 use denote.Ref.{now}
-use Prim.Native.Nat.{_<_, _-_}
+use Prim.Native.Nat.{_+_, _-_, _<_}
 use lib.ListN.{length}
-use Rattle.lexer_quoted.proofs.Quoting.{LongAt, long-begin, long-end, long-close, long-quote, long-plain, long-broken, long-escaped}
+use Rattle.lexer_quoted.proofs.Quoting.{LongAt, long-begin, long-end, long-close, long-quote, long-plain, long-run, long-broken, long-escaped}
 use Rattle.lexer_quoted.proofs.strings.long_string.Statement.{statement}
 use Rattle.lexer_quoted.proofs.strings.long_string.Tie as tie
 
@@ -59,14 +59,17 @@ loop-less-2 c = omega (arith, long-escaped (now (c .before .before .before .befo
 loop-again-2 : tie.Need-loop-again-2 Inv-loop μ-loop
 loop-again-2 c = (omega arith, long-escaped (now (c .before .before .before .before .before .before .before .before .args .s)) (c .before .before .before .before .before .before .before .before .args .quote) (c .before .before .before .before .before .before .before .before .args .kind) (c .before .before .before .before .before .before .before .before .pre .2) (c .before .before .before .before .before .before .loop .i) (c .before .before .before .before .before .before .loop .run) (c .before .before .before .before .before .before .loop .inv .1) (c .before .before .before .before .before .loop-test .taken) (c .before .before .if3 .taken) _ (c .before .escape .ensures) (c .if4 .left))
 
-add-i-4 : tie.Need-add-i-4 Inv-loop μ-loop
-add-i-4 c = search needs
+add-next-of-four : tie.Need-add-next-of-four Inv-loop μ-loop
+add-next-of-four c = search needs
+
+next-of-four-requires : tie.Need-next-of-four-requires Inv-loop μ-loop
+next-of-four-requires c κs = search needs
 
 loop-less-3 : tie.Need-loop-less-3 Inv-loop μ-loop
-loop-less-3 c = search needs
+loop-less-3 c = omega (arith, c .next-of-four .ensures .1 .0, c .next-of-four .ensures .1 .1)
 
 loop-again-3 : tie.Need-loop-again-3 Inv-loop μ-loop
-loop-again-3 c = (omega arith, long-plain (now (c .before .before .before .before .before .before .args .s)) (c .before .before .before .before .before .before .args .quote) (c .before .before .before .before .before .before .args .kind) (c .before .before .before .before .before .before .pre .2) (c .before .before .before .before .loop .i) (c .before .before .before .before .loop .run) (c .before .before .before .before .loop .inv .1) (c .before .before .before .loop-test .taken) (c .before .if1 .left) (c .if3 .left))
+loop-again-3 c = (omega arith, long-run (now (c .before .before .before .before .before .before .before .args .s)) (c .before .before .before .before .before .before .before .args .quote) (c .before .before .before .before .before .before .before .args .kind) (c .before .before .before .before .before .before .before .pre .2) (c .before .before .before .before .before .loop .i + 1) (c .next-of-four .result) (omega arith) (c .next-of-four .ensures .0) (long-plain (now (c .before .before .before .before .before .before .before .args .s)) (c .before .before .before .before .before .before .before .args .quote) (c .before .before .before .before .before .before .before .args .kind) (c .before .before .before .before .before .before .before .pre .2) (c .before .before .before .before .before .loop .i) (c .before .before .before .before .before .loop .run) (c .before .before .before .before .before .loop .inv .1) (c .before .before .before .before .loop-test .taken) (c .before .before .if1 .left) (c .before .if3 .left)))
 
 returns-3 : tie.Need-returns-3 Inv-loop μ-loop
 returns-3 c = long-end (now (c .before .before .before .args .s)) (c .before .before .before .args .quote) (c .before .before .before .args .kind) (c .before .before .before .pre .2) (c .before .loop .i) (c .before .loop .run) (c .before .loop .inv .1) (c .loop-test .left)
@@ -92,7 +95,8 @@ long-string-spec =
     add-i-3
     loop-less-2
     loop-again-2
-    add-i-4
+    add-next-of-four
+    next-of-four-requires
     loop-less-3
     loop-again-3
     returns-3)

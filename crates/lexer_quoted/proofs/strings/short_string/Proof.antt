@@ -2,11 +2,11 @@
 use native.Mathlib.Omega.{arith}
 use borrow.Author.Needs.{needs}
 use denote.Ref.{now}
-use Prim.Native.Nat.{_-_}
+use Prim.Native.Nat.{_+_, _-_}
 use lib.ListN.{length}
 use Rattle.automaton.specs.States.{in-string}
 use Rattle.automaton.specs.Run.{In}
-use Rattle.lexer_quoted.proofs.Quoting.{str-start, str-end, str-close, str-line, str-return, str-plain, str-broken, str-escaped}
+use Rattle.lexer_quoted.proofs.Quoting.{str-start, str-end, str-close, str-line, str-return, str-plain, str-run, str-broken, str-escaped}
 use Rattle.lexer_quoted.proofs.strings.short_string.Statement.{statement}
 use Rattle.lexer_quoted.proofs.strings.short_string.Tie as tie
 
@@ -55,14 +55,17 @@ loop-less c = omega (arith, str-escaped (now (c .before .before .before .before 
 loop-again : tie.Need-loop-again Inv-loop μ-loop
 loop-again c = str-escaped (now (c .before .before .before .before .before .before .before .before .before .before .args .s)) (c .before .before .before .before .before .before .before .before .before .before .args .quote) (c .before .before .before .before .before .before .before .before .before .before .args .kind) (c .before .before .before .before .before .before .before .before .before .before .pre .2) (c .before .before .before .before .before .before .before .before .loop .i) (c .before .before .before .before .before .before .before .before .loop .inv) (c .before .before .before .before .before .before .before .loop-test .taken) (c .before .before .if4 .taken) _ (c .before .escape .ensures) (c .if5 .left)
 
-add-i-3 : tie.Need-add-i-3 Inv-loop μ-loop
-add-i-3 c = search needs
+add-next-of-four : tie.Need-add-next-of-four Inv-loop μ-loop
+add-next-of-four c = search needs
+
+next-of-four-requires : tie.Need-next-of-four-requires Inv-loop μ-loop
+next-of-four-requires c κs = search needs
 
 loop-less-2 : tie.Need-loop-less-2 Inv-loop μ-loop
-loop-less-2 c = search needs
+loop-less-2 c = omega (arith, c .next-of-four .ensures .1 .0, c .next-of-four .ensures .1 .1)
 
 loop-again-2 : tie.Need-loop-again-2 Inv-loop μ-loop
-loop-again-2 c = str-plain (now (c .before .before .before .before .before .before .before .before .args .s)) (c .before .before .before .before .before .before .before .before .args .quote) (c .before .before .before .before .before .before .before .before .args .kind) (c .before .before .before .before .before .before .before .before .pre .2) (c .before .before .before .before .before .before .loop .i) (c .before .before .before .before .before .before .loop .inv) (c .before .before .before .before .before .loop-test .taken) (c .before .before .before .if1 .left) (c .before .before .if2 .left) (c .before .if3 .left) (c .if4 .left)
+loop-again-2 c = str-run (now (c .before .before .before .before .before .before .before .before .before .args .s)) (c .before .before .before .before .before .before .before .before .before .args .quote) (c .before .before .before .before .before .before .before .before .before .args .kind) (c .before .before .before .before .before .before .before .before .before .pre .2) (c .before .before .before .before .before .before .before .loop .i + 1) (c .next-of-four .result) (omega arith) (c .next-of-four .ensures .0) (str-plain (now (c .before .before .before .before .before .before .before .before .before .args .s)) (c .before .before .before .before .before .before .before .before .before .args .quote) (c .before .before .before .before .before .before .before .before .before .args .kind) (c .before .before .before .before .before .before .before .before .before .pre .2) (c .before .before .before .before .before .before .before .loop .i) (c .before .before .before .before .before .before .before .loop .inv) (c .before .before .before .before .before .before .loop-test .taken) (c .before .before .before .before .if1 .left) (c .before .before .before .if2 .left) (c .before .before .if3 .left) (c .before .if4 .left))
 
 returns-5 : tie.Need-returns-5 Inv-loop μ-loop
 returns-5 c = str-end (now (c .before .before .before .args .s)) (c .before .before .before .args .quote) (c .before .before .before .args .kind) (c .before .before .before .pre .2) (c .before .loop .i) (c .before .loop .inv) (c .loop-test .left)
@@ -86,7 +89,8 @@ short-string-spec =
     add-i-2
     loop-less
     loop-again
-    add-i-3
+    add-next-of-four
+    next-of-four-requires
     loop-less-2
     loop-again-2
     returns-5)

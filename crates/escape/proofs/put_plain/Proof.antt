@@ -1,0 +1,35 @@
+-- Past the end nothing is written.
+use Prim.Native.Nat.{_-_}
+use mathlib.Core.Path.{refl, sym}
+use native.Mathlib.Omega.{arith}
+use lib.ListN.{length}
+use Rattle.text.proofs.Over.{over-at-past, over-part}
+use borrow.Author.Needs.{needs}
+use Rattle.escape.proofs.put_plain.Statement.{statement}
+use Rattle.escape.proofs.put_plain.Tie as tie
+
+returns : tie.Need-returns
+returns c = sym (over-at-past (c .before .before .before .args .j) (c .before .before .before .args .s .now) (c .before .before .before .args .out .now) (omega arith))
+
+sub-copy : tie.Need-sub-copy
+sub-copy c = search needs
+
+part-copy-start : tie.Need-part-copy-start
+part-copy-start c = search needs
+
+part-copy-end : tie.Need-part-copy-end
+part-copy-end c = search needs
+
+copy-requires : tie.Need-copy-requires
+copy-requires c κs = search needs
+
+same-length : tie.Need-same-length
+same-length c = search needs
+
+returns-2 : tie.Need-returns-2
+returns-2 c = over-part (c .before .before .before .before .before .before .before .args .j) (c .before .before .before .before .before .before .before .args .s .now) (c .before .before .before .before .before .before .before .args .out .now) _ (length (c .before .before .before .before .before .before .before .args .out .now) - c .before .before .before .before .before .before .before .args .j) refl (c .before .before .copy .ensures)
+
+pub put-plain-spec : {M : Type 1} → statement M
+put-plain-spec =
+    tie.close
+    (tie.spec returns sub-copy part-copy-start part-copy-end copy-requires same-length returns-2)
