@@ -6,9 +6,9 @@ use mathlib.Core.Bool.{Bool, true, false, _&&_, _||_}
 use native.Mathlib.Numerals.{add-one}
 use native.Mathlib.Omega.{arith}
 use lib.ListN.{length, getD, take, drop, length-append, length-drop, drop-of-length-le}
-use lib.Seq.{drop-cons, drop-drop, length-take-le}
+use lib.Seq.{take-all, drop-cons, drop-drop, length-take-le}
 use lib.Dec.{eqb, ltb}
-use borrow.Author.Tests.{eqb-false}
+use borrow.Author.Tests.{eqb-false, ne-eqb}
 use Rattle.text.specs.Text.{Text, is, same-text, begins, some-byte}
 use Rattle.text.specs.Slice.{over, over-at}
 use Rattle.text.specs.Runs.{byte, next-at}
@@ -16,7 +16,7 @@ use Rattle.text.proofs.Runs.{next-split, next-free}
 use Rattle.text.proofs.Compare.{by, contrary, begins-length, begins-more, same-append, same-end}
 use Rattle.text.proofs.Over.{over-append, over-length}
 use Rattle.utf8.specs.Utf8.{encode}
-use Rattle.escape.specs.Escape.{outside, behind, digits, hex-value, pieces-from, pieces, unescape-piece, unescape-pieces, unescape, bad-pieces, bad-escape, unreserve}
+use Rattle.escape.specs.Escape.{outside, behind, digits, letter, hex-value, letter-value, pieces-from, pieces, unescape-piece, unescape-pieces, unescape, bad-pieces, bad-escape, unreserve}
 use Rattle.escape.specs.Escape as escape
 use Rattle.escape.specs.Code.{step, four, piece, bad, place, undone, low, Fair, Starts, Stretch, Written}
 use Rattle.escape.specs.declared.Scan.{Scan}
@@ -278,7 +278,7 @@ module _ (cs : Text) (i k : ℕ) (e : k ≡ next-at (byte 92) cs i) where
   part : Text
   part = take (k - i) (drop i cs)
 
-  pub stretch-text : i ≤ k → k ≤ length cs → Stretch 0 cs i k
+  pub stretch-text : i ≤ k → k ≤ length cs → Stretch 0 cs i k (take (k - i) (drop i cs))
   unfolding undone place part
   stretch-text after fits =
       let split : drop i cs ≡ take (k - i) (drop i cs) ++ drop k cs = next-split (byte 92) cs i k e in
@@ -290,7 +290,7 @@ module _ (cs : Text) (i k : ℕ) (e : k ≡ next-at (byte 92) cs i) where
         named = λ s z q. rw z (ap (λ (l : Text). bad-pieces (pieces-from outside l)) split ∙ both .1);
       }
 
-  pub stretch-name : i ≤ k → k ≤ length cs → Stretch 10 cs i k
+  pub stretch-name : i ≤ k → k ≤ length cs → Stretch 10 cs i k (take (k - i) (drop i cs))
   stretch-name after fits =
       let split : drop i cs ≡ take (k - i) (drop i cs) ++ drop k cs = next-split (byte 92) cs i k e in
       record {
@@ -300,36 +300,55 @@ module _ (cs : Text) (i k : ℕ) (e : k ≡ next-at (byte 92) cs i) where
         named = λ s z q. contrary q;
       }
 
-pub stretch-none : (left : ℕ) (cs : Text) (i : ℕ) → i ≤ length cs → Stretch left cs i i
+pub stretch-none : (left : ℕ) (cs : Text) (i : ℕ) → i ≤ length cs → Stretch left cs i i (take (i - i) (drop i cs))
 stretch-none left cs i h =
     let none : i - i ≡ 0 = omega arith in
     record { after = omega arith; fits = h; text = λ s z. rw none; named = λ s z q. refl }
 
--- What a walk learns of such bytes.
-module _ (s : Scan) (cs : Text) (i k : ℕ) (st : Stretch (s .left) cs i k) where
-  pub stretch-long : length (take (k - i) (drop i cs)) ≡ k - i
-  stretch-long = length-take-le (k - i) (drop i cs) (omega (arith, st .fits, length-drop i cs))
+-- A backslash and a letter.
+pub stretch-letter : (cs : Text) (i c : ℕ) → i + 1 < length cs → getD cs i 0 ≡ 92 → c ≡ getD cs (i + 1) 0 → (c ≡ 117 → ⊥) → (c ≡ 85 → ⊥) → Stretch 0 cs i (i + 2) (letter-value c ∷ [])
+unfolding undone place unescape-pieces unescape-piece bad-pieces
+stretch-letter cs i c h e f n m =
+    let two : i + 2 ≡ suc (i + 1) = omega arith in
+    let split : drop i cs ≡ 92 ∷ c ∷ drop (i + 2) cs =
+    drop-cons cs i 0 (omega arith) ∙ rw (e, ← add-one i, drop-cons cs (i + 1) 0 h, ← f, two) in
+    let piece : pieces-from outside (drop i cs) ≡ letter c ∷ pieces-from outside (drop (i + 2) cs) =
+    ap (pieces-from outside) split ∙ (at-backslash 92 (c ∷ drop (i + 2) cs) refl ∙ at-letter c (drop (i + 2) cs) (ne-eqb c 117 n) (ne-eqb c 85 m)) in
+    record {
+      after = omega arith;
+      fits = omega arith;
+      text = λ s z. rw z (ap unescape-pieces piece);
+      named = λ s z q. rw z (ap bad-pieces piece);
+    }
 
-  pub stretch-length : length (undone s (drop i cs)) ≡ (k - i) + length (undone s (drop k cs))
-  stretch-length = ap length (st .text s refl) ∙ (length-append (take (k - i) (drop i cs)) (undone s (drop k cs)) ∙ ap (λ (n : ℕ). n + length (undone s (drop k cs))) stretch-long)
+-- Bytes that stand for themselves are as many, and bytes.
+pub plain-size : {left : ℕ} {cs p : Text} {i k : ℕ} → Stretch left cs i k p → length (take (k - i) (drop i cs)) ≡ k - i
+plain-size {left} {cs} {p} {i} {k} st = length-take-le (k - i) (drop i cs) (omega (arith, st .fits, length-drop i cs))
 
-  module _ (x : Text) (j : ℕ) (r : Bool) (er : r ≡ begins (take (k - i) (drop i cs)) (drop j x)) where
-    stretched : same-text (undone s (drop i cs)) (drop j x) ≡ (r && same-text (undone s (drop k cs)) (drop (j + (k - i)) x))
-    stretched =
-        ap (λ (l : Text). same-text l (drop j x)) (st .text s refl)
-        ∙ (same-append (take (k - i) (drop i cs)) (undone s (drop k cs)) (drop j x) ∙ rw (stretch-long, drop-drop (k - i) j x, er))
+pub plain-low : (cs : Text) (i k : ℕ) → ((n : ℕ) → getD cs n 0 < 256) → take (k - i) (drop i cs) ≡ low (take (k - i) (drop i cs))
+plain-low cs i k small = sym (low-bytes (bytes-take (k - i) (bytes-drop i (bytes-of cs small))))
 
-    pub stretch-same : r ≡ true → same-text (undone s (drop i cs)) (drop j x) ≡ same-text (undone s (drop k cs)) (drop (j + (k - i)) x)
+-- A slice from j on goes to the end.
+pub to-end : (x : Text) (j : ℕ) → take (length x - j) (drop j x) ≡ drop j x
+to-end x j = take-all (length x - j) (drop j x) (omega (arith, length-drop j x))
+
+-- What a walk learns of a stretch that stands for n bytes.
+module _ (s : Scan) (cs : Text) (i k : ℕ) (p : Text) (st : Stretch (s .left) cs i k p) (n : ℕ) (long : length p ≡ n) where
+  pub stretch-length : length (undone s (drop i cs)) ≡ n + length (undone s (drop k cs))
+  stretch-length = ap length (st .text s refl) ∙ (length-append p (undone s (drop k cs)) ∙ ap (λ (m : ℕ). m + length (undone s (drop k cs))) long)
+
+  module _ (x : Text) (j : ℕ) (r : Bool) (er : r ≡ begins p (drop j x)) where
+    stretched : same-text (undone s (drop i cs)) (drop j x) ≡ (r && same-text (undone s (drop k cs)) (drop (j + n) x))
+    stretched = ap (λ (l : Text). same-text l (drop j x)) (st .text s refl) ∙ (same-append p (undone s (drop k cs)) (drop j x) ∙ rw (long, drop-drop n j x, er))
+
+    pub stretch-same : r ≡ true → same-text (undone s (drop i cs)) (drop j x) ≡ same-text (undone s (drop k cs)) (drop (j + n) x)
     stretch-same g = stretched ∙ rw g
 
     pub stretch-not : r ≡ false → same-text (undone s (drop i cs)) (drop j x) ≡ false
     stretch-not g = stretched ∙ rw g
 
-    pub stretch-fits : j ≤ length x → r ≡ true → j + (k - i) ≤ length x
-    stretch-fits h g = omega (arith, begins-length (take (k - i) (drop i cs)) (drop j x) (sym er ∙ g), stretch-long, length-drop j x)
+    pub stretch-fits : j ≤ length x → r ≡ true → j + n ≤ length x
+    stretch-fits h g = omega (arith, begins-length p (drop j x) (sym er ∙ g), long, length-drop j x)
 
-  pub stretch-written : ((n : ℕ) → getD cs n 0 < 256) → (w x y z : Text) (j : ℕ) → Halfway w (undone s (drop i cs)) x y j → z ≡ over-at j (take (k - i) (drop i cs)) y
-      → Halfway w (undone s (drop k cs)) x z (j + (k - i))
-  stretch-written small w x y z j h o =
-      halfway-more w (undone s (drop i cs)) (take (k - i) (drop i cs)) (undone s (drop k cs)) x y z j (k - i) h (st .text s refl) stretch-long
-      (o ∙ rw (low-bytes (bytes-take (k - i) (bytes-drop i (bytes-of cs small)))))
+  pub stretch-written : (w x y z : Text) (j : ℕ) → Halfway w (undone s (drop i cs)) x y j → z ≡ over-at j (low p) y → Halfway w (undone s (drop k cs)) x z (j + n)
+  stretch-written w x y z j h o = halfway-more w (undone s (drop i cs)) p (undone s (drop k cs)) x y z j n h (st .text s refl) long o

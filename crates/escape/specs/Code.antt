@@ -83,11 +83,11 @@ pub record Starts (s : Scan) : Type 0 where
   pub short : (cs : Text) → length (undone s cs) ≤ length cs
   pub plain : (cs : Text) → some-byte (is "\\") cs ≡ false → undone s cs ≡ cs
 
--- From i to k the bytes of the text stand for themselves, for a scan with so much left.
-pub record Stretch (left : ℕ) (cs : Text) (i k : ℕ) : Type 0 where
+-- From i to k the text stands for p, for a scan with so much left, which goes on from k as it was.
+pub record Stretch (left : ℕ) (cs : Text) (i k : ℕ) (p : Text) : Type 0 where
   pub after : i ≤ k
   pub fits : k ≤ length cs
-  pub text : (s : Scan) → s .left ≡ left → undone s (drop i cs) ≡ take (k - i) (drop i cs) ++ undone s (drop k cs)
+  pub text : (s : Scan) → s .left ≡ left → undone s (drop i cs) ≡ p ++ undone s (drop k cs)
   pub named : (s : Scan) → s .left ≡ left → eqb left 10 ≡ false → bad-pieces (pieces-from (place s) (drop i cs)) ≡ bad-pieces (pieces-from (place s) (drop k cs))
 
 -- What writing the text t over the front of x answers and leaves, if `bytes` (then each number of t is a byte).

@@ -1,8 +1,9 @@
 // Escapes: numeric and string escapes in references and strings, reserved character escapes in local names.
 ghost use mathlib.Core.Path.{_≡_};
 ghost use mathlib.Core.Bool.{true, false};
-ghost use Prim.Native.Nat.{_+_, _≤_, _<_};
-ghost use lib.ListN.{length, drop};
+ghost use mathlib.Core.List.{[], _∷_};
+ghost use Prim.Native.Nat.{_+_, _-_, _≤_, _<_};
+ghost use lib.ListN.{length, take, drop};
 ghost use Rattle.text.specs.Text.{is, same-text, begins, some-byte};
 ghost use Rattle.text.specs.Slice.{over, over-at};
 ghost use Rattle.utf8.specs.Utf8.{width};
@@ -285,7 +286,7 @@ pub fn has_backslash(s: &[u8]) -> bool
 // Where the bytes end that stand for themselves, from a place on: at the next backslash, or at the end; inside an escape there are none.
 pub fn plain_to(left: usize, s: &[u8], at: usize) -> usize
     requires { ⌜ at < length (now s) ⌝ }
-    ensures { λ r. ⌜ Stretch left (now (s .entry)) at r ⌝ }
+    ensures { λ r. ⌜ Stretch left (now (s .entry)) at r (take (r - at) (drop at (now (s .entry)))) ⌝ }
 {
     if s[at] == 92 {
         return at;
@@ -297,6 +298,30 @@ pub fn plain_to(left: usize, s: &[u8], at: usize) -> usize
         return text::next(s, at, 92);
     }
     at
+}
+
+// Behind 1, the byte that a backslash and a letter stand for; 0 where a numeric escape stands, or none.
+pub fn letter_at(left: usize, s: &[u8], at: usize) -> usize
+    requires { ⌜ at < length (now s) ⌝ }
+    ensures { λ r. ⌜ (0 < r → Stretch left (now (s .entry)) at (at + 2) ((r - 1) ∷ [])) × (r ≤ 256) ⌝ }
+{
+    if left != 0 {
+        return 0;
+    }
+    if s.len() - at < 2 {
+        return 0;
+    }
+    if s[at] != 92 {
+        return 0;
+    }
+    let c = s[at + 1];
+    if c == 117 {
+        return 0;
+    }
+    if c == 85 {
+        return 0;
+    }
+    wide(letter_value(c)) + 1
 }
 
 // Writes the bytes from j on, as far as out goes.
@@ -326,9 +351,15 @@ fn length_from(start: Scan, s: &[u8]) -> usize
             total += to - i;
             i = to;
         } else {
-            scan = scan.step(s[i]);
-            total += scan.n;
-            i += 1;
+            let letter = letter_at(scan.left, s, i);
+            if 0 < letter {
+                total += 1;
+                i += 2;
+            } else {
+                scan = scan.step(s[i]);
+                total += scan.n;
+                i += 1;
+            }
         }
     }
     total
@@ -354,14 +385,23 @@ fn same_from(start: Scan, s: &[u8], t: &[u8]) -> bool
             j += to - i;
             i = to;
         } else {
-            scan = scan.step(s[i]);
-            let n = scan.n;
-            let b = scan.bytes();
-            if goes_on(t, j, &b[..n]) {
+            let letter = letter_at(scan.left, s, i);
+            if 0 < letter {
+                let one = [letter - 1];
+                if !goes_on(t, j, &one) {
+                    return false;
+                }
+                j += 1;
+                i += 2;
+            } else {
+                scan = scan.step(s[i]);
+                let n = scan.n;
+                let b = scan.bytes();
+                if !goes_on(t, j, &b[..n]) {
+                    return false;
+                }
                 j += n;
                 i += 1;
-            } else {
-                return false;
             }
         }
     }
@@ -387,12 +427,20 @@ fn write_from(start: Scan, s: &[u8], out: &mut [u8]) -> usize
             j += to - i;
             i = to;
         } else {
-            scan = scan.step(s[i]);
-            let n = scan.n;
-            let b = scan.bytes();
-            put(out, j, &b[..n]);
-            j += n;
-            i += 1;
+            let letter = letter_at(scan.left, s, i);
+            if 0 < letter {
+                let one = [letter - 1];
+                put(out, j, &one);
+                j += 1;
+                i += 2;
+            } else {
+                scan = scan.step(s[i]);
+                let n = scan.n;
+                let b = scan.bytes();
+                put(out, j, &b[..n]);
+                j += n;
+                i += 1;
+            }
         }
     }
     j
@@ -412,11 +460,16 @@ pub fn has_bad_escape(s: &[u8]) -> bool
         if i < to {
             i = to;
         } else {
-            scan = scan.step(s[i]);
-            if is_bad(scan) {
-                return true;
+            let letter = letter_at(scan.left, s, i);
+            if 0 < letter {
+                i += 2;
+            } else {
+                scan = scan.step(s[i]);
+                if is_bad(scan) {
+                    return true;
+                }
+                i += 1;
             }
-            i += 1;
         }
     }
     false

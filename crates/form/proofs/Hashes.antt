@@ -54,10 +54,10 @@ module _ (m : ℕ) where
       ap (hash-from m h) (undone-more s t cs i l f e small)
       ∙ (hash-append h (piece t) (undone t (drop (i + 1) cs)) ∙ rw (ek, eb))
 
-  -- The bytes from i to k stand for themselves, and are mixed in.
-  pub hash-stretch : (s : Scan) (cs : Text) (i k : ℕ) → Stretch (s .left) cs i k → (h n : ℕ) → n ≡ hash-from m h (take (k - i) (drop i cs))
+  -- What stands from i to k is mixed in.
+  pub hash-stretch : (s : Scan) (cs : Text) (i k : ℕ) (p : Text) → Stretch (s .left) cs i k p → (h n : ℕ) → n ≡ hash-from m h p
       → hash-from m h (undone s (drop i cs)) ≡ hash-from m n (undone s (drop k cs))
-  hash-stretch s cs i k st h n e = ap (hash-from m h) (st .text s refl) ∙ (hash-append h (take (k - i) (drop i cs)) (undone s (drop k cs)) ∙ rw e)
+  hash-stretch s cs i k p st h n e = ap (hash-from m h) (st .text s refl) ∙ (hash-append h p (undone s (drop k cs)) ∙ rw e)
 
   pub hash-done : (s : Scan) (cs : Text) (i h : ℕ) → length cs ≤ i → hash-from m h (undone s (drop i cs)) ≡ h
   unfolding hash-from

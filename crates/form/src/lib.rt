@@ -190,11 +190,18 @@ fn hash_scan(start: Scan, m: usize, h: usize, s: &[u8]) -> usize
             total = hash_bytes(m, total, &s[i..to]);
             i = to;
         } else {
-            scan = scan.step(s[i]);
-            let n = scan.n;
-            let b = scan.bytes();
-            total = hash_numbers(m, total, &b[..n]);
-            i += 1;
+            let letter = escape::letter_at(scan.left, s, i);
+            if 0 < letter {
+                let one = [letter - 1];
+                total = hash_numbers(m, total, &one);
+                i += 2;
+            } else {
+                scan = scan.step(s[i]);
+                let n = scan.n;
+                let b = scan.bytes();
+                total = hash_numbers(m, total, &b[..n]);
+                i += 1;
+            }
         }
     }
     total

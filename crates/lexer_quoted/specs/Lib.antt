@@ -1,2 +1,3 @@
 pub mod Escapes
 pub mod Quotes
+pub mod Stops

@@ -41,6 +41,18 @@ loop-less c = omega (arith, c .before .plain-to .ensures .fits)
 loop-again : tie.Need-loop-again Inv-loop μ-loop
 loop-again c = ((c .before .plain-to .ensures .fits, c .before .before .before .loop .inv .0 .1), (c .before .before .before .loop .inv .1 .0, c .before .before .before .loop .inv .1 .1 ∙ c .before .plain-to .ensures .named (c .before .before .before .loop .scan) refl (c .before .before .before .loop .inv .1 .0)))
 
+letter-at-requires : tie.Need-letter-at-requires Inv-loop μ-loop
+letter-at-requires c κs = search needs
+
+add-i : tie.Need-add-i Inv-loop μ-loop
+add-i c = omega (arith, c .before .letter-at .ensures .0 (c .if3 .taken) .fits)
+
+loop-less-2 : tie.Need-loop-less-2 Inv-loop μ-loop
+loop-less-2 c = omega (arith, c .before .letter-at .ensures .0 (c .if3 .taken) .fits)
+
+loop-again-2 : tie.Need-loop-again-2 Inv-loop μ-loop
+loop-again-2 c = ((c .before .letter-at .ensures .0 (c .if3 .taken) .fits, c .before .before .before .before .before .loop .inv .0 .1), (c .before .before .before .before .before .loop .inv .1 .0, c .before .before .before .before .before .loop .inv .1 .1 ∙ c .before .letter-at .ensures .0 (c .if3 .taken) .named (c .before .before .before .before .before .loop .scan) refl (c .before .before .before .before .before .loop .inv .1 .0)))
+
 shared-slice-read-step : tie.Need-shared-slice-read-step Inv-loop μ-loop
 shared-slice-read-step c = search needs
 
@@ -51,16 +63,16 @@ is-bad-requires : tie.Need-is-bad-requires Inv-loop μ-loop
 is-bad-requires c κs = search needs
 
 returns-2 : tie.Need-returns-2 Inv-loop μ-loop
-returns-2 c = sym (c .before .before .before .before .before .before .before .loop .inv .1 .1 ∙ bad-here (c .before .before .before .before .before .before .before .loop .scan) (c .before .before .step .result) (c .before .before .before .before .before .before .before .before .before .before .before .before .args .s .now) (c .before .before .before .before .before .before .before .loop .i) (omega arith) (c .before .before .before .before .before .before .before .loop .inv .0 .1) (c .before .before .step .ensures) (c .before .before .before .shared-slice-known2 .given (c .before .before .before .before .before .before .before .loop .i) .fits) (c .before .before .before .before .before .before .before .loop .inv .1 .0) (c .before .is-bad .result) (c .before .is-bad .ensures) (c .if3 .taken))
+returns-2 c = sym (c .before .before .before .before .before .before .before .before .before .loop .inv .1 .1 ∙ bad-here (c .before .before .before .before .before .before .before .before .before .loop .scan) (c .before .before .step .result) (c .before .before .before .before .before .before .before .before .before .before .before .before .before .before .args .s .now) (c .before .before .before .before .before .before .before .before .before .loop .i) (omega arith) (c .before .before .before .before .before .before .before .before .before .loop .inv .0 .1) (c .before .before .step .ensures) (c .before .before .before .shared-slice-known2 .given (c .before .before .before .before .before .before .before .before .before .loop .i) .fits) (c .before .before .before .before .before .before .before .before .before .loop .inv .1 .0) (c .before .is-bad .result) (c .before .is-bad .ensures) (c .if4 .taken))
 
-add-i : tie.Need-add-i Inv-loop μ-loop
-add-i c = search needs
+add-i-2 : tie.Need-add-i-2 Inv-loop μ-loop
+add-i-2 c = search needs
 
-loop-less-2 : tie.Need-loop-less-2 Inv-loop μ-loop
-loop-less-2 c = search needs
+loop-less-3 : tie.Need-loop-less-3 Inv-loop μ-loop
+loop-less-3 c = search needs
 
-loop-again-2 : tie.Need-loop-again-2 Inv-loop μ-loop
-loop-again-2 c = ((omega arith, fair-more (c .before .before .before .before .before .before .before .loop .scan) (c .before .before .step .result) (c .before .before .before .before .before .before .before .before .before .before .before .before .args .s .now) (c .before .before .before .before .before .before .before .loop .i) (omega arith) (c .before .before .before .before .before .before .before .loop .inv .0 .1) (c .before .before .step .ensures) (c .before .before .before .shared-slice-known2 .given (c .before .before .before .before .before .before .before .loop .i) .fits)), (text-more (c .before .before .before .before .before .before .before .loop .scan) (c .before .before .step .result) (c .before .before .before .before .before .before .before .before .before .before .before .before .args .s .now) (c .before .before .before .before .before .before .before .loop .i) (omega arith) (c .before .before .before .before .before .before .before .loop .inv .0 .1) (c .before .before .step .ensures) (c .before .before .before .shared-slice-known2 .given (c .before .before .before .before .before .before .before .loop .i) .fits) (c .before .before .before .before .before .before .before .loop .inv .1 .0), c .before .before .before .before .before .before .before .loop .inv .1 .1 ∙ bad-further (c .before .before .before .before .before .before .before .loop .scan) (c .before .before .step .result) (c .before .before .before .before .before .before .before .before .before .before .before .before .args .s .now) (c .before .before .before .before .before .before .before .loop .i) (omega arith) (c .before .before .before .before .before .before .before .loop .inv .0 .1) (c .before .before .step .ensures) (c .before .before .before .shared-slice-known2 .given (c .before .before .before .before .before .before .before .loop .i) .fits) (c .before .before .before .before .before .before .before .loop .inv .1 .0) (c .before .is-bad .result) (c .before .is-bad .ensures) (c .if3 .left)))
+loop-again-3 : tie.Need-loop-again-3 Inv-loop μ-loop
+loop-again-3 c = ((omega arith, fair-more (c .before .before .before .before .before .before .before .before .before .loop .scan) (c .before .before .step .result) (c .before .before .before .before .before .before .before .before .before .before .before .before .before .before .args .s .now) (c .before .before .before .before .before .before .before .before .before .loop .i) (omega arith) (c .before .before .before .before .before .before .before .before .before .loop .inv .0 .1) (c .before .before .step .ensures) (c .before .before .before .shared-slice-known2 .given (c .before .before .before .before .before .before .before .before .before .loop .i) .fits)), (text-more (c .before .before .before .before .before .before .before .before .before .loop .scan) (c .before .before .step .result) (c .before .before .before .before .before .before .before .before .before .before .before .before .before .before .args .s .now) (c .before .before .before .before .before .before .before .before .before .loop .i) (omega arith) (c .before .before .before .before .before .before .before .before .before .loop .inv .0 .1) (c .before .before .step .ensures) (c .before .before .before .shared-slice-known2 .given (c .before .before .before .before .before .before .before .before .before .loop .i) .fits) (c .before .before .before .before .before .before .before .before .before .loop .inv .1 .0), c .before .before .before .before .before .before .before .before .before .loop .inv .1 .1 ∙ bad-further (c .before .before .before .before .before .before .before .before .before .loop .scan) (c .before .before .step .result) (c .before .before .before .before .before .before .before .before .before .before .before .before .before .before .args .s .now) (c .before .before .before .before .before .before .before .before .before .loop .i) (omega arith) (c .before .before .before .before .before .before .before .before .before .loop .inv .0 .1) (c .before .before .step .ensures) (c .before .before .before .shared-slice-known2 .given (c .before .before .before .before .before .before .before .before .before .loop .i) .fits) (c .before .before .before .before .before .before .before .before .before .loop .inv .1 .0) (c .before .is-bad .result) (c .before .is-bad .ensures) (c .if4 .left)))
 
 returns-3 : tie.Need-returns-3 Inv-loop μ-loop
 returns-3 c = sym (c .before .loop .inv .1 .1 ∙ bad-done (c .before .loop .scan) (c .before .before .before .before .before .before .args .s .now) (c .before .loop .i) (omega arith))
@@ -78,11 +90,15 @@ has-bad-escape-spec =
     plain-to-requires
     loop-less
     loop-again
+    letter-at-requires
+    add-i
+    loop-less-2
+    loop-again-2
     shared-slice-read-step
     step-requires
     is-bad-requires
     returns-2
-    add-i
-    loop-less-2
-    loop-again-2
+    add-i-2
+    loop-less-3
+    loop-again-3
     returns-3)

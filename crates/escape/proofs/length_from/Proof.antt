@@ -1,11 +1,11 @@
 -- The invariant: what was counted and what the rest stands for make the whole length.
 use Prim.Native.Nat.{_≤_, _-_, _+_}
-use mathlib.Core.Path.{_≡_, ap, sym, _∙_}
+use mathlib.Core.Path.{_≡_, refl, ap, sym, _∙_}
 use native.Mathlib.Omega.{arith}
 use borrow.Author.Tests.{not-true}
 use lib.ListN.{length, drop}
 use Rattle.escape.specs.Code.{undone, Fair}
-use Rattle.escape.proofs.Walk.{fair-more, length-more, undone-end, plain-length, stretch-length}
+use Rattle.escape.proofs.Walk.{fair-more, length-more, undone-end, plain-length, plain-size, stretch-length}
 use borrow.Author.Needs.{needs}
 use Rattle.escape.proofs.length_from.Statement.{statement}
 use Rattle.escape.proofs.length_from.Tie as tie
@@ -32,13 +32,28 @@ sub-total : tie.Need-sub-total Inv-loop μ-loop
 sub-total c = c .before .plain-to .ensures .after
 
 add-total : tie.Need-add-total Inv-loop μ-loop
-add-total c = omega (arith, stretch-length (c .before .before .before .loop .scan) (c .before .before .before .before .before .before .before .args .s .now) (c .before .before .before .loop .i) (c .before .plain-to .result) (c .before .plain-to .ensures), c .before .before .before .before .before .before .before .pre .short (c .before .before .before .before .before .before .before .args .s .now), c .before .before .before .loop .inv .1, c .before .plain-to .ensures .after)
+add-total c = omega (arith, stretch-length (c .before .before .before .loop .scan) (c .before .before .before .before .before .before .before .args .s .now) (c .before .before .before .loop .i) (c .before .plain-to .result) _ (c .before .plain-to .ensures) (c .before .plain-to .result - c .before .before .before .loop .i) (plain-size (c .before .plain-to .ensures)), c .before .before .before .before .before .before .before .pre .short (c .before .before .before .before .before .before .before .args .s .now), c .before .before .before .loop .inv .1, c .before .plain-to .ensures .after)
 
 loop-less : tie.Need-loop-less Inv-loop μ-loop
 loop-less c = omega (arith, c .before .plain-to .ensures .fits)
 
 loop-again : tie.Need-loop-again Inv-loop μ-loop
-loop-again c = ((c .before .plain-to .ensures .fits, c .before .before .before .loop .inv .0 .1), omega (arith, stretch-length (c .before .before .before .loop .scan) (c .before .before .before .before .before .before .before .args .s .now) (c .before .before .before .loop .i) (c .before .plain-to .result) (c .before .plain-to .ensures), c .before .before .before .loop .inv .1))
+loop-again c = ((c .before .plain-to .ensures .fits, c .before .before .before .loop .inv .0 .1), omega (arith, stretch-length (c .before .before .before .loop .scan) (c .before .before .before .before .before .before .before .args .s .now) (c .before .before .before .loop .i) (c .before .plain-to .result) _ (c .before .plain-to .ensures) (c .before .plain-to .result - c .before .before .before .loop .i) (plain-size (c .before .plain-to .ensures)), c .before .before .before .loop .inv .1))
+
+letter-at-requires : tie.Need-letter-at-requires Inv-loop μ-loop
+letter-at-requires c κs = search needs
+
+add-total-2 : tie.Need-add-total-2 Inv-loop μ-loop
+add-total-2 c = omega (arith, stretch-length (c .before .before .before .before .before .loop .scan) (c .before .before .before .before .before .before .before .before .before .args .s .now) (c .before .before .before .before .before .loop .i) (c .before .before .before .before .before .loop .i + 2) _ (c .before .letter-at .ensures .0 (c .if3 .taken)) 1 refl, c .before .before .before .before .before .before .before .before .before .pre .short (c .before .before .before .before .before .before .before .before .before .args .s .now), c .before .before .before .before .before .loop .inv .1)
+
+add-i : tie.Need-add-i Inv-loop μ-loop
+add-i c = omega (arith, c .before .letter-at .ensures .0 (c .if3 .taken) .fits)
+
+loop-less-2 : tie.Need-loop-less-2 Inv-loop μ-loop
+loop-less-2 c = omega (arith, c .before .letter-at .ensures .0 (c .if3 .taken) .fits)
+
+loop-again-2 : tie.Need-loop-again-2 Inv-loop μ-loop
+loop-again-2 c = ((c .before .letter-at .ensures .0 (c .if3 .taken) .fits, c .before .before .before .before .before .loop .inv .0 .1), omega (arith, stretch-length (c .before .before .before .before .before .loop .scan) (c .before .before .before .before .before .before .before .before .before .args .s .now) (c .before .before .before .before .before .loop .i) (c .before .before .before .before .before .loop .i + 2) _ (c .before .letter-at .ensures .0 (c .if3 .taken)) 1 refl, c .before .before .before .before .before .loop .inv .1))
 
 shared-slice-read-step : tie.Need-shared-slice-read-step Inv-loop μ-loop
 shared-slice-read-step c = search needs
@@ -46,17 +61,17 @@ shared-slice-read-step c = search needs
 step-requires : tie.Need-step-requires Inv-loop μ-loop
 step-requires c κs = search needs
 
-add-total-2 : tie.Need-add-total-2 Inv-loop μ-loop
-add-total-2 c = omega (arith, length-more (c .before .before .before .before .before .before .loop .scan) (c .before .step .result) (c .before .before .before .before .before .before .before .before .before .before .args .s .now) (c .before .before .before .before .before .before .loop .i) (omega arith) (c .before .before .before .before .before .before .loop .inv .0 .1) (c .before .step .ensures) (c .before .before .shared-slice-known2 .given (c .before .before .before .before .before .before .loop .i) .fits), c .before .before .before .before .before .before .before .before .before .before .pre .short (c .before .before .before .before .before .before .before .before .before .before .args .s .now), c .before .before .before .before .before .before .loop .inv .1)
+add-total-3 : tie.Need-add-total-3 Inv-loop μ-loop
+add-total-3 c = omega (arith, length-more (c .before .before .before .before .before .before .before .before .loop .scan) (c .before .step .result) (c .before .before .before .before .before .before .before .before .before .before .before .before .args .s .now) (c .before .before .before .before .before .before .before .before .loop .i) (omega arith) (c .before .before .before .before .before .before .before .before .loop .inv .0 .1) (c .before .step .ensures) (c .before .before .shared-slice-known2 .given (c .before .before .before .before .before .before .before .before .loop .i) .fits), c .before .before .before .before .before .before .before .before .before .before .before .before .pre .short (c .before .before .before .before .before .before .before .before .before .before .before .before .args .s .now), c .before .before .before .before .before .before .before .before .loop .inv .1)
 
-add-i : tie.Need-add-i Inv-loop μ-loop
-add-i c = search needs
+add-i-2 : tie.Need-add-i-2 Inv-loop μ-loop
+add-i-2 c = search needs
 
-loop-less-2 : tie.Need-loop-less-2 Inv-loop μ-loop
-loop-less-2 c = search needs
+loop-less-3 : tie.Need-loop-less-3 Inv-loop μ-loop
+loop-less-3 c = search needs
 
-loop-again-2 : tie.Need-loop-again-2 Inv-loop μ-loop
-loop-again-2 c = ((omega arith, fair-more (c .before .before .before .before .before .before .loop .scan) (c .before .step .result) (c .before .before .before .before .before .before .before .before .before .before .args .s .now) (c .before .before .before .before .before .before .loop .i) (omega arith) (c .before .before .before .before .before .before .loop .inv .0 .1) (c .before .step .ensures) (c .before .before .shared-slice-known2 .given (c .before .before .before .before .before .before .loop .i) .fits)), omega (arith, length-more (c .before .before .before .before .before .before .loop .scan) (c .before .step .result) (c .before .before .before .before .before .before .before .before .before .before .args .s .now) (c .before .before .before .before .before .before .loop .i) (omega arith) (c .before .before .before .before .before .before .loop .inv .0 .1) (c .before .step .ensures) (c .before .before .shared-slice-known2 .given (c .before .before .before .before .before .before .loop .i) .fits), c .before .before .before .before .before .before .loop .inv .1))
+loop-again-3 : tie.Need-loop-again-3 Inv-loop μ-loop
+loop-again-3 c = ((omega arith, fair-more (c .before .before .before .before .before .before .before .before .loop .scan) (c .before .step .result) (c .before .before .before .before .before .before .before .before .before .before .before .before .args .s .now) (c .before .before .before .before .before .before .before .before .loop .i) (omega arith) (c .before .before .before .before .before .before .before .before .loop .inv .0 .1) (c .before .step .ensures) (c .before .before .shared-slice-known2 .given (c .before .before .before .before .before .before .before .before .loop .i) .fits)), omega (arith, length-more (c .before .before .before .before .before .before .before .before .loop .scan) (c .before .step .result) (c .before .before .before .before .before .before .before .before .before .before .before .before .args .s .now) (c .before .before .before .before .before .before .before .before .loop .i) (omega arith) (c .before .before .before .before .before .before .before .before .loop .inv .0 .1) (c .before .step .ensures) (c .before .before .shared-slice-known2 .given (c .before .before .before .before .before .before .before .before .loop .i) .fits), c .before .before .before .before .before .before .before .before .loop .inv .1))
 
 returns-2 : tie.Need-returns-2 Inv-loop μ-loop
 returns-2 c = omega (arith, c .before .loop .inv .1, ap length (undone-end (c .before .loop .scan) (c .before .before .before .before .before .args .s .now) (c .before .loop .i) (omega arith)))
@@ -75,10 +90,15 @@ length-from-spec =
     add-total
     loop-less
     loop-again
-    shared-slice-read-step
-    step-requires
+    letter-at-requires
     add-total-2
     add-i
     loop-less-2
     loop-again-2
+    shared-slice-read-step
+    step-requires
+    add-total-3
+    add-i-2
+    loop-less-3
+    loop-again-3
     returns-2)

@@ -1,7 +1,4 @@
-use Prim.Native.Nat.{ℕ}
-use mathlib.Core.Path.{sym, subst}
 use native.Mathlib.Omega.{arith}
-use Rattle.escape.specs.Code.{Stretch}
 use Rattle.escape.proofs.Walk.{stretch-none, stretch-text, stretch-name}
 use borrow.Author.Needs.{needs}
 use Rattle.escape.proofs.plain_to.Statement.{statement}
@@ -17,13 +14,13 @@ next-requires : tie.Need-next-requires
 next-requires c κs = search needs
 
 returns-2 : tie.Need-returns-2
-returns-2 c = subst (λ (n : ℕ). Stretch n (c .before .before .before .before .before .args .s .now) (c .before .before .before .before .before .args .at) (c .next .result)) (sym (c .before .if2 .taken)) (stretch-text (c .before .before .before .before .before .args .s .now) (c .before .before .before .before .before .args .at) (c .next .result) (c .next .ensures .0) (c .next .ensures .1 .0) (c .next .ensures .1 .1))
+returns-2 c = rw (c .before .if2 .taken) (stretch-text (c .before .before .before .before .before .args .s .now) (c .before .before .before .before .before .args .at) (c .next .result) (c .next .ensures .0) (c .next .ensures .1 .0) (c .next .ensures .1 .1))
 
 next-requires-2 : tie.Need-next-requires-2
 next-requires-2 c κs = search needs
 
 returns-3 : tie.Need-returns-3
-returns-3 c = subst (λ (n : ℕ). Stretch n (c .before .before .before .before .before .before .args .s .now) (c .before .before .before .before .before .before .args .at) (c .next2 .result)) (sym (c .before .if3 .taken)) (stretch-name (c .before .before .before .before .before .before .args .s .now) (c .before .before .before .before .before .before .args .at) (c .next2 .result) (c .next2 .ensures .0) (c .next2 .ensures .1 .0) (c .next2 .ensures .1 .1))
+returns-3 c = rw (c .before .if3 .taken) (stretch-name (c .before .before .before .before .before .before .args .s .now) (c .before .before .before .before .before .before .args .at) (c .next2 .result) (c .next2 .ensures .0) (c .next2 .ensures .1 .0) (c .next2 .ensures .1 .1))
 
 returns-4 : tie.Need-returns-4
 returns-4 c = stretch-none (c .before .before .before .before .before .args .left) (c .before .before .before .before .before .args .s .now) (c .before .before .before .before .before .args .at) (omega arith)

@@ -1,13 +1,13 @@
--- The invariant: t is the text just if it is, from the place reached on, what the rest stands for.
-use Prim.Native.Nat.{_≤_, _-_}
+-- The invariant: the texts are the same just if what the rest stands for is the rest of t.
+use Prim.Native.Nat.{_≤_, _-_, _+_}
 use mathlib.Core.Path.{_≡_, refl, ap, sym, _∙_}
 use native.Mathlib.Omega.{arith}
 use borrow.Author.Tests.{not-true, not-false}
-use lib.ListN.{length, take, drop, length-drop}
-use lib.Seq.{length-take-le, take-all}
-use Rattle.text.specs.Text.{Text, same-text, begins}
+use lib.ListN.{length, drop}
+use lib.Seq.{length-take-le}
+use Rattle.text.specs.Text.{same-text, begins}
 use Rattle.escape.specs.Code.{undone, Fair}
-use Rattle.escape.proofs.Walk.{fair-more, same-more, same-not, same-fits, same-done, four-fits, plain-same, stretch-same, stretch-not, stretch-fits}
+use Rattle.escape.proofs.Walk.{fair-more, four-fits, same-more, same-not, same-fits, same-done, to-end, plain-same, plain-size, stretch-same, stretch-not, stretch-fits}
 use borrow.Author.Needs.{needs}
 use Rattle.escape.proofs.same_from.Statement.{statement}
 use Rattle.escape.proofs.same_from.Tie as tie
@@ -55,19 +55,46 @@ begins-requires : tie.Need-begins-requires Inv-loop μ-loop
 begins-requires c κs = search needs
 
 returns-2 : tie.Need-returns-2 Inv-loop μ-loop
-returns-2 c = sym (c .before .before .before .before .before .before .before .loop .inv .1 .1 ∙ stretch-not (c .before .before .before .before .before .before .before .loop .scan) (c .before .before .before .before .before .before .before .before .before .before .before .before .args .s .now) (c .before .before .before .before .before .before .before .loop .i) (c .before .before .before .before .before .plain-to .result) (c .before .before .before .before .before .plain-to .ensures) (c .before .before .before .before .before .before .before .before .before .before .before .before .args .t .now) (c .before .before .before .before .before .before .before .loop .j) (c .before .begins .result) (c .before .begins .ensures ∙ ap (λ (l : Text). begins (take (c .before .before .before .before .before .plain-to .result - c .before .before .before .before .before .before .before .loop .i) (drop (c .before .before .before .before .before .before .before .loop .i) (c .before .before .before .before .before .before .before .before .before .before .before .before .args .s .now))) l) (take-all (length (c .before .before .before .before .before .before .before .before .before .before .before .before .args .t .now) - c .before .before .before .before .before .before .before .loop .j) (drop (c .before .before .before .before .before .before .before .loop .j) (c .before .before .before .before .before .before .before .before .before .before .before .before .args .t .now)) (omega (arith, length-drop (c .before .before .before .before .before .before .before .loop .j) (c .before .before .before .before .before .before .before .before .before .before .before .before .args .t .now))))) (not-true _ (c .if3 .taken)))
+returns-2 c = sym (c .before .before .before .before .before .before .before .loop .inv .1 .1 ∙ stretch-not (c .before .before .before .before .before .before .before .loop .scan) (c .before .before .before .before .before .before .before .before .before .before .before .before .args .s .now) (c .before .before .before .before .before .before .before .loop .i) (c .before .before .before .before .before .plain-to .result) _ (c .before .before .before .before .before .plain-to .ensures) (c .before .before .before .before .before .plain-to .result - c .before .before .before .before .before .before .before .loop .i) (plain-size (c .before .before .before .before .before .plain-to .ensures)) (c .before .before .before .before .before .before .before .before .before .before .before .before .args .t .now) (c .before .before .before .before .before .before .before .loop .j) (c .before .begins .result) (c .before .begins .ensures ∙ ap (begins _) (to-end (c .before .before .before .before .before .before .before .before .before .before .before .before .args .t .now) (c .before .before .before .before .before .before .before .loop .j))) (not-true _ (c .if3 .taken)))
 
 sub-j : tie.Need-sub-j Inv-loop μ-loop
 sub-j c = search needs
 
 add-j : tie.Need-add-j Inv-loop μ-loop
-add-j c = omega (arith, stretch-fits (c .before .before .before .before .before .before .before .loop .scan) (c .before .before .before .before .before .before .before .before .before .before .before .before .args .s .now) (c .before .before .before .before .before .before .before .loop .i) (c .before .before .before .before .before .plain-to .result) (c .before .before .before .before .before .plain-to .ensures) (c .before .before .before .before .before .before .before .before .before .before .before .before .args .t .now) (c .before .before .before .before .before .before .before .loop .j) (c .before .begins .result) (c .before .begins .ensures ∙ ap (λ (l : Text). begins (take (c .before .before .before .before .before .plain-to .result - c .before .before .before .before .before .before .before .loop .i) (drop (c .before .before .before .before .before .before .before .loop .i) (c .before .before .before .before .before .before .before .before .before .before .before .before .args .s .now))) l) (take-all (length (c .before .before .before .before .before .before .before .before .before .before .before .before .args .t .now) - c .before .before .before .before .before .before .before .loop .j) (drop (c .before .before .before .before .before .before .before .loop .j) (c .before .before .before .before .before .before .before .before .before .before .before .before .args .t .now)) (omega (arith, length-drop (c .before .before .before .before .before .before .before .loop .j) (c .before .before .before .before .before .before .before .before .before .before .before .before .args .t .now))))) (omega arith) (not-false _ (c .if3 .left)))
+add-j c = omega (arith, stretch-fits (c .before .before .before .before .before .before .before .loop .scan) (c .before .before .before .before .before .before .before .before .before .before .before .before .args .s .now) (c .before .before .before .before .before .before .before .loop .i) (c .before .before .before .before .before .plain-to .result) _ (c .before .before .before .before .before .plain-to .ensures) (c .before .before .before .before .before .plain-to .result - c .before .before .before .before .before .before .before .loop .i) (plain-size (c .before .before .before .before .before .plain-to .ensures)) (c .before .before .before .before .before .before .before .before .before .before .before .before .args .t .now) (c .before .before .before .before .before .before .before .loop .j) (c .before .begins .result) (c .before .begins .ensures ∙ ap (begins _) (to-end (c .before .before .before .before .before .before .before .before .before .before .before .before .args .t .now) (c .before .before .before .before .before .before .before .loop .j))) (omega arith) (not-false _ (c .if3 .left)))
 
 loop-less : tie.Need-loop-less Inv-loop μ-loop
 loop-less c = omega (arith, c .before .before .before .before .before .plain-to .ensures .fits)
 
 loop-again : tie.Need-loop-again Inv-loop μ-loop
-loop-again c = ((c .before .before .before .before .before .plain-to .ensures .fits, c .before .before .before .before .before .before .before .loop .inv .0 .1), (stretch-fits (c .before .before .before .before .before .before .before .loop .scan) (c .before .before .before .before .before .before .before .before .before .before .before .before .args .s .now) (c .before .before .before .before .before .before .before .loop .i) (c .before .before .before .before .before .plain-to .result) (c .before .before .before .before .before .plain-to .ensures) (c .before .before .before .before .before .before .before .before .before .before .before .before .args .t .now) (c .before .before .before .before .before .before .before .loop .j) (c .before .begins .result) (c .before .begins .ensures ∙ ap (λ (l : Text). begins (take (c .before .before .before .before .before .plain-to .result - c .before .before .before .before .before .before .before .loop .i) (drop (c .before .before .before .before .before .before .before .loop .i) (c .before .before .before .before .before .before .before .before .before .before .before .before .args .s .now))) l) (take-all (length (c .before .before .before .before .before .before .before .before .before .before .before .before .args .t .now) - c .before .before .before .before .before .before .before .loop .j) (drop (c .before .before .before .before .before .before .before .loop .j) (c .before .before .before .before .before .before .before .before .before .before .before .before .args .t .now)) (omega (arith, length-drop (c .before .before .before .before .before .before .before .loop .j) (c .before .before .before .before .before .before .before .before .before .before .before .before .args .t .now))))) (omega arith) (not-false _ (c .if3 .left)), c .before .before .before .before .before .before .before .loop .inv .1 .1 ∙ stretch-same (c .before .before .before .before .before .before .before .loop .scan) (c .before .before .before .before .before .before .before .before .before .before .before .before .args .s .now) (c .before .before .before .before .before .before .before .loop .i) (c .before .before .before .before .before .plain-to .result) (c .before .before .before .before .before .plain-to .ensures) (c .before .before .before .before .before .before .before .before .before .before .before .before .args .t .now) (c .before .before .before .before .before .before .before .loop .j) (c .before .begins .result) (c .before .begins .ensures ∙ ap (λ (l : Text). begins (take (c .before .before .before .before .before .plain-to .result - c .before .before .before .before .before .before .before .loop .i) (drop (c .before .before .before .before .before .before .before .loop .i) (c .before .before .before .before .before .before .before .before .before .before .before .before .args .s .now))) l) (take-all (length (c .before .before .before .before .before .before .before .before .before .before .before .before .args .t .now) - c .before .before .before .before .before .before .before .loop .j) (drop (c .before .before .before .before .before .before .before .loop .j) (c .before .before .before .before .before .before .before .before .before .before .before .before .args .t .now)) (omega (arith, length-drop (c .before .before .before .before .before .before .before .loop .j) (c .before .before .before .before .before .before .before .before .before .before .before .before .args .t .now))))) (not-false _ (c .if3 .left))))
+loop-again c = ((c .before .before .before .before .before .plain-to .ensures .fits, c .before .before .before .before .before .before .before .loop .inv .0 .1), (stretch-fits (c .before .before .before .before .before .before .before .loop .scan) (c .before .before .before .before .before .before .before .before .before .before .before .before .args .s .now) (c .before .before .before .before .before .before .before .loop .i) (c .before .before .before .before .before .plain-to .result) _ (c .before .before .before .before .before .plain-to .ensures) (c .before .before .before .before .before .plain-to .result - c .before .before .before .before .before .before .before .loop .i) (plain-size (c .before .before .before .before .before .plain-to .ensures)) (c .before .before .before .before .before .before .before .before .before .before .before .before .args .t .now) (c .before .before .before .before .before .before .before .loop .j) (c .before .begins .result) (c .before .begins .ensures ∙ ap (begins _) (to-end (c .before .before .before .before .before .before .before .before .before .before .before .before .args .t .now) (c .before .before .before .before .before .before .before .loop .j))) (omega arith) (not-false _ (c .if3 .left)), c .before .before .before .before .before .before .before .loop .inv .1 .1 ∙ stretch-same (c .before .before .before .before .before .before .before .loop .scan) (c .before .before .before .before .before .before .before .before .before .before .before .before .args .s .now) (c .before .before .before .before .before .before .before .loop .i) (c .before .before .before .before .before .plain-to .result) _ (c .before .before .before .before .before .plain-to .ensures) (c .before .before .before .before .before .plain-to .result - c .before .before .before .before .before .before .before .loop .i) (plain-size (c .before .before .before .before .before .plain-to .ensures)) (c .before .before .before .before .before .before .before .before .before .before .before .before .args .t .now) (c .before .before .before .before .before .before .before .loop .j) (c .before .begins .result) (c .before .begins .ensures ∙ ap (begins _) (to-end (c .before .before .before .before .before .before .before .before .before .before .before .before .args .t .now) (c .before .before .before .before .before .before .before .loop .j))) (not-false _ (c .if3 .left))))
+
+letter-at-requires : tie.Need-letter-at-requires Inv-loop μ-loop
+letter-at-requires c κs = search needs
+
+sub-t27 : tie.Need-sub-t27 Inv-loop μ-loop
+sub-t27 c = search needs
+
+slice-aggregate-goes-on : tie.Need-slice-aggregate-goes-on Inv-loop μ-loop
+slice-aggregate-goes-on c = search needs
+
+goes-on-requires : tie.Need-goes-on-requires Inv-loop μ-loop
+goes-on-requires c κs = search needs
+
+returns-3 : tie.Need-returns-3 Inv-loop μ-loop
+returns-3 c = sym (c .before .before .before .before .before .before .before .before .loop .inv .1 .1 ∙ stretch-not (c .before .before .before .before .before .before .before .before .loop .scan) (c .before .before .before .before .before .before .before .before .before .before .before .before .before .args .s .now) (c .before .before .before .before .before .before .before .before .loop .i) (c .before .before .before .before .before .before .before .before .loop .i + 2) _ (c .before .before .before .before .letter-at .ensures .0 (c .before .before .before .if4 .taken)) 1 refl (c .before .before .before .before .before .before .before .before .before .before .before .before .before .args .t .now) (c .before .before .before .before .before .before .before .before .loop .j) (c .before .goes-on .result) (c .before .goes-on .ensures) (not-true _ (c .if5 .taken)))
+
+add-j-2 : tie.Need-add-j-2 Inv-loop μ-loop
+add-j-2 c = omega (arith, stretch-fits (c .before .before .before .before .before .before .before .before .loop .scan) (c .before .before .before .before .before .before .before .before .before .before .before .before .before .args .s .now) (c .before .before .before .before .before .before .before .before .loop .i) (c .before .before .before .before .before .before .before .before .loop .i + 2) _ (c .before .before .before .before .letter-at .ensures .0 (c .before .before .before .if4 .taken)) 1 refl (c .before .before .before .before .before .before .before .before .before .before .before .before .before .args .t .now) (c .before .before .before .before .before .before .before .before .loop .j) (c .before .goes-on .result) (c .before .goes-on .ensures) (omega arith) (not-false _ (c .if5 .left)))
+
+add-i : tie.Need-add-i Inv-loop μ-loop
+add-i c = omega (arith, c .before .before .before .before .letter-at .ensures .0 (c .before .before .before .if4 .taken) .fits)
+
+loop-less-2 : tie.Need-loop-less-2 Inv-loop μ-loop
+loop-less-2 c = omega (arith, c .before .before .before .before .letter-at .ensures .0 (c .before .before .before .if4 .taken) .fits)
+
+loop-again-2 : tie.Need-loop-again-2 Inv-loop μ-loop
+loop-again-2 c = ((c .before .before .before .before .letter-at .ensures .0 (c .before .before .before .if4 .taken) .fits, c .before .before .before .before .before .before .before .before .loop .inv .0 .1), (stretch-fits (c .before .before .before .before .before .before .before .before .loop .scan) (c .before .before .before .before .before .before .before .before .before .before .before .before .before .args .s .now) (c .before .before .before .before .before .before .before .before .loop .i) (c .before .before .before .before .before .before .before .before .loop .i + 2) _ (c .before .before .before .before .letter-at .ensures .0 (c .before .before .before .if4 .taken)) 1 refl (c .before .before .before .before .before .before .before .before .before .before .before .before .before .args .t .now) (c .before .before .before .before .before .before .before .before .loop .j) (c .before .goes-on .result) (c .before .goes-on .ensures) (omega arith) (not-false _ (c .if5 .left)), c .before .before .before .before .before .before .before .before .loop .inv .1 .1 ∙ stretch-same (c .before .before .before .before .before .before .before .before .loop .scan) (c .before .before .before .before .before .before .before .before .before .before .before .before .before .args .s .now) (c .before .before .before .before .before .before .before .before .loop .i) (c .before .before .before .before .before .before .before .before .loop .i + 2) _ (c .before .before .before .before .letter-at .ensures .0 (c .before .before .before .if4 .taken)) 1 refl (c .before .before .before .before .before .before .before .before .before .before .before .before .before .args .t .now) (c .before .before .before .before .before .before .before .before .loop .j) (c .before .goes-on .result) (c .before .goes-on .ensures) (not-false _ (c .if5 .left))))
 
 shared-slice-read-step : tie.Need-shared-slice-read-step Inv-loop μ-loop
 shared-slice-read-step c = search needs
@@ -79,31 +106,31 @@ bytes-requires : tie.Need-bytes-requires Inv-loop μ-loop
 bytes-requires c κs = search needs
 
 array-share-prefix-b : tie.Need-array-share-prefix-b Inv-loop μ-loop
-array-share-prefix-b c = four-fits (c .before .step .result) (c .bytes .result) (c .bytes .ensures) (fair-more (c .before .before .before .before .before .before .loop .scan) (c .before .step .result) (c .before .before .before .before .before .before .before .before .before .before .before .args .s .now) (c .before .before .before .before .before .before .loop .i) (omega arith) (c .before .before .before .before .before .before .loop .inv .0 .1) (c .before .step .ensures) (c .before .before .shared-slice-known3 .given (c .before .before .before .before .before .before .loop .i) .fits) .small)
+array-share-prefix-b c = four-fits (c .before .step .result) (c .bytes .result) (c .bytes .ensures) (fair-more (c .before .before .before .before .before .before .before .before .loop .scan) (c .before .step .result) (c .before .before .before .before .before .before .before .before .before .before .before .before .before .args .s .now) (c .before .before .before .before .before .before .before .before .loop .i) (omega arith) (c .before .before .before .before .before .before .before .before .loop .inv .0 .1) (c .before .step .ensures) (c .before .before .shared-slice-known3 .given (c .before .before .before .before .before .before .before .before .loop .i) .fits) .small)
 
-slice-aggregate-goes-on : tie.Need-slice-aggregate-goes-on Inv-loop μ-loop
-slice-aggregate-goes-on c = sym (length-take-le (c .before .before .step .result .n) (c .before .bytes .result) (four-fits (c .before .before .step .result) (c .before .bytes .result) (c .before .bytes .ensures) (fair-more (c .before .before .before .before .before .before .before .loop .scan) (c .before .before .step .result) (c .before .before .before .before .before .before .before .before .before .before .before .before .args .s .now) (c .before .before .before .before .before .before .before .loop .i) (omega arith) (c .before .before .before .before .before .before .before .loop .inv .0 .1) (c .before .before .step .ensures) (c .before .before .before .shared-slice-known3 .given (c .before .before .before .before .before .before .before .loop .i) .fits) .small)))
+slice-aggregate-goes-on-2 : tie.Need-slice-aggregate-goes-on-2 Inv-loop μ-loop
+slice-aggregate-goes-on-2 c = sym (length-take-le (c .before .before .step .result .n) (c .before .bytes .result) (four-fits (c .before .before .step .result) (c .before .bytes .result) (c .before .bytes .ensures) (fair-more (c .before .before .before .before .before .before .before .before .before .loop .scan) (c .before .before .step .result) (c .before .before .before .before .before .before .before .before .before .before .before .before .before .before .args .s .now) (c .before .before .before .before .before .before .before .before .before .loop .i) (omega arith) (c .before .before .before .before .before .before .before .before .before .loop .inv .0 .1) (c .before .before .step .ensures) (c .before .before .before .shared-slice-known3 .given (c .before .before .before .before .before .before .before .before .before .loop .i) .fits) .small)))
 
-goes-on-requires : tie.Need-goes-on-requires Inv-loop μ-loop
-goes-on-requires c κs = search needs
-
-add-j-2 : tie.Need-add-j-2 Inv-loop μ-loop
-add-j-2 c = omega (arith, same-fits (c .before .before .before .before .before .before .before .before .before .loop .scan) (c .before .before .before .before .step .result) (c .before .before .before .before .before .before .before .before .before .before .before .before .before .before .args .s .now) (c .before .before .before .before .before .before .before .before .before .loop .i) (omega arith) (c .before .before .before .before .before .before .before .before .before .loop .inv .0 .1) (c .before .before .before .before .step .ensures) (c .before .before .before .before .before .shared-slice-known3 .given (c .before .before .before .before .before .before .before .before .before .loop .i) .fits) (c .before .before .before .bytes .result) (c .before .before .before .bytes .ensures) (c .before .before .before .before .before .before .before .before .before .before .before .before .before .before .args .t .now) (c .before .before .before .before .before .before .before .before .before .loop .j) (c .before .goes-on .result) (c .before .goes-on .ensures) (omega arith) (c .if4 .taken))
-
-add-i : tie.Need-add-i Inv-loop μ-loop
-add-i c = search needs
-
-loop-less-2 : tie.Need-loop-less-2 Inv-loop μ-loop
-loop-less-2 c = search needs
-
-loop-again-2 : tie.Need-loop-again-2 Inv-loop μ-loop
-loop-again-2 c = ((omega arith, fair-more (c .before .before .before .before .before .before .before .before .before .loop .scan) (c .before .before .before .before .step .result) (c .before .before .before .before .before .before .before .before .before .before .before .before .before .before .args .s .now) (c .before .before .before .before .before .before .before .before .before .loop .i) (omega arith) (c .before .before .before .before .before .before .before .before .before .loop .inv .0 .1) (c .before .before .before .before .step .ensures) (c .before .before .before .before .before .shared-slice-known3 .given (c .before .before .before .before .before .before .before .before .before .loop .i) .fits)), (same-fits (c .before .before .before .before .before .before .before .before .before .loop .scan) (c .before .before .before .before .step .result) (c .before .before .before .before .before .before .before .before .before .before .before .before .before .before .args .s .now) (c .before .before .before .before .before .before .before .before .before .loop .i) (omega arith) (c .before .before .before .before .before .before .before .before .before .loop .inv .0 .1) (c .before .before .before .before .step .ensures) (c .before .before .before .before .before .shared-slice-known3 .given (c .before .before .before .before .before .before .before .before .before .loop .i) .fits) (c .before .before .before .bytes .result) (c .before .before .before .bytes .ensures) (c .before .before .before .before .before .before .before .before .before .before .before .before .before .before .args .t .now) (c .before .before .before .before .before .before .before .before .before .loop .j) (c .before .goes-on .result) (c .before .goes-on .ensures) (omega arith) (c .if4 .taken), c .before .before .before .before .before .before .before .before .before .loop .inv .1 .1 ∙ same-more (c .before .before .before .before .before .before .before .before .before .loop .scan) (c .before .before .before .before .step .result) (c .before .before .before .before .before .before .before .before .before .before .before .before .before .before .args .s .now) (c .before .before .before .before .before .before .before .before .before .loop .i) (omega arith) (c .before .before .before .before .before .before .before .before .before .loop .inv .0 .1) (c .before .before .before .before .step .ensures) (c .before .before .before .before .before .shared-slice-known3 .given (c .before .before .before .before .before .before .before .before .before .loop .i) .fits) (c .before .before .before .bytes .result) (c .before .before .before .bytes .ensures) (c .before .before .before .before .before .before .before .before .before .before .before .before .before .before .args .t .now) (c .before .before .before .before .before .before .before .before .before .loop .j) (c .before .goes-on .result) (c .before .goes-on .ensures) (c .if4 .taken)))
-
-returns-3 : tie.Need-returns-3 Inv-loop μ-loop
-returns-3 c = sym (c .before .before .before .before .before .before .before .before .before .loop .inv .1 .1 ∙ same-not (c .before .before .before .before .before .before .before .before .before .loop .scan) (c .before .before .before .before .step .result) (c .before .before .before .before .before .before .before .before .before .before .before .before .before .before .args .s .now) (c .before .before .before .before .before .before .before .before .before .loop .i) (omega arith) (c .before .before .before .before .before .before .before .before .before .loop .inv .0 .1) (c .before .before .before .before .step .ensures) (c .before .before .before .before .before .shared-slice-known3 .given (c .before .before .before .before .before .before .before .before .before .loop .i) .fits) (c .before .before .before .bytes .result) (c .before .before .before .bytes .ensures) (c .before .before .before .before .before .before .before .before .before .before .before .before .before .before .args .t .now) (c .before .before .before .before .before .before .before .before .before .loop .j) (c .before .goes-on .result) (c .before .goes-on .ensures) (c .if4 .left))
+goes-on-requires-2 : tie.Need-goes-on-requires-2 Inv-loop μ-loop
+goes-on-requires-2 c κs = search needs
 
 returns-4 : tie.Need-returns-4 Inv-loop μ-loop
-returns-4 c = sym (c .before .loop .inv .1 .1 ∙ same-done (c .before .loop .scan) (c .before .before .before .before .before .before .args .s .now) (c .before .before .before .before .before .before .args .t .now) (c .before .loop .i) (c .before .loop .j) (omega arith) (omega arith))
+returns-4 c = sym (c .before .before .before .before .before .before .before .before .before .before .before .loop .inv .1 .1 ∙ same-not (c .before .before .before .before .before .before .before .before .before .before .before .loop .scan) (c .before .before .before .before .step .result) (c .before .before .before .before .before .before .before .before .before .before .before .before .before .before .before .before .args .s .now) (c .before .before .before .before .before .before .before .before .before .before .before .loop .i) (omega arith) (c .before .before .before .before .before .before .before .before .before .before .before .loop .inv .0 .1) (c .before .before .before .before .step .ensures) (c .before .before .before .before .before .shared-slice-known3 .given (c .before .before .before .before .before .before .before .before .before .before .before .loop .i) .fits) (c .before .before .before .bytes .result) (c .before .before .before .bytes .ensures) (c .before .before .before .before .before .before .before .before .before .before .before .before .before .before .before .before .args .t .now) (c .before .before .before .before .before .before .before .before .before .before .before .loop .j) (c .before .goes-on2 .result) (c .before .goes-on2 .ensures) (not-true _ (c .if6 .taken)))
+
+add-j-3 : tie.Need-add-j-3 Inv-loop μ-loop
+add-j-3 c = omega (arith, same-fits (c .before .before .before .before .before .before .before .before .before .before .before .loop .scan) (c .before .before .before .before .step .result) (c .before .before .before .before .before .before .before .before .before .before .before .before .before .before .before .before .args .s .now) (c .before .before .before .before .before .before .before .before .before .before .before .loop .i) (omega arith) (c .before .before .before .before .before .before .before .before .before .before .before .loop .inv .0 .1) (c .before .before .before .before .step .ensures) (c .before .before .before .before .before .shared-slice-known3 .given (c .before .before .before .before .before .before .before .before .before .before .before .loop .i) .fits) (c .before .before .before .bytes .result) (c .before .before .before .bytes .ensures) (c .before .before .before .before .before .before .before .before .before .before .before .before .before .before .before .before .args .t .now) (c .before .before .before .before .before .before .before .before .before .before .before .loop .j) (c .before .goes-on2 .result) (c .before .goes-on2 .ensures) (omega arith) (not-false _ (c .if6 .left)))
+
+add-i-2 : tie.Need-add-i-2 Inv-loop μ-loop
+add-i-2 c = search needs
+
+loop-less-3 : tie.Need-loop-less-3 Inv-loop μ-loop
+loop-less-3 c = search needs
+
+loop-again-3 : tie.Need-loop-again-3 Inv-loop μ-loop
+loop-again-3 c = ((omega arith, fair-more (c .before .before .before .before .before .before .before .before .before .before .before .loop .scan) (c .before .before .before .before .step .result) (c .before .before .before .before .before .before .before .before .before .before .before .before .before .before .before .before .args .s .now) (c .before .before .before .before .before .before .before .before .before .before .before .loop .i) (omega arith) (c .before .before .before .before .before .before .before .before .before .before .before .loop .inv .0 .1) (c .before .before .before .before .step .ensures) (c .before .before .before .before .before .shared-slice-known3 .given (c .before .before .before .before .before .before .before .before .before .before .before .loop .i) .fits)), (same-fits (c .before .before .before .before .before .before .before .before .before .before .before .loop .scan) (c .before .before .before .before .step .result) (c .before .before .before .before .before .before .before .before .before .before .before .before .before .before .before .before .args .s .now) (c .before .before .before .before .before .before .before .before .before .before .before .loop .i) (omega arith) (c .before .before .before .before .before .before .before .before .before .before .before .loop .inv .0 .1) (c .before .before .before .before .step .ensures) (c .before .before .before .before .before .shared-slice-known3 .given (c .before .before .before .before .before .before .before .before .before .before .before .loop .i) .fits) (c .before .before .before .bytes .result) (c .before .before .before .bytes .ensures) (c .before .before .before .before .before .before .before .before .before .before .before .before .before .before .before .before .args .t .now) (c .before .before .before .before .before .before .before .before .before .before .before .loop .j) (c .before .goes-on2 .result) (c .before .goes-on2 .ensures) (omega arith) (not-false _ (c .if6 .left)), c .before .before .before .before .before .before .before .before .before .before .before .loop .inv .1 .1 ∙ same-more (c .before .before .before .before .before .before .before .before .before .before .before .loop .scan) (c .before .before .before .before .step .result) (c .before .before .before .before .before .before .before .before .before .before .before .before .before .before .before .before .args .s .now) (c .before .before .before .before .before .before .before .before .before .before .before .loop .i) (omega arith) (c .before .before .before .before .before .before .before .before .before .before .before .loop .inv .0 .1) (c .before .before .before .before .step .ensures) (c .before .before .before .before .before .shared-slice-known3 .given (c .before .before .before .before .before .before .before .before .before .before .before .loop .i) .fits) (c .before .before .before .bytes .result) (c .before .before .before .bytes .ensures) (c .before .before .before .before .before .before .before .before .before .before .before .before .before .before .before .before .args .t .now) (c .before .before .before .before .before .before .before .before .before .before .before .loop .j) (c .before .goes-on2 .result) (c .before .goes-on2 .ensures) (not-false _ (c .if6 .left))))
+
+returns-5 : tie.Need-returns-5 Inv-loop μ-loop
+returns-5 c = sym (c .before .loop .inv .1 .1 ∙ same-done (c .before .loop .scan) (c .before .before .before .before .before .before .args .s .now) (c .before .before .before .before .before .before .args .t .now) (c .before .loop .i) (c .before .loop .j) (omega arith) (omega arith))
 
 pub same-from-spec : {M : Type 1} → statement M
 same-from-spec =
@@ -128,15 +155,24 @@ same-from-spec =
     add-j
     loop-less
     loop-again
-    shared-slice-read-step
-    step-requires
-    bytes-requires
-    array-share-prefix-b
+    letter-at-requires
+    sub-t27
     slice-aggregate-goes-on
     goes-on-requires
+    returns-3
     add-j-2
     add-i
     loop-less-2
     loop-again-2
-    returns-3
-    returns-4)
+    shared-slice-read-step
+    step-requires
+    bytes-requires
+    array-share-prefix-b
+    slice-aggregate-goes-on-2
+    goes-on-requires-2
+    returns-4
+    add-j-3
+    add-i-2
+    loop-less-3
+    loop-again-3
+    returns-5)

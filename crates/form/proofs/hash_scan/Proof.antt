@@ -1,5 +1,5 @@
 -- The invariant: the hash of the whole is that of what the rest stands for, from the number so far on.
-use Prim.Native.Nat.{_≤_, _<_, _-_}
+use Prim.Native.Nat.{_≤_, _<_, _-_, _+_}
 use mathlib.Core.Path.{_≡_, refl, sym, ap, _∙_}
 use native.Mathlib.Omega.{arith}
 use lib.ListN.{length, drop}
@@ -50,7 +50,28 @@ loop-less : tie.Need-loop-less Inv-loop μ-loop
 loop-less c = omega (arith, c .before .before .before .plain-to .ensures .fits)
 
 loop-again : tie.Need-loop-again Inv-loop μ-loop
-loop-again c = (((c .before .before .before .plain-to .ensures .fits, c .before .before .before .before .before .loop .inv .0 .0 .1), c .hash-bytes2 .ensures .1), c .before .before .before .before .before .loop .inv .1 ∙ hash-stretch (c .before .before .before .before .before .before .before .before .before .args .m) (c .before .before .before .before .before .loop .scan) (c .before .before .before .before .before .before .before .before .before .args .s .now) (c .before .before .before .before .before .loop .i) (c .before .before .before .plain-to .result) (c .before .before .before .plain-to .ensures) (c .before .before .before .before .before .loop .total) (c .hash-bytes2 .result) (c .hash-bytes2 .ensures .0))
+loop-again c = (((c .before .before .before .plain-to .ensures .fits, c .before .before .before .before .before .loop .inv .0 .0 .1), c .hash-bytes2 .ensures .1), c .before .before .before .before .before .loop .inv .1 ∙ hash-stretch (c .before .before .before .before .before .before .before .before .before .args .m) (c .before .before .before .before .before .loop .scan) (c .before .before .before .before .before .before .before .before .before .args .s .now) (c .before .before .before .before .before .loop .i) (c .before .before .before .plain-to .result) _ (c .before .before .before .plain-to .ensures) (c .before .before .before .before .before .loop .total) (c .hash-bytes2 .result) (c .hash-bytes2 .ensures .0))
+
+letter-at-requires : tie.Need-letter-at-requires Inv-loop μ-loop
+letter-at-requires c κs = search needs
+
+sub-t22 : tie.Need-sub-t22 Inv-loop μ-loop
+sub-t22 c = search needs
+
+slice-aggregate-hash-numbers : tie.Need-slice-aggregate-hash-numbers Inv-loop μ-loop
+slice-aggregate-hash-numbers c = search needs
+
+hash-numbers-requires : tie.Need-hash-numbers-requires Inv-loop μ-loop
+hash-numbers-requires c κs = (c .before .before .before .before .before .before .before .before .before .before .pre .1 .0, c .before .before .before .before .before .before .loop .inv .0 .1)
+
+add-i : tie.Need-add-i Inv-loop μ-loop
+add-i c = omega (arith, c .before .before .before .letter-at .ensures .0 (c .before .before .if3 .taken) .fits)
+
+loop-less-2 : tie.Need-loop-less-2 Inv-loop μ-loop
+loop-less-2 c = omega (arith, c .before .before .before .letter-at .ensures .0 (c .before .before .if3 .taken) .fits)
+
+loop-again-2 : tie.Need-loop-again-2 Inv-loop μ-loop
+loop-again-2 c = (((c .before .before .before .letter-at .ensures .0 (c .before .before .if3 .taken) .fits, c .before .before .before .before .before .before .before .loop .inv .0 .0 .1), c .hash-numbers .ensures .1), c .before .before .before .before .before .before .before .loop .inv .1 ∙ hash-stretch (c .before .before .before .before .before .before .before .before .before .before .before .args .m) (c .before .before .before .before .before .before .before .loop .scan) (c .before .before .before .before .before .before .before .before .before .before .before .args .s .now) (c .before .before .before .before .before .before .before .loop .i) (c .before .before .before .before .before .before .before .loop .i + 2) _ (c .before .before .before .letter-at .ensures .0 (c .before .before .if3 .taken)) (c .before .before .before .before .before .before .before .loop .total) (c .hash-numbers .result) (c .hash-numbers .ensures .0))
 
 shared-slice-read-step : tie.Need-shared-slice-read-step Inv-loop μ-loop
 shared-slice-read-step c = search needs
@@ -62,22 +83,22 @@ bytes-requires : tie.Need-bytes-requires Inv-loop μ-loop
 bytes-requires c κs = search needs
 
 array-share-prefix-b : tie.Need-array-share-prefix-b Inv-loop μ-loop
-array-share-prefix-b c = four-fits (c .before .step .result) (c .bytes .result) (c .bytes .ensures) (fair-more (c .before .before .before .before .before .before .loop .scan) (c .before .step .result) (c .before .before .before .before .before .before .before .before .before .before .args .s .now) (c .before .before .before .before .before .before .loop .i) (omega arith) (c .before .before .before .before .before .before .loop .inv .0 .0 .1) (c .before .step .ensures) (c .before .before .shared-slice-known2 .given (c .before .before .before .before .before .before .loop .i) .fits) .small)
+array-share-prefix-b c = four-fits (c .before .step .result) (c .bytes .result) (c .bytes .ensures) (fair-more (c .before .before .before .before .before .before .before .before .loop .scan) (c .before .step .result) (c .before .before .before .before .before .before .before .before .before .before .before .before .args .s .now) (c .before .before .before .before .before .before .before .before .loop .i) (omega arith) (c .before .before .before .before .before .before .before .before .loop .inv .0 .0 .1) (c .before .step .ensures) (c .before .before .shared-slice-known2 .given (c .before .before .before .before .before .before .before .before .loop .i) .fits) .small)
 
-slice-aggregate-hash-numbers : tie.Need-slice-aggregate-hash-numbers Inv-loop μ-loop
-slice-aggregate-hash-numbers c = sym (length-take-le (c .before .before .step .result .n) (c .before .bytes .result) (four-fits (c .before .before .step .result) (c .before .bytes .result) (c .before .bytes .ensures) (fair-more (c .before .before .before .before .before .before .before .loop .scan) (c .before .before .step .result) (c .before .before .before .before .before .before .before .before .before .before .before .args .s .now) (c .before .before .before .before .before .before .before .loop .i) (omega arith) (c .before .before .before .before .before .before .before .loop .inv .0 .0 .1) (c .before .before .step .ensures) (c .before .before .before .shared-slice-known2 .given (c .before .before .before .before .before .before .before .loop .i) .fits) .small)))
+slice-aggregate-hash-numbers-2 : tie.Need-slice-aggregate-hash-numbers-2 Inv-loop μ-loop
+slice-aggregate-hash-numbers-2 c = sym (length-take-le (c .before .before .step .result .n) (c .before .bytes .result) (four-fits (c .before .before .step .result) (c .before .bytes .result) (c .before .bytes .ensures) (fair-more (c .before .before .before .before .before .before .before .before .before .loop .scan) (c .before .before .step .result) (c .before .before .before .before .before .before .before .before .before .before .before .before .before .args .s .now) (c .before .before .before .before .before .before .before .before .before .loop .i) (omega arith) (c .before .before .before .before .before .before .before .before .before .loop .inv .0 .0 .1) (c .before .before .step .ensures) (c .before .before .before .shared-slice-known2 .given (c .before .before .before .before .before .before .before .before .before .loop .i) .fits) .small)))
 
-hash-numbers-requires : tie.Need-hash-numbers-requires Inv-loop μ-loop
-hash-numbers-requires c κs = (c .before .before .before .before .before .before .before .before .before .before .before .pre .1 .0, c .before .before .before .before .before .before .before .loop .inv .0 .1)
+hash-numbers-requires-2 : tie.Need-hash-numbers-requires-2 Inv-loop μ-loop
+hash-numbers-requires-2 c κs = (c .before .before .before .before .before .before .before .before .before .before .before .before .before .pre .1 .0, c .before .before .before .before .before .before .before .before .before .loop .inv .0 .1)
 
-add-i : tie.Need-add-i Inv-loop μ-loop
-add-i c = search needs
+add-i-2 : tie.Need-add-i-2 Inv-loop μ-loop
+add-i-2 c = search needs
 
-loop-less-2 : tie.Need-loop-less-2 Inv-loop μ-loop
-loop-less-2 c = search needs
+loop-less-3 : tie.Need-loop-less-3 Inv-loop μ-loop
+loop-less-3 c = search needs
 
-loop-again-2 : tie.Need-loop-again-2 Inv-loop μ-loop
-loop-again-2 c = (((omega arith, fair-more (c .before .before .before .before .before .before .before .before .loop .scan) (c .before .before .before .step .result) (c .before .before .before .before .before .before .before .before .before .before .before .before .args .s .now) (c .before .before .before .before .before .before .before .before .loop .i) (omega arith) (c .before .before .before .before .before .before .before .before .loop .inv .0 .0 .1) (c .before .before .before .step .ensures) (c .before .before .before .before .shared-slice-known2 .given (c .before .before .before .before .before .before .before .before .loop .i) .fits)), c .hash-numbers .ensures .1), c .before .before .before .before .before .before .before .before .loop .inv .1 ∙ hash-piece (c .before .before .before .before .before .before .before .before .before .before .before .before .args .m) (c .before .before .before .before .before .before .before .before .loop .scan) (c .before .before .before .step .result) (c .before .before .before .before .before .before .before .before .before .before .before .before .args .s .now) (c .before .before .before .before .before .before .before .before .loop .i) (omega arith) (c .before .before .before .before .before .before .before .before .loop .inv .0 .0 .1) (c .before .before .before .step .ensures) (c .before .before .before .before .shared-slice-known2 .given (c .before .before .before .before .before .before .before .before .loop .i) .fits) (c .before .before .bytes .result) (c .before .before .bytes .ensures) (c .before .before .before .before .before .before .before .before .loop .total) (c .hash-numbers .result) (c .hash-numbers .ensures .0))
+loop-again-3 : tie.Need-loop-again-3 Inv-loop μ-loop
+loop-again-3 c = (((omega arith, fair-more (c .before .before .before .before .before .before .before .before .before .before .loop .scan) (c .before .before .before .step .result) (c .before .before .before .before .before .before .before .before .before .before .before .before .before .before .args .s .now) (c .before .before .before .before .before .before .before .before .before .before .loop .i) (omega arith) (c .before .before .before .before .before .before .before .before .before .before .loop .inv .0 .0 .1) (c .before .before .before .step .ensures) (c .before .before .before .before .shared-slice-known2 .given (c .before .before .before .before .before .before .before .before .before .before .loop .i) .fits)), c .hash-numbers2 .ensures .1), c .before .before .before .before .before .before .before .before .before .before .loop .inv .1 ∙ hash-piece (c .before .before .before .before .before .before .before .before .before .before .before .before .before .before .args .m) (c .before .before .before .before .before .before .before .before .before .before .loop .scan) (c .before .before .before .step .result) (c .before .before .before .before .before .before .before .before .before .before .before .before .before .before .args .s .now) (c .before .before .before .before .before .before .before .before .before .before .loop .i) (omega arith) (c .before .before .before .before .before .before .before .before .before .before .loop .inv .0 .0 .1) (c .before .before .before .step .ensures) (c .before .before .before .before .shared-slice-known2 .given (c .before .before .before .before .before .before .before .before .before .before .loop .i) .fits) (c .before .before .bytes .result) (c .before .before .bytes .ensures) (c .before .before .before .before .before .before .before .before .before .before .loop .total) (c .hash-numbers2 .result) (c .hash-numbers2 .ensures .0))
 
 returns-2 : tie.Need-returns-2 Inv-loop μ-loop
 returns-2 c = (sym (c .before .loop .inv .1 ∙ hash-done (c .before .before .before .before .before .args .m) (c .before .loop .scan) (c .before .before .before .before .before .args .s .now) (c .before .loop .i) (c .before .loop .total) (omega arith)), c .before .loop .inv .0 .1)
@@ -99,13 +120,20 @@ hash-scan-spec =
     hash-bytes-requires-2
     loop-less
     loop-again
-    shared-slice-read-step
-    step-requires
-    bytes-requires
-    array-share-prefix-b
+    letter-at-requires
+    sub-t22
     slice-aggregate-hash-numbers
     hash-numbers-requires
     add-i
     loop-less-2
     loop-again-2
+    shared-slice-read-step
+    step-requires
+    bytes-requires
+    array-share-prefix-b
+    slice-aggregate-hash-numbers-2
+    hash-numbers-requires-2
+    add-i-2
+    loop-less-3
+    loop-again-3
     returns-2)
