@@ -10,6 +10,7 @@ use lib.Dec.{eqb, ltb}
 use lib.ListN.{length, getD, set, take, drop, length-set, length-drop}
 use lib.Seq.{getD-set-same, getD-set-other, take-all}
 use borrow.Author.Tests.{eq-eqb, ne-eqb, lt-ltb, le-ltb, ltb-true, ltb-false, eqb-true, eqb-false}
+use Rattle.scope.specs.Code.{words-size}
 use Rattle.text.specs.Text.{Text, cond}
 use Rattle.text.proofs.Compare.{by}
 use Rattle.utf8.specs.Utf8.{first-bad}
@@ -33,42 +34,42 @@ pub record Put (st st' : List ℕ) (kind at len clear : ℕ) : Type 0 where
   pub beside : StaysBeside st st'
   pub words : length st' ≡ length st
 
-module _ (st : List ℕ) (kind at len clear : ℕ) (n : length st ≡ 212) where
+module _ (st : List ℕ) (kind at len clear : ℕ) (n : length st ≡ words-size) where
   abbrev s1 : List ℕ
-  s1 = set st 71 kind
+  s1 = set st kind-word kind
 
   abbrev s2 : List ℕ
-  s2 = set s1 72 at
+  s2 = set s1 at-word at
 
   abbrev s3 : List ℕ
-  s3 = set s2 73 len
+  s3 = set s2 len-word len
 
   abbrev s4 : List ℕ
-  s4 = set s3 74 clear
+  s4 = set s3 clear-word clear
 
-  l1 : length s1 ≡ 212
-  l1 = length-set st 71 kind ∙ n
+  l1 : length s1 ≡ words-size
+  l1 = length-set st kind-word kind ∙ n
 
-  l2 : length s2 ≡ 212
-  l2 = length-set s1 72 at ∙ l1
+  l2 : length s2 ≡ words-size
+  l2 = length-set s1 at-word at ∙ l1
 
-  l3 : length s3 ≡ 212
-  l3 = length-set s2 73 len ∙ l2
+  l3 : length s3 ≡ words-size
+  l3 = length-set s2 len-word len ∙ l2
 
-  other : (k : ℕ) → (k ≡ 71 → ⊥) → (k ≡ 72 → ⊥) → (k ≡ 73 → ⊥) → (k ≡ 74 → ⊥) → getD s4 k 0 ≡ getD st k 0
+  other : (k : ℕ) → (k ≡ kind-word → ⊥) → (k ≡ at-word → ⊥) → (k ≡ len-word → ⊥) → (k ≡ clear-word → ⊥) → getD s4 k 0 ≡ getD st k 0
   other k a b c d =
-      getD-set-other s3 74 k clear 0 d ∙ (getD-set-other s2 73 k len 0 c ∙ (getD-set-other s1 72 k at 0 b ∙ getD-set-other st 71 k kind 0 a))
+      getD-set-other s3 clear-word k clear 0 d ∙ (getD-set-other s2 len-word k len 0 c ∙ (getD-set-other s1 at-word k at 0 b ∙ getD-set-other st kind-word k kind 0 a))
 
   pub put-is : Put st (put-token st kind at len clear) kind at len clear
   unfolding put-token
   put-is = record {
     kind-is =
-        getD-set-other s3 74 71 clear 0 (λ e. omega arith) ∙ (getD-set-other s2 73 71 len 0 (λ e. omega arith) ∙ (getD-set-other s1 72 71 at 0 (λ e. omega arith) ∙ getD-set-same st 71 kind 0 (omega arith)));
-    at-is = getD-set-other s3 74 72 clear 0 (λ e. omega arith) ∙ (getD-set-other s2 73 72 len 0 (λ e. omega arith) ∙ getD-set-same s1 72 at 0 (omega (arith, l1)));
-    len-is = getD-set-other s3 74 73 clear 0 (λ e. omega arith) ∙ getD-set-same s2 73 len 0 (omega (arith, l2));
-    clear-is = getD-set-same s3 74 clear 0 (omega (arith, l3));
+        getD-set-other s3 clear-word kind-word clear 0 (λ e. omega arith) ∙ (getD-set-other s2 len-word kind-word len 0 (λ e. omega arith) ∙ (getD-set-other s1 at-word kind-word at 0 (λ e. omega arith) ∙ getD-set-same st kind-word kind 0 (omega arith)));
+    at-is = getD-set-other s3 clear-word at-word clear 0 (λ e. omega arith) ∙ (getD-set-other s2 len-word at-word len 0 (λ e. omega arith) ∙ getD-set-same s1 at-word at 0 (omega (arith, l1)));
+    len-is = getD-set-other s3 clear-word len-word clear 0 (λ e. omega arith) ∙ getD-set-same s2 len-word len 0 (omega (arith, l2));
+    clear-is = getD-set-same s3 clear-word clear 0 (omega (arith, l3));
     beside = λ k h. ⊎-elim (λ a. other k (λ e. omega arith) (λ e. omega arith) (λ e. omega arith) (λ e. omega arith)) (λ a. other k (λ e. omega arith) (λ e. omega arith) (λ e. omega arith) (λ e. omega arith)) h;
-    words = length-set s3 74 clear ∙ (l3 ∙ sym n);
+    words = length-set s3 clear-word clear ∙ (l3 ∙ sym n);
   }
 
 -- The tokens ahead, by what the cursor holds.
@@ -125,7 +126,7 @@ module _ (doc : Text) (at b clear : ℕ) (r : Next) (size : length doc ≤ docum
 
   sought-none : r .kind ≡ 0 → at + b < length doc → Sought doc at st st'
   sought-none z l =
-      let k : getD st' 71 0 ≡ 31 = p .kind-is ∙ (ap (λ (x : ℕ). kind-there x (at + b) (length doc)) z ∙ there-none (at + b) (length doc) l) in
+      let k : getD st' kind-word 0 ≡ 31 = p .kind-is ∙ (ap (λ (x : ℕ). kind-there x (at + b) (length doc)) z ∙ there-none (at + b) (length doc) l) in
       record {
         cursor = record {
           size = size;
@@ -133,7 +134,7 @@ module _ (doc : Text) (at b clear : ℕ) (r : Next) (size : length doc ≤ docum
           at-end = λ e. absurd (omega (arith, sym k ∙ e));
           token = λ y x. absurd (x k);
         };
-        tokens = rw (k, p .at-is) (read-nothing doc at b clear r v c g m l z ∙ sym (ahead-none doc (at + b) (getD st' 73 0)));
+        tokens = rw (k, p .at-is) (read-nothing doc at b clear r v c g m l z ∙ sym (ahead-none doc (at + b) (getD st' len-word 0)));
         later = rw (p .at-is) (omega arith);
         beside = p .beside;
         words = p .words;
@@ -141,7 +142,7 @@ module _ (doc : Text) (at b clear : ℕ) (r : Next) (size : length doc ≤ docum
 
   sought-end : r .kind ≡ 0 → length doc ≤ at + b → Sought doc at st st'
   sought-end z l =
-      let k : getD st' 71 0 ≡ 0 = p .kind-is ∙ (ap (λ (x : ℕ). kind-there x (at + b) (length doc)) z ∙ there-end (at + b) (length doc) l) in
+      let k : getD st' kind-word 0 ≡ 0 = p .kind-is ∙ (ap (λ (x : ℕ). kind-there x (at + b) (length doc)) z ∙ there-end (at + b) (length doc) l) in
       record {
         cursor = record {
           size = size;
@@ -149,7 +150,7 @@ module _ (doc : Text) (at b clear : ℕ) (r : Next) (size : length doc ≤ docum
           at-end = λ e. p .at-is ∙ omega arith;
           token = λ y x. absurd (y k);
         };
-        tokens = rw (k, p .at-is) (read-end doc at b clear r v c g m l ∙ sym (ahead-end doc (at + b) (getD st' 73 0)));
+        tokens = rw (k, p .at-is) (read-end doc at b clear r v c g m l ∙ sym (ahead-end doc (at + b) (getD st' len-word 0)));
         later = rw (p .at-is) (omega arith);
         beside = p .beside;
         words = p .words;
@@ -164,7 +165,7 @@ module _ (doc : Text) (at b clear : ℕ) (r : Next) (size : length doc ≤ docum
 -- The same of the parts that the code lends on.
 pub seek-law : (doc : Text) (at b clear mc : ℕ) (r : Next) (k : ℕ) (st st' : List ℕ) → length doc ≤ document-limit → at ≤ length doc → first-bad (drop at doc) ≡ none → Clear (drop at doc) clear
     → BlanksAt (take (length doc - at) (drop at doc)) b → mc ≡ clear - b → NextAt (take (length doc - (at + b)) (drop (at + b) doc)) mc r
-    → k ≡ kind-there (r .kind) (at + b) (length doc) → st' ≡ put-token st k (at + b) (r .len) (r .clear) → length st ≡ 212 → Sought doc at st st'
+    → k ≡ kind-there (r .kind) (at + b) (length doc) → st' ≡ put-token st k (at + b) (r .len) (r .clear) → length st ≡ words-size → Sought doc at st st'
 seek-law doc at b clear mc r k st st' size within v c g em m ek es n =
     let g' : BlanksAt (drop at doc) b = subst (λ (x : Text). BlanksAt x b) (rest-of doc at) g in
     let m' : NextAt (drop (at + b) doc) (clear - b) r = subst (λ (x : ℕ). NextAt (drop (at + b) doc) x r) em (subst (λ (x : Text). NextAt x mc r) (rest-of doc (at + b)) m) in

@@ -16,7 +16,7 @@ use Rattle.token.specs.Terminals.{token-at}
 use Rattle.utf8.specs.Utf8.{decode}
 use Rattle.iri.specs.Code.{before}
 use Rattle.iri.proofs.Places.{until-take}
-use Rattle.scope.specs.Code.{environment-in, Usable, Beside}
+use Rattle.scope.specs.Code.{environment-in, Usable, Beside, words-size}
 use Rattle.scope.proofs.Directives.{in-force-words}
 use Rattle.state.specs.Words.{kind-word, at-word, len-word}
 use Rattle.state.specs.Cursor.{Cursor, TokenHere}
@@ -42,11 +42,11 @@ module _ (doc work : Text) (st : List ℕ) (a : Able doc work st) where
   token-kind : (k : ℕ) → getD st kind-word 0 ≡ k → (k ≡ 0 → ⊥) → (k ≡ 31 → ⊥) → TokenHere doc st
   token-kind k e z y = a .cursor .token (λ h. z (sym e ∙ h)) (λ h. y (sym e ∙ h))
 
-  pub pass-call : (k : ℕ) → getD st kind-word 0 ≡ k → (k ≡ 0 → ⊥) → (k ≡ 31 → ⊥) → (Cursor doc st × TokenHere doc st) × (length st ≡ 212)
+  pub pass-call : (k : ℕ) → getD st kind-word 0 ≡ k → (k ≡ 0 → ⊥) → (k ≡ 31 → ⊥) → (Cursor doc st × TokenHere doc st) × (length st ≡ words-size)
   pass-call k e z y = ((a .cursor, token-kind k e z y), a .usable .words)
 
   -- Also where what is in force was changed.
-  pub changed-call : (work' : Text) (st' : List ℕ) → getD st kind-word 0 ≡ 1 → Beside work work' st st' → length st' ≡ length st → (Cursor doc st' × TokenHere doc st') × (length st' ≡ 212)
+  pub changed-call : (work' : Text) (st' : List ℕ) → getD st kind-word 0 ≡ 1 → Beside work work' st st' → length st' ≡ length st → (Cursor doc st' × TokenHere doc st') × (length st' ≡ words-size)
   changed-call work' st' e b n =
       ((cursor-words doc st st' (λ k x y. b .own k (omega arith)) (a .cursor), token-words doc st st' (λ k x y. b .own k (omega arith)) (token-kind 1 e (λ z. omega arith) (λ z. omega arith))), n ∙ a .usable .words)
 

@@ -150,7 +150,7 @@ module _ (f : Token → Environment → Environment) (ref : Environment → Toke
           record {
             turns = λ mode rows terms store ready.
                 subst (λ (b : Bool). Turns mode doc (directive d) (behind b) (held work rows terms store st) (held (at-last work work') rows terms store st'') 0) e (turns-on mode rows terms store ready z st'' p);
-            depth = λ y. p .depth-is ∙ S .beside .own 75 (omega arith);
+            depth = λ y. p .depth-is ∙ S .beside .own depth-word (omega arith);
           }
 
       iri-dot : dotted ≡ true → (st₃ : List ℕ) (q : ℕ) → ((w : RefT (List ℕ)) → Finishes doc (directive last-dot) w w st'' st₃ q) → Finishes doc (directive d) work (at-last work work') st st₃ q
@@ -160,7 +160,7 @@ module _ (f : Token → Environment → Environment) (ref : Environment → Toke
                 let t = subst (λ (b : Bool). Turns mode doc (directive d) (behind b) (held work rows terms store st) (held (at-last work work') rows terms store st'') 0) e (turns-on mode rows terms store ready z st'' p) in
                 turns-then mode doc (directive d) (directive last-dot) (statement []) (held work rows terms store st) (held (at-last work work') rows terms store st'') (held (at-last work work') rows terms store st₃) 0 q t refl
                 (D (at-last work work') .turns mode rows terms store (t .ready refl));
-            depth = λ y. D (at-last work work') .depth y ∙ (p .depth-is ∙ S .beside .own 75 (omega arith));
+            depth = λ y. D (at-last work work') .depth y ∙ (p .depth-is ∙ S .beside .own depth-word (omega arith));
           }
 
 -- ---- A new base

@@ -19,7 +19,7 @@ use Rattle.machine.specs.Frame.{Open}
 use Rattle.machine.specs.Rules.{find-rule, rules}
 use Rattle.machine.specs.Refusals.{new-depth}
 use Rattle.machine.specs.Step.{State, first-refusal, tests}
-use Rattle.state.specs.Words.{kind-word, depth-word, graph-word}
+use Rattle.state.specs.Words.{kind-word, depth-word, graph-word, at-word, blanks-word, len-word, rows-word, terms-word, used-word}
 use Rattle.state.specs.Cursor.{TokenHere}
 use Rattle.state.specs.Represents.{Tables, room-in, Represents}
 use Rattle.address.specs.Addresses.{Leaves}
@@ -47,14 +47,14 @@ represents-in-force old m t work work' st st' e b l r =
       usable = l .usable;
       environment = l .after;
       base = l .sound;
-      terms-held = rw (b .behind, b .own 67 (omega arith), b .own 68 (omega arith), b .own 69 (omega arith)) (r .terms-held);
-      rows-held = rw (b .own 66 (omega arith)) (r .rows-held);
-      graph = b .own 76 (omega arith) ∙ r .graph;
+      terms-held = rw (b .behind, b .own terms-word (omega arith), b .own used-word (omega arith), b .own blanks-word (omega arith)) (r .terms-held);
+      rows-held = rw (b .own rows-word (omega arith)) (r .rows-held);
+      graph = b .own graph-word (omega arith) ∙ r .graph;
       graph-small = r .graph-small;
       fits = record { rows = r .fits .rows; terms = r .fits .terms; store = r .fits .store };
-      same-rows = rw (b .own 66 (omega arith)) (r .same-rows);
-      same-terms = rw (b .own 67 (omega arith)) (r .same-terms);
-      same-store = rw (b .own 68 (omega arith)) (r .same-store);
+      same-rows = rw (b .own rows-word (omega arith)) (r .same-rows);
+      same-terms = rw (b .own terms-word (omega arith)) (r .same-terms);
+      same-store = rw (b .own used-word (omega arith)) (r .same-store);
     }
 
 -- A token of the kind k, where o is open and p is open behind it.
@@ -137,7 +137,7 @@ module _ (mode : Mode) (doc : Text) (o p : Open) (work rows terms store : RefT (
           rule = rule-at _;
           same = record { work = refl; rows = refl; terms = refl; store = refl; work-length = b .long; rows-length = refl; terms-length = refl; store-length = refl; words = n };
           refusal = refusal;
-          place = λ y. b .own 72 (omega arith);
+          place = λ y. b .own at-word (omega arith);
           ready = λ y. absurd (z y);
           later = λ y. absurd (z y);
           tokens = λ y. absurd (z y);
@@ -154,10 +154,10 @@ module _ (mode : Mode) (doc : Text) (o p : Open) (work rows terms store : RefT (
           same = record { work = refl; rows = refl; terms = refl; store = refl; work-length = b .long; rows-length = refl; terms-length = refl; store-length = refl; words = q .words ∙ n };
           refusal = λ old m h. sym z ∙ refusal old m h;
           place = λ y. absurd (y refl);
-          ready = λ y. let (old, (m, h)) = ready .holds in record { cursor = q .cursor; holds = (old, (in-environment (f (m .environment)) m .1, holding old m h)); depth = rw (q .depth-is, b .own 75 (omega arith)) (ready .depth) };
-          later = λ y. let x = b .own 72 (omega arith) in omega (arith, q .later, x);
-          tokens = λ y. ap₂ (λ (i j : ℕ). rest doc (i + j)) (sym (b .own 72 (omega arith))) (sym (b .own 73 (omega arith))) ∙ q .tokens;
-          depth = λ y. q .depth-is ∙ (b .own 75 (omega arith) ∙ depth-flat doc a k e flat);
+          ready = λ y. let (old, (m, h)) = ready .holds in record { cursor = q .cursor; holds = (old, (in-environment (f (m .environment)) m .1, holding old m h)); depth = rw (q .depth-is, b .own depth-word (omega arith)) (ready .depth) };
+          later = λ y. let x = b .own at-word (omega arith) in omega (arith, q .later, x);
+          tokens = λ y. ap₂ (λ (i j : ℕ). rest doc (i + j)) (sym (b .own at-word (omega arith))) (sym (b .own len-word (omega arith))) ∙ q .tokens;
+          depth = λ y. q .depth-is ∙ (b .own depth-word (omega arith) ∙ depth-flat doc a k e flat);
           result = λ y old m h. refl;
           holding = λ y old m h. holding old m h;
         })

@@ -2,7 +2,7 @@
 use mathlib.Core.Path.{_≡_}
 use mathlib.Core.Bool.{true}
 use mathlib.Core.List.{List}
-use Prim.Native.Nat.{ℕ, _≤_}
+use Prim.Native.Nat.{ℕ, _≤_, _<_}
 use lib.ListN.{length}
 use Rattle.text.specs.Text.{Text}
 use Rattle.dataset.specs.Terms.{Term}
@@ -28,6 +28,10 @@ pub record Searchable (terms : List ℕ) (store index : Text) (c : Counts) : Typ
 -- What looking for the term answers: its number, or 0.
 abbrev pub Finds : List ℕ → Text → Text → Counts → Sort → Text → Text → ℕ → Type 0
 Finds terms store index c sort x g r = (ts : List Term) (t : Term) → Holds ts terms store index c → Means ts sort x g t → findable t ≡ true → r ≡ or-zero (number t ts)
+
+-- The number is that of the term, whatever index there is.
+abbrev pub Numbers : List ℕ → Text → ℕ → Sort → Text → Text → ℕ → Type 0
+Numbers terms store count sort x g n = (0 < n) × ((index : Text) (c : Counts) → c .terms ≡ count → Finds terms store index c sort x g n)
 
 abbrev pub iri-sort : Sort
 iri-sort = record { kind = iri-kind; datatype = 0 }

@@ -1,6 +1,7 @@
 // An index of the terms in the part of the work slice that nothing else uses: trees by hashes of what a term is known by.
 // Without it, and for terms that it has no room for, the search is linear; the answer is the same.
 ghost use mathlib.Core.Path.{_≡_};
+ghost use mathlib.Core.Bool.{true};
 ghost use Prim.Native.Nat.{suc, _+_, _*_, _-_, _/_, _%_, _≤_, _<_};
 ghost use mathlib.Core.List.{[]};
 ghost use lib.ListN.{length, take, drop};
@@ -11,7 +12,7 @@ ghost use Rattle.terms.specs.Code.{matches, Readable};
 ghost use Rattle.index.specs.Slots.{slot-at, put-slot};
 ghost use Rattle.index.specs.Keys.{key-at, turn-of, turn-at, type-of};
 ghost use Rattle.index.specs.Tree.{buckets, least, Linked, Follows, Vacant, InSlots, Links};
-ghost use Rattle.index.specs.Holds.{Searchable, iri-sort, PartOf, Finds};
+ghost use Rattle.index.specs.Holds.{Searchable, iri-sort, PartOf, Finds, Numbers};
 use form::Form;
 use limits::Limits;
 use terms::Counts;
@@ -179,6 +180,39 @@ pub fn find(
         number: n,
         slot: place,
     }
+}
+
+// Whether the number is that of the term. It may be any number: its entry is compared before it is believed.
+pub fn is_number(
+    number: usize,
+    terms: &[u32],
+    store: &[u8],
+    count: usize,
+    sort: Sort,
+    front: &[u8],
+    form: Form,
+    back: &[u8],
+    tag: &[u8],
+) -> bool
+    requires { ⌜ Readable (now terms) (now store) count ⌝ }
+    ensures { λ r. ⌜ (r ≡ true → Numbers (now (terms .entry)) (now (store .entry)) count sort (joined (now (front .entry)) form (now (back .entry))) (now (tag .entry)) number) ⌝ }
+{
+    if number == 0 {
+        return false;
+    }
+    if count < number {
+        return false;
+    }
+    terms::is_term(
+        terms,
+        store,
+        number - 1,
+        sort,
+        front,
+        form,
+        back,
+        tag,
+    )
 }
 
 // Puts the term that was added behind `count` others into its slot.

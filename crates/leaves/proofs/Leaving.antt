@@ -13,7 +13,7 @@ use Rattle.lexer.specs.Rest.{rest}
 use Rattle.scope.specs.Code.{words-size}
 use Rattle.machine.specs.Memory.{Memory, Write}
 use Rattle.machine.specs.Refusals.{too-deep, new-depth}
-use Rattle.state.specs.Words.{kind-word, depth-word, graph-word}
+use Rattle.state.specs.Words.{kind-word, depth-word, graph-word, at-word, len-word, node-word}
 use Rattle.state.specs.Cursor.{Cursor, TokenHere}
 use Rattle.state.specs.Represents.{Tables, lent-tables, Puts}
 use Rattle.state.specs.Writes.{placed, closed}
@@ -42,7 +42,7 @@ module _ (doc : Text) (w : Write ℕ) (a : Held) (work' rows' terms' store' st' 
 
   pub put-refused : (r ≡ 0 → ⊥) → Gives doc w a (after a work' rows' terms' store' st') r
   put-refused z = record {
-    does = record { same = same-after st' (P .words); refusal = P .refusal; place = λ e. P .stays 72 (omega arith); done = λ e. absurd (z e) };
+    does = record { same = same-after st' (P .words); refusal = P .refusal; place = λ e. P .stays at-word (omega arith); done = λ e. absurd (z e) };
     node = λ e. absurd (z e);
     small = λ e. absurd (z e);
   }
@@ -55,15 +55,15 @@ module _ (doc : Text) (w : Write ℕ) (a : Held) (work' rows' terms' store' st' 
       place = λ z. absurd (z refl);
       done = λ z. record {
         cursor = p .cursor;
-        tokens = ap₂ (λ (x y : ℕ). rest doc (x + y)) (sym (P .stays 72 (omega arith))) (sym (P .stays 73 (omega arith))) ∙ p .tokens;
-        later = omega (arith, p .later, P .stays 72 (omega arith));
+        tokens = ap₂ (λ (x y : ℕ). rest doc (x + y)) (sym (P .stays at-word (omega arith))) (sym (P .stays len-word (omega arith))) ∙ p .tokens;
+        later = omega (arith, p .later, P .stays at-word (omega arith));
         depth = p .depth-is ∙ ed;
         spot = λ k h. p .spot k h ∙ P .stays k (omega arith);
         holding = λ old m h. represents-words old (w m .1) work' (lent-tables rows' terms' store') st' st'' (p .before) (p .graph-is) (p .words) (P .wrote e .represents old m h);
       };
     };
-    node = λ z old m h. p .before 70 (omega arith) ∙ P .wrote e .node old m h;
-    small = λ z. let x = p .before 70 (omega arith) in let y = P .wrote e .small in omega (arith, x, y);
+    node = λ z old m h. p .before node-word (omega arith) ∙ P .wrote e .node old m h;
+    small = λ z. let x = p .before node-word (omega arith) in let y = P .wrote e .small in omega (arith, x, y);
   }
 
 -- ---- What is known at the call
@@ -75,7 +75,7 @@ module _ (doc : Text) (a : Held) (ready : Ready doc a) where
     fits = record { x = s .x; y = s .y; opened = s .opened; last = s .last; at = let i = ready .cursor .inside in let n = ready .cursor .size in omega (arith, i, n) };
   }
 
-  pub words-there : length (a .st) ≡ 212
+  pub words-there : length (a .st) ≡ words-size
   words-there = let (old, (m, h)) = ready .holds in h .usable .words
 
   pub token-there : (k : ℕ) → getD (a .st) kind-word 0 ≡ k → 0 < k → k < 31 → TokenHere doc (a .st)
@@ -111,7 +111,7 @@ module _ (doc : Text) (a : Held) (ready : Ready doc a) (h : is-term (getD (a .st
       still-there doc a ready (getD (a .st) kind-word 0) refl (let l = term-low (getD (a .st) kind-word 0) h in omega (arith, l)) (let l = here-token .known in omega (arith, l)) st' (p .stays) (p .words)
 
   pub term-depth-here : getD st' depth-word 0 ≡ new-depth (getD (a .st) depth-word 0) (here doc a)
-  term-depth-here = put-there .1 .stays 75 (omega arith) ∙ sym (term-depth (here doc a) (getD (a .st) depth-word 0) among-terms)
+  term-depth-here = put-there .1 .stays depth-word (omega arith) ∙ sym (term-depth (here doc a) (getD (a .st) depth-word 0) among-terms)
 
 -- ---- A token that meets no refusal of its own but 13
 
@@ -137,40 +137,40 @@ module _ (doc : Text) (w : Write ℕ) (a : Held) (k : ℕ) (e : getD (a .st) kin
 -- ---- Brackets
 
 pub below-stays : (st st' : List ℕ) → ((j : ℕ) → kind-word ≤ j → getD st' j 0 ≡ getD st j 0) → getD st depth-word 0 < 64 → getD st' depth-word 0 < 64
-below-stays st st' same l = let e = same 75 (omega arith) in omega (arith, e, l)
+below-stays st st' same l = let e = same depth-word (omega arith) in omega (arith, e, l)
 
 pub above-stays : (st st' : List ℕ) → ((j : ℕ) → kind-word ≤ j → getD st' j 0 ≡ getD st j 0) → 0 < getD st depth-word 0 → 0 < getD st' depth-word 0
-above-stays st st' same l = let e = same 75 (omega arith) in omega (arith, e, l)
+above-stays st st' same l = let e = same depth-word (omega arith) in omega (arith, e, l)
 
 module _ (doc : Text) (a : Held) (k : ℕ) (e : getD (a .st) kind-word 0 ≡ k) where
   pub opening-depth : among (open-bracket ∷ open-paren ∷ []) (kind-of-code k) ≡ true → (st' : List ℕ) → ((j : ℕ) → kind-word ≤ j → getD st' j 0 ≡ getD (a .st) j 0) → getD st' depth-word 0 + 1 ≡ new-depth (getD (a .st) depth-word 0) (here doc a)
   unfolding new-depth
-  opening-depth o st' same = rw (same 75 (omega arith), e, o)
+  opening-depth o st' same = rw (same depth-word (omega arith), e, o)
 
   pub closing-depth : among (open-bracket ∷ open-paren ∷ []) (kind-of-code k) ≡ false → among (close-bracket ∷ close-paren ∷ []) (kind-of-code k) ≡ true → (st' : List ℕ) → ((j : ℕ) → kind-word ≤ j → getD st' j 0 ≡ getD (a .st) j 0)
       → getD st' depth-word 0 - 1 ≡ new-depth (getD (a .st) depth-word 0) (here doc a)
   unfolding new-depth
-  closing-depth o c st' same = rw (same 75 (omega arith), e, o, c)
+  closing-depth o c st' same = rw (same depth-word (omega arith), e, o, c)
 
 -- The depth is put before the cursor goes on.
-module _ (doc : Text) (st : List ℕ) (v : ℕ) (n : length st ≡ 212) where
+module _ (doc : Text) (st : List ℕ) (v : ℕ) (n : length st ≡ words-size) where
   abbrev deeper : List ℕ
-  deeper = set st 75 v
+  deeper = set st depth-word v
 
-  deeper-other : (k : ℕ) → (k ≡ 75 → ⊥) → getD deeper k 0 ≡ getD st k 0
-  deeper-other k h = getD-set-other st 75 k v 0 h
+  deeper-other : (k : ℕ) → (k ≡ depth-word → ⊥) → getD deeper k 0 ≡ getD st k 0
+  deeper-other k h = getD-set-other st depth-word k v 0 h
 
   pub deeper-there : Cursor doc st → TokenHere doc st → (Cursor doc deeper × TokenHere doc deeper) × (length deeper ≡ words-size)
-  deeper-there c t = ((cursor-words doc st deeper (λ k x y. deeper-other k (λ z. omega arith)) c, token-words doc st deeper (λ k x y. deeper-other k (λ z. omega arith)) t), length-set st 75 v ∙ n)
+  deeper-there c t = ((cursor-words doc st deeper (λ k x y. deeper-other k (λ z. omega arith)) c, token-words doc st deeper (λ k x y. deeper-other k (λ z. omega arith)) t), length-set st depth-word v ∙ n)
 
-  pub passed-deeper : (st' : List ℕ) → Passed doc deeper st' (getD deeper 75 0) (getD deeper 76 0) → Passed doc st st' v (getD st 76 0)
+  pub passed-deeper : (st' : List ℕ) → Passed doc deeper st' (getD deeper depth-word 0) (getD deeper graph-word 0) → Passed doc st st' v (getD st graph-word 0)
   passed-deeper st' p = record {
     cursor = p .cursor;
-    tokens = ap₂ (λ (x y : ℕ). rest doc (x + y)) (sym (deeper-other 72 (λ z. omega arith))) (sym (deeper-other 73 (λ z. omega arith))) ∙ p .tokens;
-    later = let x = p .later in let y = deeper-other 72 (λ z. omega arith) in omega (arith, x, y);
-    depth-is = p .depth-is ∙ getD-set-same st 75 v 0 (omega arith);
-    graph-is = p .graph-is ∙ deeper-other 76 (λ z. omega arith);
+    tokens = ap₂ (λ (x y : ℕ). rest doc (x + y)) (sym (deeper-other at-word (λ z. omega arith))) (sym (deeper-other len-word (λ z. omega arith))) ∙ p .tokens;
+    later = let x = p .later in let y = deeper-other at-word (λ z. omega arith) in omega (arith, x, y);
+    depth-is = p .depth-is ∙ getD-set-same st depth-word v 0 (omega arith);
+    graph-is = p .graph-is ∙ deeper-other graph-word (λ z. omega arith);
     before = λ k h. p .before k h ∙ deeper-other k (λ z. omega arith);
     spot = λ k h. p .spot k h ∙ deeper-other k (λ z. omega arith);
-    words = p .words ∙ length-set st 75 v;
+    words = p .words ∙ length-set st depth-word v;
   }

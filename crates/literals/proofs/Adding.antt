@@ -10,7 +10,7 @@ use Rattle.text.specs.Text.{Text}
 use Rattle.lexer.specs.Rest.{rest}
 use Rattle.machine.specs.Memory.{Memory, Write}
 use Rattle.machine.specs.Refusals.{new-depth}
-use Rattle.state.specs.Words.{at-word, depth-word, graph-word}
+use Rattle.state.specs.Words.{at-word, depth-word, graph-word, len-word}
 use Rattle.state.specs.Cursor.{remaining}
 use Rattle.state.specs.Represents.{Tables, lent-tables, room-in, Represented, room-refusal, Puts}
 use Rattle.reading.specs.Reading.{Held, held, tables-of, here, Holding, Same, token-refusal, Does}
@@ -43,8 +43,8 @@ module _ (doc : Text) (work rows terms store : RefT (List ℕ)) (st st1 : List �
             record {
               cursor = cursor-words doc st1 (b .st) (λ k x y. A .stays e k x) (p .cursor);
               tokens = p .tokens ∙ sym (left-words doc st1 (b .st) (λ k x y. A .stays e k x));
-              later = rw (A .stays e 72 (omega arith)) (p .later);
-              depth = A .stays e 75 (omega arith) ∙ (p .depth-is ∙ sym d);
+              later = rw (A .stays e at-word (omega arith)) (p .later);
+              depth = A .stays e depth-word (omega arith) ∙ (p .depth-is ∙ sym d);
               spot = λ k h. A .stays e k (omega arith) ∙ p .spot k h;
               holding = λ old m h. A .holding e old m (moved old m h);
             };
@@ -70,7 +70,7 @@ module _ (a : Held) (work rows terms store st1 : List ℕ) (lw : length work ≡
   -- w was done, then the cursor went on.
   module _ (doc : Text) (w : Write ℕ) (r : ℕ) (O : Obeys doc w (a .work .now) work (tables-of a) (lent-tables rows terms store) (a .st) st1 r) where
     pub obeys-stop : (r ≡ 0 → ⊥) → Does doc w a later-held r
-    obeys-stop z = record { same = same-after (O .words); refusal = λ old m h. O .refusal old m h; place = λ e. O .stays 72 (omega arith); done = λ e. absurd (z e) }
+    obeys-stop z = record { same = same-after (O .words); refusal = λ old m h. O .refusal old m h; place = λ e. O .stays at-word (omega arith); done = λ e. absurd (z e) }
 
     pub obeys-does : r ≡ 0 → (st2 : List ℕ) → Passed doc st1 st2 (getD st1 depth-word 0) (getD st1 graph-word 0) → new-depth (getD (a .st) depth-word 0) (here doc a) ≡ getD (a .st) depth-word 0
         → Does doc w a (after a work rows terms store st2) 0
@@ -82,9 +82,9 @@ module _ (a : Held) (work rows terms store st1 : List ℕ) (lw : length work ≡
           done = λ e.
               record {
                 cursor = p .cursor;
-                tokens = subst (λ (n : ℕ). rest doc n ≡ remaining doc st2) (let e1 = O .stays 72 (omega arith) in let e2 = O .stays 73 (omega arith) in omega arith) (p .tokens);
-                later = let e1 = O .stays 72 (omega arith) in omega (arith, p .later);
-                depth = p .depth-is ∙ (O .stays 75 (omega arith) ∙ sym d);
+                tokens = subst (λ (n : ℕ). rest doc n ≡ remaining doc st2) (let e1 = O .stays at-word (omega arith) in let e2 = O .stays len-word (omega arith) in omega arith) (p .tokens);
+                later = let e1 = O .stays at-word (omega arith) in omega (arith, p .later);
+                depth = p .depth-is ∙ (O .stays depth-word (omega arith) ∙ sym d);
                 spot = λ k h. p .spot k h ∙ O .stays k (omega arith);
                 holding = λ old m h. represents-words old (w m .1) work (lent-tables rows terms store) st1 st2 (p .before) (p .graph-is) (p .words) (O .wrote z .represents old m h);
               };

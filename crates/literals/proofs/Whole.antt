@@ -8,6 +8,7 @@ use borrow.Author.Tests.{eqb-true}
 use lib.Dec.{eqb}
 use lib.ListN.{length, getD, take, drop}
 use denote.Ref.{RefT}
+use Rattle.scope.specs.Code.{words-size}
 use Rattle.text.specs.Text.{Text}
 use Rattle.text.proofs.Compare.{by, contrary}
 use Rattle.token.specs.Kind.{strings, iris, kind-of-code}
@@ -17,7 +18,7 @@ use Rattle.dataset.specs.Constructors.{tag}
 use Rattle.machine.specs.Memory.{Memory, Write, term, typed, typed-by}
 use Rattle.machine.specs.Frame.{Place, Frame, suffix, datatype}
 use Rattle.machine.specs.Refusals.{new-depth}
-use Rattle.state.specs.Words.{terms-word, kind-word, at-word, len-word, depth-word, graph-word, list-word}
+use Rattle.state.specs.Words.{terms-word, kind-word, at-word, len-word, depth-word, graph-word, list-word, last-word, opened-word, x-word, y-word}
 use Rattle.state.specs.Cursor.{Cursor, TokenHere}
 use Rattle.state.specs.Represents.{Tables, room-in, Represented}
 use Rattle.state.specs.Writes.{place-of, placed, opened-at, SpotFits}
@@ -58,7 +59,7 @@ string-token k e = each-string SomeToken ((λ x. omega arith), (λ x. omega arit
 token-at-cursor : (doc : Text) (st : List ℕ) → Cursor doc st → SomeToken (getD st kind-word 0) → TokenHere doc st
 token-at-cursor doc st c (z, y) = c .token z y
 
-ready-words : (doc : Text) (a : Held) → Ready doc a → length (a .st) ≡ 212
+ready-words : (doc : Text) (a : Held) → Ready doc a → length (a .st) ≡ words-size
 ready-words doc a r = let (old, (m, h)) = r .holds in h .usable .words
 
 tag-depth : (at d : ℕ) (s : Text) (k : ℕ) → k ≡ 7 → new-depth d (record { kind = kind-of-code k; start = at; text = s }) ≡ d
@@ -87,13 +88,13 @@ module _ (doc : Text) (a : Held) where
 
   -- The cursor may go on once w is done.
   obeys-pass : (w : Write ℕ) (work' : Text) (t' : Tables) (st' : List ℕ) (r : ℕ) → Ready doc a → TokenHere doc (a .st) → Obeys doc w (a .work .now) work' (tables-of a) t' (a .st) st' r
-      → (Cursor doc st' × TokenHere doc st') × (length st' ≡ 212)
+      → (Cursor doc st' × TokenHere doc st') × (length st' ≡ words-size)
   obeys-pass w work' t' st' r ready h o = ((cursor-words doc (a .st) st' (λ k x y. o .stays k x) (ready .cursor), token-words doc (a .st) st' (λ k x y. o .stays k x) h), o .words ∙ ready-words doc a ready)
 
-  pub tag-pass : (w : Write ℕ) (work' : Text) (t' : Tables) (st' : List ℕ) (r : ℕ) → Ready doc a → getD (a .st) kind-word 0 ≡ 7 → Obeys doc w (a .work .now) work' (tables-of a) t' (a .st) st' r → (Cursor doc st' × TokenHere doc st') × (length st' ≡ 212)
+  pub tag-pass : (w : Write ℕ) (work' : Text) (t' : Tables) (st' : List ℕ) (r : ℕ) → Ready doc a → getD (a .st) kind-word 0 ≡ 7 → Obeys doc w (a .work .now) work' (tables-of a) t' (a .st) st' r → (Cursor doc st' × TokenHere doc st') × (length st' ≡ words-size)
   tag-pass w work' t' st' r ready k o = obeys-pass w work' t' st' r ready (ready .cursor .token (λ e. omega arith) (λ e. omega arith)) o
 
-  pub typed-pass : (w : Write ℕ) (work' : Text) (t' : Tables) (st' : List ℕ) (r : ℕ) → Ready doc a → code-among iris (getD (a .st) kind-word 0) ≡ true → Obeys doc w (a .work .now) work' (tables-of a) t' (a .st) st' r → (Cursor doc st' × TokenHere doc st') × (length st' ≡ 212)
+  pub typed-pass : (w : Write ℕ) (work' : Text) (t' : Tables) (st' : List ℕ) (r : ℕ) → Ready doc a → code-among iris (getD (a .st) kind-word 0) ≡ true → Obeys doc w (a .work .now) work' (tables-of a) t' (a .st) st' r → (Cursor doc st' × TokenHere doc st') × (length st' ≡ words-size)
   typed-pass w work' t' st' r ready k o = obeys-pass w work' t' st' r ready (token-at-cursor doc (a .st) (ready .cursor) (iri-token (getD (a .st) kind-word 0) k)) o
 
   pub tag-deep : getD (a .st) kind-word 0 ≡ 7 → new-depth (getD (a .st) depth-word 0) (here doc a) ≡ getD (a .st) depth-word 0
@@ -126,7 +127,7 @@ module _ (doc : Text) (a : Held) where
       settled-does (placed (own-spot x y at) (term (tagged (text-of doc at len n) (tag (here doc a))))) b r D (tag-deep k),
     )
 
-  pub carets-call : Ready doc a → code-among ties (getD (a .st) kind-word 0) ≡ true → (Cursor doc (a .st) × TokenHere doc (a .st)) × (length (a .st) ≡ 212)
+  pub carets-call : Ready doc a → code-among ties (getD (a .st) kind-word 0) ≡ true → (Cursor doc (a .st) × TokenHere doc (a .st)) × (length (a .st) ≡ words-size)
   carets-call ready k = ((ready .cursor, token-at-cursor doc (a .st) (ready .cursor) (tie-token (getD (a .st) kind-word 0) k)), ready-words doc a ready)
 
 -- ^^ is behind.
@@ -172,7 +173,7 @@ module _ (doc : Text) (a : Held) (ready : Ready doc a) (k : code-among strings (
   string-here : TokenHere doc (a .st)
   string-here = token-at-cursor doc (a .st) (ready .cursor) (string-token (getD (a .st) kind-word 0) k)
 
-  pub string-pass : (Cursor doc (a .st) × TokenHere doc (a .st)) × (length (a .st) ≡ 212)
+  pub string-pass : (Cursor doc (a .st) × TokenHere doc (a .st)) × (length (a .st) ≡ words-size)
   string-pass = ((ready .cursor, string-here), ready-words doc a ready)
 
   pub string-bad : bad-escape (take (getD (a .st) len-word 0) (drop (getD (a .st) at-word 0) doc)) ≡ true → Fills doc a a 7 × Settled a a 7
@@ -214,10 +215,10 @@ module _ (doc : Text) (work rows terms store : RefT (List ℕ)) (st st1 : List �
   held-on = let (old, (m, h)) = ready .holds in (old, (m, moved old m h))
 
   spot-fits : Spotted s → SpotFits (spot-at st1 at)
-  spot-fits f = record { x = rw (p .spot 78 (omega arith)) (f .x); y = rw (p .spot 79 (omega arith)) (f .y); opened = rw (p .spot 80 (omega arith)) (f .opened); last = rw (p .spot 81 (omega arith)) (f .last); at = omega (arith, ready .cursor .inside, ready .cursor .size) }
+  spot-fits f = record { x = rw (p .spot x-word (omega arith)) (f .x); y = rw (p .spot y-word (omega arith)) (f .y); opened = rw (p .spot opened-word (omega arith)) (f .opened); last = rw (p .spot last-word (omega arith)) (f .last); at = omega (arith, ready .cursor .inside, ready .cursor .size) }
 
   spot-same : spot-at st1 at ≡ spot-of s
-  spot-same = rw (p .spot 77 (omega arith), p .spot 78 (omega arith), p .spot 79 (omega arith), p .spot 80 (omega arith), p .spot 81 (omega arith))
+  spot-same = rw (p .spot list-word (omega arith), p .spot x-word (omega arith), p .spot y-word (omega arith), p .spot opened-word (omega arith), p .spot last-word (omega arith))
 
   tied-now : tied-here doc s (string-here doc s ready k) (string-token (getD st kind-word 0) k .0) ≡ code-among ties (getD st1 kind-word 0)
   tied-now = ap tied-to (p .tokens) ∙ tied-left doc st1 (p .cursor)
@@ -244,7 +245,7 @@ module _ (doc : Text) (work rows terms store : RefT (List ℕ)) (st st1 : List �
   pub string-plain : (q : ℕ) → q ≡ n → (b : Held) (r : ℕ) → code-among ties (getD st1 kind-word 0) ≡ false → Adds (placed (spot-at st1 at) (typed (text-of doc at len q) xsd-string)) s1 b at r → Fills doc s b r × Settled s b r
   string-plain q e b r t A = plain-fills b r t (subst (λ (j : ℕ). Adds (placed (spot-at st1 at) (typed (text-of doc at len j) xsd-string)) s1 b at r) e A)
 
-  pub own-call : (length st1 ≡ 212) × (getD st1 terms-word 0 + 1 < 4294967296)
+  pub own-call : (length st1 ≡ words-size) × (getD st1 terms-word 0 + 1 < 4294967296)
   own-call = let (old, (m, h)) = ready .holds in (p .words ∙ ready-words doc s ready, next-held old m s1 (moved old m h))
 
   pub place-call : Spotted s → Represented (work .now) (tables-of s) st1 × SpotFits (spot-at st1 at)
@@ -270,7 +271,7 @@ module _ (doc : Text) (work rows terms store : RefT (List ℕ)) (st st1 : List �
           ready-does doc (opened-at (spot-of s)) s b r ready (string-here doc s ready k) (string-token (getD st kind-word 0) k .0) opened-does z,
           (record { x = rw ex x-small; y = rw ey y-small; opened = omega arith; last = omega arith; at = omega (arith, ready .cursor .inside, ready .cursor .size) }, rw e kept),
         ),
-        rw (A .stays z 71 (omega arith)) t,
+        rw (A .stays z kind-word (omega arith)) t,
       )
         where
           x-small : own-x st1 < 4294967296
@@ -280,7 +281,7 @@ module _ (doc : Text) (work rows terms store : RefT (List ℕ)) (st st1 : List �
           y-small = by (eqb (getD st1 list-word 0) 0) (λ e. rw e (spot-fits f .y)) (λ e. rw e (omega arith))
 
       same-place : slot-place s ≡ place-of x y
-      same-place = own-place s ∙ rw (ex, ey, p .spot 77 (omega arith), p .spot 78 (omega arith), p .spot 79 (omega arith), p .before 67 (omega arith))
+      same-place = own-place s ∙ rw (ex, ey, p .spot list-word (omega arith), p .spot x-word (omega arith), p .spot y-word (omega arith), p .before terms-word (omega arith))
 
       suffix-fills : (d : Held) (q : ℕ) → Reads doc (suffix (place-of x y) at (text-of doc at len n) ∷ []) [] b d q × Settled b d q → Fills doc s d q × Settled s d q
       suffix-fills d q (R, y′) = (

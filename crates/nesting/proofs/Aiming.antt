@@ -6,12 +6,13 @@ use Prim.Native.Nat.{ℕ, _-_, _<_}
 use native.Mathlib.Omega.{arith}
 use lib.ListN.{length, getD}
 use denote.Ref.{RefT}
+use Rattle.scope.specs.Code.{words-size}
 use Rattle.text.specs.Text.{Text}
 use Rattle.text.proofs.Compare.{contrary}
 use Rattle.machine.specs.Frame.{Open}
 use Rattle.machine.specs.Memory.{Memory}
 use Rattle.grammar.specs.Productions.{Mode}
-use Rattle.state.specs.Words.{kind-word, at-word, depth-word}
+use Rattle.state.specs.Words.{kind-word, at-word, depth-word, graph-word, list-word}
 use Rattle.state.specs.Cursor.{Cursor, TokenHere}
 use Rattle.state.specs.Represents.{Tables}
 use Rattle.reading.specs.Reading.{Held, held, tables-of, Holding, goes, Ready, Comes}
@@ -19,7 +20,7 @@ use Rattle.nodes.specs.Nodes.{Aimed, Spotted}
 use Rattle.nodes.proofs.Moving.{cursor-words, left-words}
 use Rattle.nodes.proofs.Passing.{represents-words}
 
-module _ (doc : Text) (work rows terms store : RefT (List ℕ)) (st st' : List ℕ) (same : (k : ℕ) → k < 77 → getD st' k 0 ≡ getD st k 0) (n : length st' ≡ length st) where
+module _ (doc : Text) (work rows terms store : RefT (List ℕ)) (st st' : List ℕ) (same : (k : ℕ) → k < list-word → getD st' k 0 ≡ getD st k 0) (n : length st' ≡ length st) where
   abbrev a : Held
   a = held work rows terms store st
 
@@ -28,22 +29,22 @@ module _ (doc : Text) (work rows terms store : RefT (List ℕ)) (st st' : List �
 
   goes-aimed : (mode : Mode) (o : Open) (m : Memory) → goes mode doc a o m ≡ goes mode doc b o m
   unfolding goes
-  goes-aimed mode o m = rw (left-words doc st st' (λ k x y. same k (omega arith)), same 75 (omega arith))
+  goes-aimed mode o m = rw (left-words doc st st' (λ k x y. same k (omega arith)), same depth-word (omega arith))
 
   holding-aimed : (old : Tables) (m : Memory) → Holding old m a → Holding old m b
-  holding-aimed old m h = represents-words old m (work .now) (tables-of a) st st' (λ k x. same k (omega arith)) (same 76 (omega arith)) n h
+  holding-aimed old m h = represents-words old m (work .now) (tables-of a) st st' (λ k x. same k (omega arith)) (same graph-word (omega arith)) n h
 
   pub ready-aimed : Ready doc a → Ready doc b
   ready-aimed r =
       let (old, (m, h)) = r .holds in
-      record { cursor = cursor-words doc st st' (λ k x y. same k (omega arith)) (r .cursor); holds = (old, (m, holding-aimed old m h)); depth = rw (same 75 (omega arith)) (r .depth) }
+      record { cursor = cursor-words doc st st' (λ k x y. same k (omega arith)) (r .cursor); holds = (old, (m, holding-aimed old m h)); depth = rw (same depth-word (omega arith)) (r .depth) }
 
   pub comes-aimed : {I : Type 0} (F : I → Open) → Ready doc a → Comes doc F F a b 0
   comes-aimed F r =
       record {
         same = record { work = refl; rows = refl; terms = refl; store = refl; work-length = refl; rows-length = refl; terms-length = refl; store-length = refl; words = n };
         ready = λ e. ready-aimed r;
-        later = λ e. rw (same 72 (omega arith)) (omega arith);
+        later = λ e. rw (same at-word (omega arith)) (omega arith);
         on = λ e mode old m h. record { after = m; holding = holding-aimed old m h; same = λ i. goes-aimed mode (F i) m };
         stop = λ z mode old m h i. absurd (z refl);
       }
@@ -59,16 +60,16 @@ place-small doc a r = omega (arith, r .cursor .inside, r .cursor .size)
 
 -- ---- What routines ask for
 
-pub ready-words : (doc : Text) (a : Held) → Ready doc a → length (a .st) ≡ 212
+pub ready-words : (doc : Text) (a : Held) → Ready doc a → length (a .st) ≡ words-size
 ready-words doc a r = let (old, (m, h)) = r .holds in h .usable .words
 
-pub unexpected-call : (doc : Text) (a : Held) → Ready doc a → Cursor doc (a .st) × (length (a .st) ≡ 212)
+pub unexpected-call : (doc : Text) (a : Held) → Ready doc a → Cursor doc (a .st) × (length (a .st) ≡ words-size)
 unexpected-call doc a r = (r .cursor, ready-words doc a r)
 
-pub pass-call : (doc : Text) (a : Held) (k : ℕ) → Ready doc a → getD (a .st) kind-word 0 ≡ k → (k ≡ 0 → ⊥) → (k ≡ 31 → ⊥) → (Cursor doc (a .st) × TokenHere doc (a .st)) × (length (a .st) ≡ 212)
+pub pass-call : (doc : Text) (a : Held) (k : ℕ) → Ready doc a → getD (a .st) kind-word 0 ≡ k → (k ≡ 0 → ⊥) → (k ≡ 31 → ⊥) → (Cursor doc (a .st) × TokenHere doc (a .st)) × (length (a .st) ≡ words-size)
 pass-call doc a k r e z y = ((r .cursor, r .cursor .token (λ h. z (sym e ∙ h)) (λ h. y (sym e ∙ h))), ready-words doc a r)
 
-pub leave-call : (doc : Text) (a : Held) (k : ℕ) → Ready doc a → getD (a .st) kind-word 0 ≡ k → (k ≡ 0 → ⊥) → (k ≡ 31 → ⊥) → 0 < getD (a .st) depth-word 0 → (Cursor doc (a .st) × TokenHere doc (a .st)) × ((length (a .st) ≡ 212) × (0 < getD (a .st) depth-word 0))
+pub leave-call : (doc : Text) (a : Held) (k : ℕ) → Ready doc a → getD (a .st) kind-word 0 ≡ k → (k ≡ 0 → ⊥) → (k ≡ 31 → ⊥) → 0 < getD (a .st) depth-word 0 → (Cursor doc (a .st) × TokenHere doc (a .st)) × ((length (a .st) ≡ words-size) × (0 < getD (a .st) depth-word 0))
 leave-call doc a k r e z y d = let w = pass-call doc a k r e z y in (w .0, (w .1, d))
 
 -- A test that was turned round.

@@ -6,21 +6,22 @@ use Prim.Native.Nat.{ℕ, zero, suc, _+_, _*_, _-_, _≤_, _<_}
 use native.Mathlib.Omega.{arith}
 use lib.ListN.{length, getD, set, length-set}
 use lib.Seq.{getD-set-same, getD-set-other}
+use Rattle.scope.specs.Code.{words-size}
 use Rattle.text.specs.Text.{Text}
 use Rattle.machine.specs.Frame.{bracket-end, Place, cells, Frame, list, after-object}
 use Rattle.machine.specs.Rules.{after-node}
-use Rattle.state.specs.Words.{depth-word, list-word}
+use Rattle.state.specs.Words.{depth-word, list-word, level-word}
 use Rattle.reading.specs.Reading.{Held, Ready}
 use Rattle.nesting.specs.Nesting.{level-x, level-y, Marked, ListOf, Saves, Levels, Deep}
 use Rattle.nesting.proofs.Aiming.{ready-words}
 
 -- Levels depend on their own words.
-pub levels-same : (st st' : List ℕ) (d : ℕ) → ((k : ℕ) → 82 ≤ k → k < 84 + 2 * d → getD st' k 0 ≡ getD st k 0) → (fs : List Frame) → Levels st d fs → Levels st' d fs
-levels-same st st' d same [] (x, y) = (same (82 + 2 * d) (omega arith) (omega arith) ∙ x, same (82 + 2 * d + 1) (omega arith) (omega arith) ∙ y)
+pub levels-same : (st st' : List ℕ) (d : ℕ) → ((k : ℕ) → level-word ≤ k → k < 84 + 2 * d → getD st' k 0 ≡ getD st k 0) → (fs : List Frame) → Levels st d fs → Levels st' d fs
+levels-same st st' d same [] (x, y) = (same (level-word + 2 * d) (omega arith) (omega arith) ∙ x, same (level-word + 2 * d + 1) (omega arith) (omega arith) ∙ y)
 levels-same st st' d same (f ∷ fs) (h, (s, l)) = (
   h,
   (
-    saves-same (level-x st d) (level-y st d) (level-x st' d) (level-y st' d) (same (82 + 2 * d) (omega arith) (omega arith)) (same (82 + 2 * d + 1) (omega arith) (omega arith)) f s,
+    saves-same (level-x st d) (level-y st d) (level-x st' d) (level-y st' d) (same (level-word + 2 * d) (omega arith) (omega arith)) (same (level-word + 2 * d + 1) (omega arith) (omega arith)) f s,
     levels-same st st' (d - 1) (λ k a b. same k a (omega arith)) fs l,
   ),
 )
@@ -29,27 +30,27 @@ levels-same st st' d same (f ∷ fs) (h, (s, l)) = (
     saves-same x y x' y' ex ey f s = rw (ex, ey) s
 
 -- The same at a depth that is reached otherwise.
-pub levels-at : (st st' : List ℕ) (d d' : ℕ) → d' ≡ d → ((k : ℕ) → 82 ≤ k → getD st' k 0 ≡ getD st k 0) → (fs : List Frame) → Levels st d fs → Levels st' d' fs
+pub levels-at : (st st' : List ℕ) (d d' : ℕ) → d' ≡ d → ((k : ℕ) → level-word ≤ k → getD st' k 0 ≡ getD st k 0) → (fs : List Frame) → Levels st d fs → Levels st' d' fs
 levels-at st st' d d' e same fs l = subst (λ (i : ℕ). Levels st' i fs) (sym e) (levels-same st st' d (λ k a b. same k a) fs l)
 
 -- ---- A level is put
 
-pub marked : (st st' : List ℕ) (x y i : ℕ) → (length st ≡ 212) × (getD st 75 0 ≤ 64) → i ≡ 82 + 2 * getD st 75 0 → st' ≡ set (set st i x) (i + 1) y → Marked st st' x y
+pub marked : (st st' : List ℕ) (x y i : ℕ) → (length st ≡ words-size) × (getD st depth-word 0 ≤ 64) → i ≡ level-word + 2 * getD st depth-word 0 → st' ≡ set (set st i x) (i + 1) y → Marked st st' x y
 marked st st' x y i (n, d) ei e = record {
-  x-is = ap (λ (l : List ℕ). level-x l (getD st 75 0)) e ∙ (getD-set-other (set st i x) (i + 1) (82 + 2 * getD st 75 0) y 0 (λ h. omega arith) ∙ (ap (λ (j : ℕ). getD (set st i x) j 0) (sym ei) ∙ getD-set-same st i x 0 (omega arith)));
-  y-is = ap (λ (l : List ℕ). level-y l (getD st 75 0)) e ∙ (ap (λ (j : ℕ). getD (set (set st i x) (i + 1) y) (j + 1) 0) (sym ei) ∙ getD-set-same (set st i x) (i + 1) y 0 (omega (arith, length-set st i x)));
+  x-is = ap (λ (l : List ℕ). level-x l (getD st depth-word 0)) e ∙ (getD-set-other (set st i x) (i + 1) (level-word + 2 * getD st depth-word 0) y 0 (λ h. omega arith) ∙ (ap (λ (j : ℕ). getD (set st i x) j 0) (sym ei) ∙ getD-set-same st i x 0 (omega arith)));
+  y-is = ap (λ (l : List ℕ). level-y l (getD st depth-word 0)) e ∙ (ap (λ (j : ℕ). getD (set (set st i x) (i + 1) y) (j + 1) 0) (sym ei) ∙ getD-set-same (set st i x) (i + 1) y 0 (omega (arith, length-set st i x)));
   below = λ k h. ap (λ (l : List ℕ). getD l k 0) e ∙ (getD-set-other (set st i x) (i + 1) k y 0 (λ z. omega arith) ∙ getD-set-other st i k x 0 (λ z. omega arith));
   words = ap length e ∙ (length-set (set st i x) (i + 1) y ∙ length-set st i x);
 }
 
 module _ (st st' : List ℕ) (x y : ℕ) (M : Marked st st' x y) where
   pub mark-depth : getD st' depth-word 0 ≡ getD st depth-word 0
-  mark-depth = M .below 75 (omega arith)
+  mark-depth = M .below depth-word (omega arith)
 
   pub mark-before : (k : ℕ) → k < list-word → getD st' k 0 ≡ getD st k 0
   mark-before k h = M .below k (omega arith)
 
-  pub mark-spot : (k : ℕ) → k < 82 → getD st' k 0 ≡ getD st k 0
+  pub mark-spot : (k : ℕ) → k < level-word → getD st' k 0 ≡ getD st k 0
   mark-spot k h = M .below k (omega arith)
 
   -- Zeros: nothing is resumed.
@@ -95,7 +96,7 @@ level-none st d e [] l = refl
 level-none st d e (f ∷ fs) (h, (s, l)) = absurd (omega (arith, s .some-y))
 
 -- What reading and writing levels asks for.
-pub mark-call : (doc : Text) (a : Held) → Ready doc a → (length (a .st) ≡ 212) × (getD (a .st) depth-word 0 ≤ 64)
+pub mark-call : (doc : Text) (a : Held) → Ready doc a → (length (a .st) ≡ words-size) × (getD (a .st) depth-word 0 ≤ 64)
 mark-call doc a r = (ready-words doc a r, r .depth)
 
 pub some-level : (r x : ℕ) → r ≡ x → (r ≡ 0 → ⊥) → 0 < x

@@ -100,7 +100,7 @@ module _ (doc : Text) (work rows terms store : RefT (List ℕ)) (st : List ℕ) 
         → (Ready doc c × (level-x st' (getD st' depth-word 0) < 4294967296)) × (((0 < level-x st' (getD st' depth-word 0)) × (code-among verb-kinds (getD st' kind-word 0) ≡ true)) × Deep st')
     contents-call small some-node deep v = (
       (ready-aimed doc work rows terms store st st' (mark-before st st' n 0 M) (M .words) r, omega (arith, level-there)),
-      ((omega (arith, level-there), rw (M .below 71 (omega arith)) v), mark-deep st st' n 0 M deep),
+      ((omega (arith, level-there), rw (M .below kind-word (omega arith)) v), mark-deep st st' n 0 M deep),
     )
 
     pub contents-predicate : 0 < getD st depth-word 0 → (d : Held) (q : ℕ) → Predicates doc c d q → Contents doc (held work rows terms store st) d q

@@ -75,7 +75,7 @@ module _ (doc : Text) (a₀ : Held) (spot : Spotted a₀) (work rows terms store
   elements-ready = (ready-1, spotted work rows terms store st st' 1 x y opened last aim (rw (I .x-is) (spot .x)) (rw (I .y-is) (spot .y)) (rw (I .opened-is) (spot .opened)) (I .last-small))
 
   pub elements-depth : getD st' depth-word 0 ≡ getD (a₀ .st) depth-word 0
-  elements-depth = aim .before 75 (omega arith) ∙ I .depth
+  elements-depth = aim .before depth-word (omega arith) ∙ I .depth
 
   pub elements-small : getD st' terms-word 0 + 1 < 4294967296
   elements-small = next-small doc a1 ready-1
@@ -111,7 +111,7 @@ module _ (doc : Text) (a₀ : Held) (spot : Spotted a₀) (work rows terms store
     node-is = go (I .cs) (I .head)
       where
         go : (cs : Cells) → Head cs a₀ a → cell-or-nil cs (getD (b .st) node-word 0) ≡ list-node a₀ b
-        go no-cell h = let e : getD (a₀ .st) kind-word 0 ≡ 25 = sym (h .0) ∙ (sym (aim .before 71 (omega arith)) ∙ k) in rw e
+        go no-cell h = let e : getD (a₀ .st) kind-word 0 ≡ 25 = sym (h .0) ∙ (sym (aim .before kind-word (omega arith)) ∙ k) in rw e
         go (cells head c) h = rw (ne-eqb (getD (a₀ .st) kind-word 0) 25 (h .1 .0)) (h .0)
 
     to-close : (place : Place) → Belongs place (getD (a₀ .st) x-word 0) (getD (a₀ .st) y-word 0) → Reads doc (list place (getD (a₀ .st) opened-word 0) no-cell ∷ []) (after-node place (list-node a₀ b)) a₀ b r
@@ -172,7 +172,7 @@ module _ (doc : Text) (a₀ : Held) (spot : Spotted a₀) (work rows terms store
         record {
           ready = ready-b z;
           depth = N .1 .depth z ∙ elements-depth;
-          later = omega (arith, N .1 .later z, aim .before 72 (omega arith), I .later);
+          later = omega (arith, N .1 .later z, aim .before at-word (omega arith), I .later);
           x-is = I .x-is;
           y-is = I .y-is;
           opened-is = I .opened-is;
@@ -191,8 +191,8 @@ module _ (doc : Text) (a₀ : Held) (spot : Spotted a₀) (work rows terms store
         last-new (cells head l) c h = (refl, h)
 
         head-new : (cs : Cells) → Head cs a₀ a → (c : ℕ) → c ≡ getD st' terms-word 0 + 1 → Head (extended cs c) a₀ b
-        head-new no-cell h c ec = (omega (arith, aim .before 67 (omega arith), h .1), ((λ y. k (aim .before 71 (omega arith) ∙ (h .0 ∙ y))), omega (arith, elements-small)))
+        head-new no-cell h c ec = (omega (arith, aim .before terms-word (omega arith), h .1), ((λ y. k (aim .before kind-word (omega arith) ∙ (h .0 ∙ y))), omega (arith, elements-small)))
         head-new (cells head l) h c ec = h
 
     pub elements-less : r ≡ 0 → length doc - getD (b .st) at-word 0 < length doc - getD st at-word 0
-    elements-less z = let (place, q) = some-place x y in less-left doc a b (to-element place q .ready z) (omega (arith, N .1 .later z, aim .before 72 (omega arith)))
+    elements-less z = let (place, q) = some-place x y in less-left doc a b (to-element place q .ready z) (omega (arith, N .1 .later z, aim .before at-word (omega arith)))

@@ -8,7 +8,7 @@ use denote.Ref.{RefT}
 use Rattle.text.specs.Text.{Text}
 use Rattle.machine.specs.Frame.{Place, object-of, Cells, no-cell, cells, Frame, list}
 use Rattle.machine.specs.Rules.{extended, after-node}
-use Rattle.state.specs.Words.{terms-word, node-word, kind-word, at-word, depth-word, list-word, x-word, y-word, opened-word, last-word}
+use Rattle.state.specs.Words.{terms-word, node-word, kind-word, at-word, depth-word, list-word, x-word, y-word, opened-word, last-word, level-word}
 use Rattle.reading.specs.Reading.{Held, held, Ready, Reads, on-top}
 use Rattle.reading.proofs.Compose.{comes-here, comes-then, comes-stop, comes-within}
 use Rattle.reading.proofs.Frames.{ready-does}
@@ -65,11 +65,11 @@ module _ (doc : Text) (work rows terms store : RefT (List ℕ)) (st st' : List �
   abbrev a1 : Held
   a1 = held work rows terms store st'
 
-  same : (i : ℕ) → i < 82 → getD st' i 0 ≡ getD st i 0
+  same : (i : ℕ) → i < level-word → getD st' i 0 ≡ getD st i 0
   same = mark-spot st st' 0 cell M
 
   cell-there : cell ≡ suc (getD st' terms-word 0)
-  cell-there = omega (arith, same 67 (omega arith))
+  cell-there = omega (arith, same terms-word (omega arith))
 
   cell-small : cell < 4294967296
   cell-small = omega (arith, next-small doc a ready)
@@ -88,13 +88,13 @@ module _ (doc : Text) (work rows terms store : RefT (List ℕ)) (st st' : List �
   some-list (suc last) e = (object-of 1 1, (0, (cells 1 (suc last), (e, omega arith))))
 
   awaits : (place : Place) (opened : ℕ) (cs : Cells) → InList a1 place opened cs → Slot doc a1 (list place opened cs) (list place opened (extended cs (suc (getD st' terms-word 0))))
-  awaits place opened cs w = element-slot doc a1 place opened cs (λ x. omega (arith, same 77 (omega arith))) w (λ x. k (sym (same 71 (omega arith)) ∙ x))
+  awaits place opened cs w = element-slot doc a1 place opened cs (λ x. omega (arith, same list-word (omega arith))) w (λ x. k (sym (same kind-word (omega arith)) ∙ x))
 
   pub element-call : Spotted a → (Ready doc a1 × Spotted a1) × (Awaited doc a1 × SomeLevels st' (getD st' depth-word 0))
   element-call s = (
     (
       ready-aimed doc work rows terms store st st' (mark-before st st' 0 cell M) (M .words) ready,
-      record { x = rw (same 78 (omega arith)) (s .x); y = rw (same 79 (omega arith)) (s .y); opened = rw (same 80 (omega arith)) (s .opened); last = rw (same 81 (omega arith)) (s .last) },
+      record { x = rw (same x-word (omega arith)) (s .x); y = rw (same y-word (omega arith)) (s .y); opened = rw (same opened-word (omega arith)) (s .opened); last = rw (same last-word (omega arith)) (s .last) },
     ),
     (
       (let (place, (opened, (cs, w))) = some-list (getD st' last-word 0) refl in (list place opened cs, (list place opened (extended cs (suc (getD st' terms-word 0))), awaits place opened cs w))),
@@ -103,8 +103,8 @@ module _ (doc : Text) (work rows terms store : RefT (List ℕ)) (st st' : List �
   )
 
   in-list-there : (place : Place) (opened : ℕ) (cs : Cells) → InList a place opened cs → InList a1 place opened cs
-  in-list-there place opened no-cell (b, (o, l)) = (rw (same 78 (omega arith), same 79 (omega arith)) b, (rw (same 80 (omega arith)) o, same 81 (omega arith) ∙ l))
-  in-list-there place opened (cells head c) (l, h) = (same 81 (omega arith) ∙ l, h)
+  in-list-there place opened no-cell (b, (o, l)) = (rw (same x-word (omega arith), same y-word (omega arith)) b, (rw (same opened-word (omega arith)) o, same last-word (omega arith) ∙ l))
+  in-list-there place opened (cells head c) (l, h) = (same last-word (omega arith) ∙ l, h)
 
   pub element-value : (d : Held) (q : ℕ) → Values doc a1 d q → Elements doc a d q
   element-value d q W place e opened cs w fs l =
@@ -142,7 +142,7 @@ module _ (doc : Text) (work rows terms store : RefT (List ℕ)) (st : List ℕ) 
     h1 = held work rows terms store st'
 
     depth-same : getD st' depth-word 0 ≡ getD st depth-word 0
-    depth-same = aim .before 75 (omega arith)
+    depth-same = aim .before depth-word (omega arith)
 
     below : (fs : List Frame) → Levels st (getD st depth-word 0 - 1) fs → Levels st' (getD st' depth-word 0 - 1) fs
     below fs l = levels-at st st' (getD st depth-word 0 - 1) (getD st' depth-word 0 - 1) (ap (λ (d : ℕ). d - 1) depth-same) (λ i g. aim .behind i (omega arith)) fs l

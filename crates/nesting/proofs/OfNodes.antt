@@ -18,7 +18,7 @@ use Rattle.machine.specs.Memory.{Memory, new-term}
 use Rattle.machine.specs.Frame.{Place, no-cell, Frame, bracket, list}
 use Rattle.machine.specs.Rules.{find-rule, object-rules, frame-rules, after-node}
 use Rattle.machine.specs.Refusals.{new-depth}
-use Rattle.state.specs.Words.{terms-word, node-word, kind-word, at-word, depth-word, list-word, x-word, y-word}
+use Rattle.state.specs.Words.{terms-word, node-word, kind-word, at-word, depth-word, list-word, x-word, y-word, graph-word, last-word, len-word, level-word, opened-word}
 use Rattle.state.specs.Cursor.{TokenHere}
 use Rattle.state.specs.Represents.{Tables}
 use Rattle.state.specs.Writes.{place-of, placed, opened-at}
@@ -261,26 +261,26 @@ module _ (doc : Text) (a : Held) (ready : Ready doc a) where
       list-ready = ready-aimed doc work rows terms store u u' (E .before) (E .words) ready-b
 
       pub list-depth : getD u' depth-word 0 ≡ getD (a .st) depth-word 0 + 1
-      list-depth = E .before 75 (omega arith) ∙ (D .done z .depth ∙ deeper 24 k refl)
+      list-depth = E .before depth-word (omega arith) ∙ (D .done z .depth ∙ deeper 24 k refl)
 
       -- The words of the place.
       list-word-same : getD u list-word 0 ≡ getD (a .st) list-word 0
-      list-word-same = D .done z .spot 77 (omega arith)
+      list-word-same = D .done z .spot list-word (omega arith)
 
       x-there : getD u' x-word 0 ≡ cond (eqb (getD (a .st) list-word 0) 0) (getD (a .st) x-word 0) cell
-      x-there = E .x-is ∙ rw (list-word-same, D .done z .spot 78 (omega arith))
+      x-there = E .x-is ∙ rw (list-word-same, D .done z .spot x-word (omega arith))
 
       y-there : getD u' y-word 0 ≡ cond (eqb (getD (a .st) list-word 0) 0) (getD (a .st) y-word 0) 0
-      y-there = E .y-is ∙ rw (list-word-same, D .done z .spot 79 (omega arith))
+      y-there = E .y-is ∙ rw (list-word-same, D .done z .spot y-word (omega arith))
 
-      list-spot : (i : ℕ) → 82 ≤ i → getD u' i 0 ≡ getD (a .st) i 0
+      list-spot : (i : ℕ) → level-word ≤ i → getD u' i 0 ≡ getD (a .st) i 0
       list-spot i h = E .behind i (omega arith) ∙ D .done z .spot i (omega arith)
 
       below : (fs : List Frame) → Levels (a .st) (getD (a .st) depth-word 0) fs → Levels u' (getD u' depth-word 0 - 1) fs
       below fs l = levels-at (a .st) u' (getD (a .st) depth-word 0) (getD u' depth-word 0 - 1) (omega (arith, list-depth)) list-spot fs l
 
       pub list-later : getD (a .st) at-word 0 < getD u' at-word 0
-      list-later = omega (arith, D .done z .later, E .before 72 (omega arith))
+      list-later = omega (arith, D .done z .later, E .before at-word (omega arith))
 
       pub list-call : Spotted a → SomeLevels (a .st) (getD (a .st) depth-word 0) → (Ready doc b' × Spotted b') × ((getD u' list-word 0 ≡ 1) × Deep u')
       list-call s (fs, l) = (
@@ -348,33 +348,33 @@ module _ (doc : Text) (work rows terms store : RefT (List ℕ)) (st st' : List �
         rules = λ k tied h. subst (λ (t : Token). find-rule k (frame-rules t tied f) ≡ find-rule k (object-rules t tied (s .opening))) (sym here-same) (s .rules k tied h);
         others = λ z y tied h.
             subst (λ (t : Token). among object-kinds (t .kind) ≡ false → find-rule (t .kind) (frame-rules t tied f) ≡ none) (sym here-same)
-            (s .others (λ e. z (same 71 (omega arith) ∙ e)) (token-words doc st' st (λ k x w. sym (same k (omega arith))) y) tied) h;
+            (s .others (λ e. z (same kind-word (omega arith) ∙ e)) (token-words doc st' st (λ k x w. sym (same k (omega arith))) y) tied) h;
         opens = λ old m h. rw (place-same, spot-same) (s .opens old m (holding old m h));
         begins = λ old m h. rw (place-same, spot-same) (s .begins old m (holding old m h));
         no-node = λ n. rw place-same (s .no-node n);
         no-properties = λ n. rw place-same (s .no-properties n);
       }
     where
-      same : (k : ℕ) → k < 82 → getD st' k 0 ≡ getD st k 0
+      same : (k : ℕ) → k < level-word → getD st' k 0 ≡ getD st k 0
       same = mark-spot st st' 0 0 M
 
       here-same : here doc a₁ ≡ here doc a₀
-      here-same = rw (same 71 (omega arith), same 72 (omega arith), same 73 (omega arith))
+      here-same = rw (same kind-word (omega arith), same at-word (omega arith), same len-word (omega arith))
 
       place-same : slot-place a₁ ≡ slot-place a₀
-      place-same = rw (same 67 (omega arith), same 77 (omega arith), same 78 (omega arith), same 79 (omega arith))
+      place-same = rw (same terms-word (omega arith), same list-word (omega arith), same x-word (omega arith), same y-word (omega arith))
 
       spot-same : spot-of a₁ ≡ spot-of a₀
-      spot-same = rw (same 72 (omega arith), same 77 (omega arith), same 78 (omega arith), same 79 (omega arith), same 80 (omega arith), same 81 (omega arith))
+      spot-same = rw (same at-word (omega arith), same list-word (omega arith), same x-word (omega arith), same y-word (omega arith), same opened-word (omega arith), same last-word (omega arith))
 
       holding : (old : Tables) (m : Memory) → Holding old m a₁ → Holding old m a₀
-      holding old m h = represents-words old m (work .now) (tables-of a₁) st' st (λ k x. sym (same k (omega arith))) (sym (same 76 (omega arith))) (sym (M .words)) h
+      holding old m h = represents-words old m (work .now) (tables-of a₁) st' st (λ k x. sym (same k (omega arith))) (sym (same graph-word (omega arith))) (sym (M .words)) h
 
   pub node-call : Spotted a₀ → Awaited doc a₀ → (Ready doc a₁ × Spotted a₁) × (Awaited doc a₁ × SomeLevels st' (getD st' depth-word 0))
   node-call s (f, (g, o)) = (
     (
       ready-aimed doc work rows terms store st st' (mark-before st st' 0 0 M) (M .words) ready,
-      record { x = rw (mark-spot st st' 0 0 M 78 (omega arith)) (s .x); y = rw (mark-spot st st' 0 0 M 79 (omega arith)) (s .y); opened = rw (mark-spot st st' 0 0 M 80 (omega arith)) (s .opened); last = rw (mark-spot st st' 0 0 M 81 (omega arith)) (s .last) },
+      record { x = rw (mark-spot st st' 0 0 M x-word (omega arith)) (s .x); y = rw (mark-spot st st' 0 0 M y-word (omega arith)) (s .y); opened = rw (mark-spot st st' 0 0 M opened-word (omega arith)) (s .opened); last = rw (mark-spot st st' 0 0 M last-word (omega arith)) (s .last) },
     ),
     ((f, (g, slot-marked f g o)), ([], mark-none st st' 0 0 M refl refl)),
   )
@@ -383,5 +383,5 @@ module _ (doc : Text) (work rows terms store : RefT (List ℕ)) (st st' : List �
   node-alone (f₀, (g₀, s₀)) d q W =
       let l = mark-none st st' 0 0 M refl refl in (
         (λ f g s. comes-then doc (on-top (f ∷ [])) (on-top (f ∷ [])) (on-top (g ∷ [])) a₀ a₁ d 0 q (comes-aimed doc work rows terms store st st' (mark-before st st' 0 0 M) (M .words) (on-top (f ∷ [])) ready) refl (W .alone l f g (slot-marked f g s) .0)),
-        (let w = W .alone l f₀ g₀ (slot-marked f₀ g₀ s₀) .1 in record { depth = λ e. w .depth e ∙ mark-depth st st' 0 0 M; later = λ e. omega (arith, w .later e, M .below 72 (omega arith)) }),
+        (let w = W .alone l f₀ g₀ (slot-marked f₀ g₀ s₀) .1 in record { depth = λ e. w .depth e ∙ mark-depth st st' 0 0 M; later = λ e. omega (arith, w .later e, M .below at-word (omega arith)) }),
       )

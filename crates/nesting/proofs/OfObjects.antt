@@ -38,7 +38,7 @@ module _ (doc : Text) (a₀ : Held) (work rows terms store : RefT (List ℕ)) (s
   )
 
   pub objects-depth : getD st' depth-word 0 ≡ getD (a₀ .st) depth-word 0
-  objects-depth = aim .before 75 (omega arith) ∙ I .depth
+  objects-depth = aim .before depth-word (omega arith) ∙ I .depth
 
   module _ (b : Held) (r : ℕ) (hs : 0 < s) (hp : 0 < p) (N : Fills doc (held work rows terms store st') b r × Steady (held work rows terms store st') b r) where
     to-node : (e : Ending) → Reads doc (object s p e ∷ []) (after-object s p e ∷ []) a₀ b r
@@ -52,7 +52,7 @@ module _ (doc : Text) (a₀ : Held) (work rows terms store : RefT (List ℕ)) (s
         (N .0 (object s p e) (after-object s p e) (object-slot doc a1 s p e (aim .list-is) (aim .x-is) (aim .y-is) hs hp)))
 
     steady : Steady a₀ b r
-    steady = record { depth = λ e. N .1 .depth e ∙ objects-depth; later = λ e. omega (arith, N .1 .later e, aim .before 72 (omega arith), I .later) }
+    steady = record { depth = λ e. N .1 .depth e ∙ objects-depth; later = λ e. omega (arith, N .1 .later e, aim .before at-word (omega arith), I .later) }
 
     pub objects-stop : (r ≡ 0 → ⊥) → Objects doc a₀ b s p r
     objects-stop z = record { reads = to-node; ended = λ e. absurd (z e); steady = steady }
@@ -105,4 +105,4 @@ module _ (doc : Text) (a₀ : Held) (work₁ rows₁ terms₁ store₁ : RefT (L
 
   -- The cursor has gone on.
   pub objects-less : length doc - getD u' at-word 0 < length doc - getD st at-word 0
-  objects-less = less-left doc (held work₁ rows₁ terms₁ store₁ st) b' (comma full-stop .ready refl) (omega (arith, P .later, N .1 .later z, aim .before 72 (omega arith)))
+  objects-less = less-left doc (held work₁ rows₁ terms₁ store₁ st) b' (comma full-stop .ready refl) (omega (arith, P .later, N .1 .later z, aim .before at-word (omega arith)))

@@ -8,7 +8,7 @@ use lib.ListN.{getD}
 use denote.Ref.{RefT}
 use Rattle.text.specs.Text.{Text}
 use Rattle.machine.specs.Frame.{Ending, bracket-end, Frame, object, after-object, after-semicolon}
-use Rattle.state.specs.Words.{node-word, kind-word, at-word, depth-word, graph-word, list-word}
+use Rattle.state.specs.Words.{node-word, kind-word, at-word, depth-word, graph-word, list-word, level-word}
 use Rattle.reading.specs.Reading.{code-among, Held, held, Ready, Reads, on-top}
 use Rattle.reading.proofs.Compose.{comes-then, comes-stop, comes-within}
 use Rattle.nodes.specs.Nodes.{Aimed, Passed, Spotted, PutsTerm, Slot, Verbs, verb-kinds}
@@ -53,7 +53,7 @@ module _ (doc : Text) (work rows terms store : RefT (List ℕ)) (st st' : List �
     same-before k h = aim' .before k h ∙ mark-before u u1 s p M k h
 
     pub predicate-later : getD st at-word 0 < getD u2 at-word 0
-    predicate-later = omega (arith, done .later, same-before 72 (omega arith))
+    predicate-later = omega (arith, done .later, same-before at-word (omega arith))
 
     p-small : p < 4294967296
     p-small = rw ep (done .small)
@@ -64,7 +64,7 @@ module _ (doc : Text) (work rows terms store : RefT (List ℕ)) (st st' : List �
     module _ (hs : level-x st (getD st depth-word 0) < 4294967296) (zs : 0 < level-x st (getD st depth-word 0)) (deep : 0 < getD st depth-word 0) where
       levels-u2 : (fs : List Frame) → Levels st (getD st depth-word 0 - 1) fs → Levels u2 (getD u2 depth-word 0) (after-object s p bracket-end ∷ fs)
       levels-u2 fs l =
-          levels-at u1 u2 (getD u1 depth-word 0) (getD u2 depth-word 0) (aim' .before 75 (omega arith)) (λ k h. aim' .behind k (omega arith)) (after-object s p bracket-end ∷ fs)
+          levels-at u1 u2 (getD u1 depth-word 0) (getD u2 depth-word 0) (aim' .before depth-word (omega arith)) (λ k h. aim' .behind k (omega arith)) (after-object s p bracket-end ∷ fs)
           (mark-levels u u1 s p M (after-object s p bracket-end) (saves-object s p (rw es hs) p-small (rw es zs) some-p) (omega (arith, done .depth)) fs (levels-at st u (getD st depth-word 0 - 1) (getD u depth-word 0 - 1) (ap (λ (d : ℕ). d - 1) (done .depth)) (done .spot) fs l))
 
       slot : Slot doc b2 (object s p bracket-end) (after-object s p bracket-end)
@@ -87,7 +87,7 @@ module _ (doc : Text) (work rows terms store : RefT (List ℕ)) (st st' : List �
           record {
             reads = comes-then doc (on-top (f ∷ fs)) (on-top (object s p bracket-end ∷ fs)) (on-top []) (held work rows terms store st) b d r q R z
                 (comes-then doc (on-top (object s p bracket-end ∷ fs)) (on-top (object s p bracket-end ∷ fs)) (on-top []) b b2 d 0 q (comes-aimed doc work₁ rows₁ terms₁ store₁ u u2 same-before (aim' .words ∙ M .words) (on-top (object s p bracket-end ∷ fs)) (done .ready)) refl (w .reads));
-            depth = λ y. w .depth y ∙ (same-before 75 (omega arith) ∙ done .depth);
+            depth = λ y. w .depth y ∙ (same-before depth-word (omega arith) ∙ done .depth);
           }
 
 -- ---- Behind an object
@@ -120,10 +120,10 @@ module _ (doc : Text) (work rows terms store : RefT (List ℕ)) (st : List ℕ) 
     u'-held = held work rows terms store u'
 
     s-same : s' ≡ s
-    s-same = es ∙ (ap (level-x u) (P .depth-is) ∙ P .spot (82 + 2 * getD st depth-word 0) (omega arith))
+    s-same = es ∙ (ap (level-x u) (P .depth-is) ∙ P .spot (level-word + 2 * getD st depth-word 0) (omega arith))
 
     p-same : p' ≡ p
-    p-same = ep ∙ (ap (level-y u) (P .depth-is) ∙ P .spot (82 + 2 * getD st depth-word 0 + 1) (omega arith))
+    p-same = ep ∙ (ap (level-y u) (P .depth-is) ∙ P .spot (level-word + 2 * getD st depth-word 0 + 1) (omega arith))
 
     known : ((s < 4294967296) × (p < 4294967296)) × (0 < p)
     known = let (fs, l) = lv in let (gs, (e, (h, (w, (y, l′))))) = level-object st (getD st depth-word 0) z fs l in (w, y)
@@ -132,10 +132,10 @@ module _ (doc : Text) (work rows terms store : RefT (List ℕ)) (st : List ℕ) 
     comma e = comma-reads doc work rows terms store st u ready k P s p e
 
     depth-same : getD u' depth-word 0 ≡ getD st depth-word 0
-    depth-same = aim .before 75 (omega arith) ∙ P .depth-is
+    depth-same = aim .before depth-word (omega arith) ∙ P .depth-is
 
     pub comma-later : getD st at-word 0 < getD u' at-word 0
-    comma-later = omega (arith, P .later, aim .before 72 (omega arith))
+    comma-later = omega (arith, P .later, aim .before at-word (omega arith))
 
     moved : (fs : List Frame) → Levels st (getD st depth-word 0) fs → Levels u' (getD u' depth-word 0) fs
     moved fs l = levels-at st u' (getD st depth-word 0) (getD u' depth-word 0) depth-same (λ i h. aim .behind i (omega arith) ∙ P .spot i (omega arith)) fs l
@@ -175,7 +175,7 @@ module _ (doc : Text) (work rows terms store : RefT (List ℕ)) (st : List ℕ) 
     semicolon-ready = to-semicolon [] .ready refl
 
     s-there : level-x u (getD u depth-word 0) ≡ s
-    s-there = ap (level-x u) (S .depth) ∙ S .spot (82 + 2 * getD st depth-word 0) (omega arith)
+    s-there = ap (level-x u) (S .depth) ∙ S .spot (level-word + 2 * getD st depth-word 0) (omega arith)
 
     down : (fs : List Frame) → Levels st (getD st depth-word 0 - 1) fs → Levels u (getD u depth-word 0 - 1) fs
     down fs l = levels-at st u (getD st depth-word 0 - 1) (getD u depth-word 0 - 1) (ap (λ (d : ℕ). d - 1) (S .depth)) (λ i h. S .spot i (omega arith)) fs l

@@ -6,6 +6,7 @@ use Prim.Native.Nat.{ℕ, _-_, _≤_, _<_}
 use native.Mathlib.Omega.{arith}
 use lib.ListN.{length, getD}
 use denote.Ref.{RefT}
+use Rattle.scope.specs.Code.{words-size}
 use Rattle.text.specs.Text.{Text}
 use Rattle.machine.specs.Frame.{Ending, full-stop, Frame, object, after-object, after-semicolon}
 use Rattle.state.specs.Words.{node-word, kind-word, at-word, depth-word}
@@ -97,7 +98,7 @@ module _ (doc : Text) (a₀ : Held) (work rows terms store : RefT (List ℕ)) (s
             steady = steady-objects;
           })
 
-      pub skips-call : q ≡ 0 → getD (d .st) kind-word 0 ≡ 21 → (Cursor doc (d .st) × (length (d .st) ≡ 212)) × (getD (d .st) kind-word 0 ≡ 21)
+      pub skips-call : q ≡ 0 → getD (d .st) kind-word 0 ≡ 21 → (Cursor doc (d .st) × (length (d .st) ≡ words-size)) × (getD (d .st) kind-word 0 ≡ 21)
       skips-call y k =
           let R = to-objects (after-semicolon s full-stop) full-stop [] (verbs-semicolon s full-stop) .ready y in
           let (old, (m, h)) = R .holds in

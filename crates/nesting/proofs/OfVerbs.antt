@@ -10,7 +10,7 @@ use Rattle.text.specs.Text.{Text}
 use Rattle.text.proofs.Compare.{contrary}
 use Rattle.token.specs.Kind.{among, strings, kw-a}
 use Rattle.machine.specs.Frame.{Ending, full-stop, Frame, object, after-semicolon}
-use Rattle.state.specs.Words.{node-word, kind-word, at-word, depth-word}
+use Rattle.state.specs.Words.{node-word, kind-word, at-word, depth-word, level-word}
 use Rattle.state.specs.Cursor.{TokenHere}
 use Rattle.reading.specs.Reading.{code-among, Held, held, here, Ready, Reads, on-top}
 use Rattle.reading.proofs.Compose.{comes-then}
@@ -29,7 +29,7 @@ pub record VerbDone (doc : Text) (st : List ℕ) (b : Held) : Type 0 where
   pub ready : Ready doc b
   pub depth : getD (b .st) depth-word 0 ≡ getD st depth-word 0
   pub later : getD st at-word 0 < getD (b .st) at-word 0
-  pub spot : (k : ℕ) → 82 ≤ k → getD (b .st) k 0 ≡ getD st k 0
+  pub spot : (k : ℕ) → level-word ≤ k → getD (b .st) k 0 ≡ getD st k 0
   pub small : getD (b .st) node-word 0 < 4294967296
   pub some-node : 0 < getD (b .st) node-word 0
 
@@ -41,7 +41,7 @@ module _ (doc : Text) (work rows terms store : RefT (List ℕ)) (st st' : List �
   a1 = held work rows terms store st'
 
   same-kind : getD st' kind-word 0 ≡ getD st kind-word 0
-  same-kind = aim .before 71 (omega arith)
+  same-kind = aim .before kind-word (omega arith)
 
   ready-1 : Ready doc a1
   ready-1 = ready-aimed doc work rows terms store st st' (aim .before) (aim .words) ready
@@ -75,8 +75,8 @@ module _ (doc : Text) (work rows terms store : RefT (List ℕ)) (st st' : List �
         let D = N .gives .does .done z in
         record {
           ready = verb-comes (after-semicolon 1 full-stop) 1 full-stop [] (verbs-semicolon 1 full-stop) .ready z;
-          depth = D .depth ∙ (term-depth (here doc a1) (getD st' depth-word 0) t ∙ aim .before 75 (omega arith));
-          later = omega (arith, D .later, aim .before 72 (omega arith));
+          depth = D .depth ∙ (term-depth (here doc a1) (getD st' depth-word 0) t ∙ aim .before depth-word (omega arith));
+          later = omega (arith, D .later, aim .before at-word (omega arith));
           spot = λ k h. D .spot k (omega arith) ∙ aim .behind k (omega arith);
           small = N .gives .small z;
           some-node = N .positive z;

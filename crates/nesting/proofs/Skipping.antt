@@ -6,6 +6,7 @@ use Prim.Native.Nat.{ℕ, _-_, _≤_, _<_}
 use native.Mathlib.Omega.{arith}
 use lib.ListN.{length, getD}
 use denote.Ref.{RefT}
+use Rattle.scope.specs.Code.{words-size}
 use Rattle.text.specs.Text.{Text}
 use Rattle.machine.specs.Memory.{return}
 use Rattle.machine.specs.Frame.{Ending, after-object, after-semicolon}
@@ -95,5 +96,5 @@ module _ (doc : Text) (st₀ st st' : List ℕ) (I : SkipInv doc st₀ st) (p : 
   pub skip-less : length doc - getD st' at-word 0 < length doc - getD st at-word 0
   skip-less = omega (arith, p .later, p .cursor .inside)
 
-pub skip-ready : (doc : Text) (st₀ st : List ℕ) → SkipInv doc st₀ st → length st₀ ≡ 212 → (Cursor doc st × TokenHere doc st) × (length st ≡ 212)
+pub skip-ready : (doc : Text) (st₀ st : List ℕ) → SkipInv doc st₀ st → length st₀ ≡ words-size → (Cursor doc st × TokenHere doc st) × (length st ≡ words-size)
 skip-ready doc st₀ st I n = ((I .cursor, token-there doc st 21 (I .cursor) (I .kind) (λ h. omega arith) (λ h. omega arith)), I .words ∙ n)

@@ -6,9 +6,10 @@ use Prim.Native.Nat.{ℕ, _+_, _-_, _≤_, _<_}
 use native.Mathlib.Omega.{arith}
 use lib.ListN.{length, getD, set, length-set}
 use lib.Seq.{getD-set-same, getD-set-other}
+use Rattle.scope.specs.Code.{words-size}
 use Rattle.text.specs.Text.{Text}
 use Rattle.lexer.specs.Rest.{rest}
-use Rattle.state.specs.Words.{kind-word, at-word, len-word, clear-word}
+use Rattle.state.specs.Words.{kind-word, at-word, len-word, clear-word, depth-word, graph-word, last-word, list-word, opened-word, x-word, y-word}
 use Rattle.state.specs.Cursor.{ahead, remaining, Cursor, TokenHere, Sought}
 use Rattle.nodes.specs.Nodes.{Aimed, Passed}
 
@@ -17,54 +18,54 @@ module _ (doc : Text) (st st' : List ℕ) (same : (k : ℕ) → kind-word ≤ k 
   pub token-words : TokenHere doc st → TokenHere doc st'
   token-words t =
       record {
-        known = rw (same 71 (omega arith) (omega arith)) (t .known);
-        some-byte = rw (same 73 (omega arith) (omega arith)) (t .some-byte);
-        here-valid = rw (same 72 (omega arith) (omega arith)) (t .here-valid);
-        matched = rw (same 71 (omega arith) (omega arith), same 72 (omega arith) (omega arith), same 73 (omega arith) (omega arith)) (t .matched);
-        valid = rw (same 72 (omega arith) (omega arith), same 73 (omega arith) (omega arith)) (t .valid);
-        clear = rw (same 72 (omega arith) (omega arith), same 73 (omega arith) (omega arith), same 74 (omega arith) (omega arith)) (t .clear);
+        known = rw (same kind-word (omega arith) (omega arith)) (t .known);
+        some-byte = rw (same len-word (omega arith) (omega arith)) (t .some-byte);
+        here-valid = rw (same at-word (omega arith) (omega arith)) (t .here-valid);
+        matched = rw (same kind-word (omega arith) (omega arith), same at-word (omega arith) (omega arith), same len-word (omega arith) (omega arith)) (t .matched);
+        valid = rw (same at-word (omega arith) (omega arith), same len-word (omega arith) (omega arith)) (t .valid);
+        clear = rw (same at-word (omega arith) (omega arith), same len-word (omega arith) (omega arith), same clear-word (omega arith) (omega arith)) (t .clear);
       }
 
   pub cursor-words : Cursor doc st → Cursor doc st'
   cursor-words c =
       record {
         size = c .size;
-        inside = rw (same 72 (omega arith) (omega arith), same 73 (omega arith) (omega arith)) (c .inside);
-        at-end = λ e. same 72 (omega arith) (omega arith) ∙ c .at-end (sym (same 71 (omega arith) (omega arith)) ∙ e);
-        token = λ x y. token-words (c .token (λ e. x (same 71 (omega arith) (omega arith) ∙ e)) (λ e. y (same 71 (omega arith) (omega arith) ∙ e)));
+        inside = rw (same at-word (omega arith) (omega arith), same len-word (omega arith) (omega arith)) (c .inside);
+        at-end = λ e. same at-word (omega arith) (omega arith) ∙ c .at-end (sym (same kind-word (omega arith) (omega arith)) ∙ e);
+        token = λ x y. token-words (c .token (λ e. x (same kind-word (omega arith) (omega arith) ∙ e)) (λ e. y (same kind-word (omega arith) (omega arith) ∙ e)));
       }
 
   pub left-words : remaining doc st' ≡ remaining doc st
-  left-words = rw (same 71 (omega arith) (omega arith), same 72 (omega arith) (omega arith), same 73 (omega arith) (omega arith))
+  left-words = rw (same kind-word (omega arith) (omega arith), same at-word (omega arith) (omega arith), same len-word (omega arith) (omega arith))
 
-module _ (doc : Text) (st st' : List ℕ) (t : TokenHere doc st) (s : Sought doc (getD st 72 0 + getD st 73 0) st st') where
-  pub passed : Passed doc st st' (getD st 75 0) (getD st 76 0)
+module _ (doc : Text) (st st' : List ℕ) (t : TokenHere doc st) (s : Sought doc (getD st at-word 0 + getD st len-word 0) st st') where
+  pub passed : Passed doc st st' (getD st depth-word 0) (getD st graph-word 0)
   passed =
       record {
         cursor = s .cursor;
         tokens = s .tokens;
         later = omega (arith, s .later, t .some-byte);
-        depth-is = s .beside 75 (inr (omega arith));
-        graph-is = s .beside 76 (inr (omega arith));
+        depth-is = s .beside depth-word (inr (omega arith));
+        graph-is = s .beside graph-word (inr (omega arith));
         before = λ k h. s .beside k (inl h);
         spot = λ k h. s .beside k (inr (omega arith));
         words = s .words;
       }
 
   -- One word more was put, behind the cursor's and before the place's.
-  module _ (st'' : List ℕ) (i v : ℕ) (low : 74 < i) (high : i < 77) (n : length st ≡ 212) (e : st'' ≡ set st' i v) where
+  module _ (st'' : List ℕ) (i v : ℕ) (low : clear-word < i) (high : i < list-word) (n : length st ≡ words-size) (e : st'' ≡ set st' i v) where
     other : (k : ℕ) → (k ≡ i → ⊥) → getD st'' k 0 ≡ getD st' k 0
     other k h = ap (λ (l : List ℕ). getD l k 0) e ∙ getD-set-other st' i k v 0 h
 
     put-same : getD st'' i 0 ≡ v
     put-same = ap (λ (l : List ℕ). getD l i 0) e ∙ getD-set-same st' i v 0 (omega (arith, s .words))
 
-    passed-put : (d g : ℕ) → getD st'' 75 0 ≡ d → getD st'' 76 0 ≡ g → Passed doc st st'' d g
+    passed-put : (d g : ℕ) → getD st'' depth-word 0 ≡ d → getD st'' graph-word 0 ≡ g → Passed doc st st'' d g
     passed-put d g ed eg =
         record {
           cursor = cursor-words doc st' st'' (λ k x y. other k (λ z. omega arith)) (s .cursor);
           tokens = s .tokens ∙ sym (left-words doc st' st'' (λ k x y. other k (λ z. omega arith)));
-          later = rw (other 72 (λ z. omega arith)) (omega (arith, s .later, t .some-byte));
+          later = rw (other at-word (λ z. omega arith)) (omega (arith, s .later, t .some-byte));
           depth-is = ed;
           graph-is = eg;
           before = λ k h. other k (λ z. omega arith) ∙ s .beside k (inl h);
@@ -72,59 +73,59 @@ module _ (doc : Text) (st st' : List ℕ) (t : TokenHere doc st) (s : Sought doc
           words = ap length e ∙ (length-set st' i v ∙ s .words);
         }
 
-  pub passed-leave : (st'' : List ℕ) → length st ≡ 212 → st'' ≡ set st' 75 (getD st' 75 0 - 1) → Passed doc st st'' (getD st 75 0 - 1) (getD st 76 0)
+  pub passed-leave : (st'' : List ℕ) → length st ≡ words-size → st'' ≡ set st' depth-word (getD st' depth-word 0 - 1) → Passed doc st st'' (getD st depth-word 0 - 1) (getD st graph-word 0)
   passed-leave st'' n e =
-      passed-put st'' 75 (getD st' 75 0 - 1) (omega arith) (omega arith) n e (getD st 75 0 - 1) (getD st 76 0)
-      (put-same st'' 75 (getD st' 75 0 - 1) (omega arith) (omega arith) n e ∙ ap (λ (x : ℕ). x - 1) (s .beside 75 (inr (omega arith))))
-      (other st'' 75 (getD st' 75 0 - 1) (omega arith) (omega arith) n e 76 (λ z. omega arith) ∙ s .beside 76 (inr (omega arith)))
+      passed-put st'' depth-word (getD st' depth-word 0 - 1) (omega arith) (omega arith) n e (getD st depth-word 0 - 1) (getD st graph-word 0)
+      (put-same st'' depth-word (getD st' depth-word 0 - 1) (omega arith) (omega arith) n e ∙ ap (λ (x : ℕ). x - 1) (s .beside depth-word (inr (omega arith))))
+      (other st'' depth-word (getD st' depth-word 0 - 1) (omega arith) (omega arith) n e graph-word (λ z. omega arith) ∙ s .beside graph-word (inr (omega arith)))
 
-  pub passed-enter : (g : ℕ) (st'' : List ℕ) → length st ≡ 212 → st'' ≡ set st' 76 g → Passed doc st st'' (getD st 75 0) g
+  pub passed-enter : (g : ℕ) (st'' : List ℕ) → length st ≡ words-size → st'' ≡ set st' graph-word g → Passed doc st st'' (getD st depth-word 0) g
   passed-enter g st'' n e =
-      passed-put st'' 76 g (omega arith) (omega arith) n e (getD st 75 0) g
-      (other st'' 76 g (omega arith) (omega arith) n e 75 (λ z. omega arith) ∙ s .beside 75 (inr (omega arith)))
-      (put-same st'' 76 g (omega arith) (omega arith) n e)
+      passed-put st'' graph-word g (omega arith) (omega arith) n e (getD st depth-word 0) g
+      (other st'' graph-word g (omega arith) (omega arith) n e depth-word (λ z. omega arith) ∙ s .beside depth-word (inr (omega arith)))
+      (put-same st'' graph-word g (omega arith) (omega arith) n e)
 
 -- The five words of a place.
-module _ (st : List ℕ) (list x y opened last : ℕ) (n : length st ≡ 212) where
+module _ (st : List ℕ) (list x y opened last : ℕ) (n : length st ≡ words-size) where
   abbrev s1 : List ℕ
-  s1 = set st 77 list
+  s1 = set st list-word list
 
   abbrev s2 : List ℕ
-  s2 = set s1 78 x
+  s2 = set s1 x-word x
 
   abbrev s3 : List ℕ
-  s3 = set s2 79 y
+  s3 = set s2 y-word y
 
   abbrev s4 : List ℕ
-  s4 = set s3 80 opened
+  s4 = set s3 opened-word opened
 
-  l1 : length s1 ≡ 212
-  l1 = length-set st 77 list ∙ n
+  l1 : length s1 ≡ words-size
+  l1 = length-set st list-word list ∙ n
 
-  l2 : length s2 ≡ 212
-  l2 = length-set s1 78 x ∙ l1
+  l2 : length s2 ≡ words-size
+  l2 = length-set s1 x-word x ∙ l1
 
-  l3 : length s3 ≡ 212
-  l3 = length-set s2 79 y ∙ l2
+  l3 : length s3 ≡ words-size
+  l3 = length-set s2 y-word y ∙ l2
 
-  l4 : length s4 ≡ 212
-  l4 = length-set s3 80 opened ∙ l3
+  l4 : length s4 ≡ words-size
+  l4 = length-set s3 opened-word opened ∙ l3
 
-  aimed-there : Aimed st (set s4 81 last) list x y opened last
+  aimed-there : Aimed st (set s4 last-word last) list x y opened last
   aimed-there =
       record {
-        list-is = past 81 last 77 s4 (λ e. omega arith) ∙ (past 80 opened 77 s3 (λ e. omega arith) ∙ (past 79 y 77 s2 (λ e. omega arith) ∙ (past 78 x 77 s1 (λ e. omega arith) ∙ getD-set-same st 77 list 0 (omega arith))));
-        x-is = past 81 last 78 s4 (λ e. omega arith) ∙ (past 80 opened 78 s3 (λ e. omega arith) ∙ (past 79 y 78 s2 (λ e. omega arith) ∙ getD-set-same s1 78 x 0 (omega (arith, l1))));
-        y-is = past 81 last 79 s4 (λ e. omega arith) ∙ (past 80 opened 79 s3 (λ e. omega arith) ∙ getD-set-same s2 79 y 0 (omega (arith, l2)));
-        opened-is = past 81 last 80 s4 (λ e. omega arith) ∙ getD-set-same s3 80 opened 0 (omega (arith, l3));
-        last-is = getD-set-same s4 81 last 0 (omega (arith, l4));
-        before = λ k h. past 81 last k s4 (λ e. omega arith) ∙ (past 80 opened k s3 (λ e. omega arith) ∙ (past 79 y k s2 (λ e. omega arith) ∙ (past 78 x k s1 (λ e. omega arith) ∙ getD-set-other st 77 k list 0 (λ e. omega arith))));
-        behind = λ k h. past 81 last k s4 (λ e. omega arith) ∙ (past 80 opened k s3 (λ e. omega arith) ∙ (past 79 y k s2 (λ e. omega arith) ∙ (past 78 x k s1 (λ e. omega arith) ∙ getD-set-other st 77 k list 0 (λ e. omega arith))));
-        words = length-set s4 81 last ∙ (l4 ∙ sym n);
+        list-is = past last-word last list-word s4 (λ e. omega arith) ∙ (past opened-word opened list-word s3 (λ e. omega arith) ∙ (past y-word y list-word s2 (λ e. omega arith) ∙ (past x-word x list-word s1 (λ e. omega arith) ∙ getD-set-same st list-word list 0 (omega arith))));
+        x-is = past last-word last x-word s4 (λ e. omega arith) ∙ (past opened-word opened x-word s3 (λ e. omega arith) ∙ (past y-word y x-word s2 (λ e. omega arith) ∙ getD-set-same s1 x-word x 0 (omega (arith, l1))));
+        y-is = past last-word last y-word s4 (λ e. omega arith) ∙ (past opened-word opened y-word s3 (λ e. omega arith) ∙ getD-set-same s2 y-word y 0 (omega (arith, l2)));
+        opened-is = past last-word last opened-word s4 (λ e. omega arith) ∙ getD-set-same s3 opened-word opened 0 (omega (arith, l3));
+        last-is = getD-set-same s4 last-word last 0 (omega (arith, l4));
+        before = λ k h. past last-word last k s4 (λ e. omega arith) ∙ (past opened-word opened k s3 (λ e. omega arith) ∙ (past y-word y k s2 (λ e. omega arith) ∙ (past x-word x k s1 (λ e. omega arith) ∙ getD-set-other st list-word k list 0 (λ e. omega arith))));
+        behind = λ k h. past last-word last k s4 (λ e. omega arith) ∙ (past opened-word opened k s3 (λ e. omega arith) ∙ (past y-word y k s2 (λ e. omega arith) ∙ (past x-word x k s1 (λ e. omega arith) ∙ getD-set-other st list-word k list 0 (λ e. omega arith))));
+        words = length-set s4 last-word last ∙ (l4 ∙ sym n);
       }
     where
       past : (i v k : ℕ) (l : List ℕ) → (k ≡ i → ⊥) → getD (set l i v) k 0 ≡ getD l k 0
       past i v k l h = getD-set-other l i k v 0 h
 
-  pub aimed : (st' : List ℕ) → st' ≡ set s4 81 last → Aimed st st' list x y opened last
+  pub aimed : (st' : List ℕ) → st' ≡ set s4 last-word last → Aimed st st' list x y opened last
   aimed st' e = subst (λ (l : List ℕ). Aimed st l list x y opened last) (sym e) aimed-there

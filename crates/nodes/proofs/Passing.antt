@@ -24,7 +24,7 @@ use Rattle.machine.specs.Rules.{find-rule, rules}
 use Rattle.machine.specs.Refusals.{no-character, undeclared, no-base, too-long, too-deep, new-depth}
 use Rattle.machine.specs.Step.{awaited-by}
 use Rattle.machine.specs.Demand.{Fits}
-use Rattle.state.specs.Words.{kind-word, at-word, len-word, depth-word, graph-word}
+use Rattle.state.specs.Words.{kind-word, at-word, len-word, depth-word, graph-word, blanks-word, rows-word, terms-word, used-word}
 use Rattle.state.specs.Cursor.{TokenHere}
 use Rattle.state.specs.Represents.{Tables, lent-tables, room-in, Represents}
 use Rattle.reading.specs.Reading.{Held, held, tables-of, here, Holding, Ready, Same, Comes, token-refusal, Done, Does}
@@ -41,14 +41,14 @@ represents-words old m work t st st' same eg n r =
       usable = record { room = r .usable .room; words = n ∙ r .usable .words };
       environment = e ∙ r .environment;
       base = r .base;
-      terms-held = rw (same 67 (omega arith), same 68 (omega arith), same 69 (omega arith)) (r .terms-held);
-      rows-held = rw (same 66 (omega arith)) (r .rows-held);
+      terms-held = rw (same terms-word (omega arith), same used-word (omega arith), same blanks-word (omega arith)) (r .terms-held);
+      rows-held = rw (same rows-word (omega arith)) (r .rows-held);
       graph = eg ∙ r .graph;
       graph-small = r .graph-small;
       fits = r .fits;
-      same-rows = rw (same 66 (omega arith)) (r .same-rows);
-      same-terms = rw (same 67 (omega arith)) (r .same-terms);
-      same-store = rw (same 68 (omega arith)) (r .same-store);
+      same-rows = rw (same rows-word (omega arith)) (r .same-rows);
+      same-terms = rw (same terms-word (omega arith)) (r .same-terms);
+      same-store = rw (same used-word (omega arith)) (r .same-store);
     }
 
 -- Another graph.
@@ -60,14 +60,14 @@ represents-graph old m work t st st' g same eg small n r =
       usable = record { room = r .usable .room; words = n ∙ r .usable .words };
       environment = e ∙ r .environment;
       base = r .base;
-      terms-held = rw (same 67 (omega arith), same 68 (omega arith), same 69 (omega arith)) (r .terms-held);
-      rows-held = rw (same 66 (omega arith)) (r .rows-held);
+      terms-held = rw (same terms-word (omega arith), same used-word (omega arith), same blanks-word (omega arith)) (r .terms-held);
+      rows-held = rw (same rows-word (omega arith)) (r .rows-held);
       graph = eg;
       graph-small = small;
       fits = record { rows = r .fits .rows; terms = r .fits .terms; store = r .fits .store };
-      same-rows = rw (same 66 (omega arith)) (r .same-rows);
-      same-terms = rw (same 67 (omega arith)) (r .same-terms);
-      same-store = rw (same 68 (omega arith)) (r .same-store);
+      same-rows = rw (same rows-word (omega arith)) (r .same-rows);
+      same-terms = rw (same terms-word (omega arith)) (r .same-terms);
+      same-store = rw (same used-word (omega arith)) (r .same-store);
     }
 
 -- A kind whose tokens meet no refusal of their own.

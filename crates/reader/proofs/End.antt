@@ -16,7 +16,7 @@ use Rattle.machine.specs.Memory.{Memory, start-memory}
 use Rattle.machine.specs.Frame.{statement}
 use Rattle.machine.specs.Step.{Outcome, accepted, refused}
 use Rattle.machine.specs.Read.{Answer, refusal, success, reported, mode-of, read-tokens}
-use Rattle.state.specs.Words.{at-word}
+use Rattle.state.specs.Words.{at-word, rows-word, terms-word, used-word}
 use Rattle.state.proofs.Counted.{counted-run}
 use Rattle.reading.specs.Reading.{Held, tables-of, Holding, goes}
 use Rattle.reader.specs.declared.Reading.{Reading}
@@ -61,11 +61,11 @@ module _ (doc base work : Text) (mode : ℕ) (a b : Held) (n : ℕ) (K : Checked
     store-count = W .store-count ∙ H .terms-held .keeps .used;
     work = zeros-for (after .work) (length (b .work .now)) (length work) (W .work) (R .same .work-length ∙ S .long);
     rows = W .rows
-        ∙ in-front (b .rows .now) (a .rows .now) (rows-words (m .rows)) (5 * getD (b .st) 66 0) (H .rows-held .words) (H .same-rows) (omega (arith, H .rows-held .size, rows-length (m .rows)));
+        ∙ in-front (b .rows .now) (a .rows .now) (rows-words (m .rows)) (5 * getD (b .st) rows-word 0) (H .rows-held .words) (H .same-rows) (omega (arith, H .rows-held .size, rows-length (m .rows)));
     terms = W .terms
-        ∙ in-front (b .terms .now) (a .terms .now) (terms-words (m .terms)) (5 * getD (b .st) 67 0) (H .terms-held .keeps .words) (H .same-terms) (omega (arith, H .terms-held .keeps .count, terms-length m));
+        ∙ in-front (b .terms .now) (a .terms .now) (terms-words (m .terms)) (5 * getD (b .st) terms-word 0) (H .terms-held .keeps .words) (H .same-terms) (omega (arith, H .terms-held .keeps .count, terms-length m));
     store = W .store
-        ∙ in-front (b .store .now) (a .store .now) (store-bytes (m .terms)) (getD (b .st) 68 0) (H .terms-held .keeps .bytes) (H .same-store) (H .terms-held .keeps .used ∙ sym (bytes-length (m .terms)));
+        ∙ in-front (b .store .now) (a .store .now) (store-bytes (m .terms)) (getD (b .st) used-word 0) (H .terms-held .keeps .bytes) (H .same-store) (H .terms-held .keeps .used ∙ sym (bytes-length (m .terms)));
   }
 
   refuses : (n ≡ 0 → ⊥) → Gives (refusal n (getD (b .st) at-word 0)) before after r

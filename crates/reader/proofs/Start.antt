@@ -26,7 +26,7 @@ use Rattle.table.specs.Tables.{rows-words, store-size}
 use Rattle.index.proofs.Indexes.{holds-none}
 use Rattle.machine.specs.Memory.{start-memory}
 use Rattle.machine.specs.Read.{bad-base}
-use Rattle.state.specs.Words.{counts-of}
+use Rattle.state.specs.Words.{counts-of, blanks-word, clear-word, depth-word, graph-word, kind-word, rows-word, terms-word, used-word}
 use Rattle.state.specs.Cursor.{Sought}
 use Rattle.reading.specs.Reading.{Held, Holding, tables-of, Ready}
 use Rattle.reader.specs.Stages.{Checked, Started}
@@ -88,21 +88,21 @@ module _ {doc base work work₁ work₂ : Text} {st st₁ : List ℕ} {b : Bool}
   -- The cursor goes to the first token.
   pub started : (st₂ : List ℕ) → Sought doc 0 st₁ st₂ → Started doc base work work₂ st₂
   started st₂ Q =
-      let zero-own : (k : ℕ) → 66 ≤ k → getD st₁ k 0 ≡ 0 = λ k h. set .beside .own k h ∙ (ap (λ (l : List ℕ). getD l k 0) f ∙ zero-at words-size k) in
-      let before : (k : ℕ) → 66 ≤ k → k < 71 → getD st₂ k 0 ≡ 0 = λ k h g. Q .beside k (inl g) ∙ zero-own k h in
-      let behind : (k : ℕ) → 74 < k → getD st₂ k 0 ≡ 0 = λ k h. Q .beside k (inr h) ∙ zero-own k (omega arith) in
+      let zero-own : (k : ℕ) → rows-word ≤ k → getD st₁ k 0 ≡ 0 = λ k h. set .beside .own k h ∙ (ap (λ (l : List ℕ). getD l k 0) f ∙ zero-at words-size k) in
+      let before : (k : ℕ) → rows-word ≤ k → k < kind-word → getD st₂ k 0 ≡ 0 = λ k h g. Q .beside k (inl g) ∙ zero-own k h in
+      let behind : (k : ℕ) → clear-word < k → getD st₂ k 0 ≡ 0 = λ k h. Q .beside k (inr h) ∙ zero-own k (omega arith) in
       let long : length work₂ ≡ length work = set .beside .long ∙ long₁ in
       record {
         long = long;
         usable = record { room = omega (arith, long, K .room); words = Q .words ∙ set .usable .words };
         environment = in-force-words work₂ st₁ st₂ (λ k h. Q .beside k (inl (omega arith))) ∙ based;
         index = set .beside .behind ∙ (ap (drop 35840) e ∙ (drop-zeros 35840 (length work) ∙ ap (λ (n : ℕ). zeros (n - 35840)) (sym long)));
-        rows = before 66 (omega arith) (omega arith);
-        terms = before 67 (omega arith) (omega arith);
-        used = before 68 (omega arith) (omega arith);
-        blanks = before 69 (omega arith) (omega arith);
-        depth = behind 75 (omega arith);
-        graph = behind 76 (omega arith);
+        rows = before rows-word (omega arith) (omega arith);
+        terms = before terms-word (omega arith) (omega arith);
+        used = before used-word (omega arith) (omega arith);
+        blanks = before blanks-word (omega arith) (omega arith);
+        depth = behind depth-word (omega arith);
+        graph = behind graph-word (omega arith);
         cursor = Q .cursor;
         tokens = from-first doc ∙ Q .tokens;
       }

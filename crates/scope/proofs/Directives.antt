@@ -12,7 +12,7 @@ use Rattle.text.specs.Text.{Text, cond}
 use Rattle.text.specs.Slice.{over, over-at}
 use Rattle.text.proofs.Over.{over-at-length, over-at-back, over-part}
 use Rattle.scope.specs.Environment.{Binding, bind, bound, start-environment}
-use Rattle.scope.specs.Code.{is-declared, declare-answer, after-declare, at-most, cell, binding, count, listed, place, base-cell, environment-in, Usable, WroteBinding, Beside, Declares, SetsBase}
+use Rattle.scope.specs.Code.{words-size, is-declared, declare-answer, after-declare, at-most, cell, binding, count, listed, place, base-cell, environment-in, Usable, WroteBinding, Beside, Declares, SetsBase}
 use Rattle.scope.specs.declared.Declared.the-variants.{Done, TooLong, TooMany}
 use Rattle.scope.proofs.Bindings.{not-declared, declared-at, listed-length, listed-same, declare-again, declare-new}
 use Rattle.scope.proofs.Cells.{cell-read, most-at, most-small, cell-new, kept-before, front-cell, binding-new, binding-other, base-stays, count-stays, written-usable, written-beside}
@@ -93,8 +93,8 @@ module _ (work : Text) (lens : List ℕ) (p ns : Text) (u : Usable work lens) wh
         pub declared-first : (lens'' : List ℕ) → n ≤ i → lens'' ≡ set lens' 64 (n + 1) → Declares work work' lens lens'' p ns Done
         unfolding after-declare environment-in
         declared-first lens'' h e'' =
-            let words : length lens' ≡ 212 = written-usable work work' lens lens' i p ns w u small hp hn .words in
-            let words'' : length lens'' ≡ 212 = ap length e'' ∙ (length-set lens' 64 (n + 1) ∙ words) in
+            let words : length lens' ≡ words-size = written-usable work work' lens lens' i p ns w u small hp hn .words in
+            let words'' : length lens'' ≡ words-size = ap length e'' ∙ (length-set lens' 64 (n + 1) ∙ words) in
             let total : getD lens'' 64 0 ≡ n + 1 = ap (λ (l : List ℕ). getD l 64 0) e'' ∙ getD-set-same lens' 64 (n + 1) 0 (omega arith) in
             let c : count lens'' ≡ suc n = rw total (most-small (n + 1) 32 (omega arith) ∙ omega arith) in
             let same : (k : ℕ) → (k ≡ 64 → ⊥) → getD lens'' k 0 ≡ getD lens' k 0 = λ k q. ap (λ (l : List ℕ). getD l k 0) e'' ∙ getD-set-other lens' 64 k (n + 1) 0 q in

@@ -40,7 +40,7 @@ abbrev pub own-word : ℕ
 own-word = suc base-word
 
 abbrev pub words-size : ℕ
-words-size = own-word + 146
+words-size = own-word + 178
 
 unfoldable pub binding : Text → List ℕ → ℕ → Binding
 binding work lens i = record {

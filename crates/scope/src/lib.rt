@@ -22,7 +22,7 @@ impl Layout {
 
     pub const OWN: usize = Self::COUNT + 2;
 
-    pub const WORDS: usize = Self::OWN + 146;
+    pub const WORDS: usize = Self::OWN + 178;
 
     // Nothing is declared, and there is no base.
     pub fn fresh() -> [usize; Layout::WORDS]

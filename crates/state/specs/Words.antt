@@ -6,60 +6,66 @@ use lib.ListN.{getD}
 use Rattle.scope.specs.Code.{own-word}
 use Rattle.terms.specs.declared.Counts.{Counts}
 
--- How far the tables are filled, and the node that was written last.
+-- How far the tables are filled; where numbers of IRIs are kept; the node that was written last.
 abbrev pub rows-word : ℕ
 rows-word = own-word
 
 abbrev pub terms-word : ℕ
-terms-word = own-word + 1
+terms-word = rows-word + 1
 
 abbrev pub used-word : ℕ
-used-word = own-word + 2
+used-word = terms-word + 1
 
 abbrev pub blanks-word : ℕ
-blanks-word = own-word + 3
+blanks-word = used-word + 1
+
+abbrev pub kept-word : ℕ
+kept-word = blanks-word + 1
+
+abbrev pub kept-size : ℕ
+kept-size = 32
 
 abbrev pub node-word : ℕ
-node-word = own-word + 4
+node-word = kept-word + kept-size
 
 -- The token at the cursor.
 abbrev pub kind-word : ℕ
-kind-word = own-word + 5
+kind-word = node-word + 1
 
 abbrev pub at-word : ℕ
-at-word = own-word + 6
+at-word = kind-word + 1
 
 abbrev pub len-word : ℕ
-len-word = own-word + 7
+len-word = at-word + 1
 
 abbrev pub clear-word : ℕ
-clear-word = own-word + 8
+clear-word = len-word + 1
 
 abbrev pub depth-word : ℕ
-depth-word = own-word + 9
+depth-word = clear-word + 1
 
 abbrev pub graph-word : ℕ
-graph-word = own-word + 10
+graph-word = depth-word + 1
 
 -- Where the next node belongs.
 abbrev pub list-word : ℕ
-list-word = own-word + 11
+list-word = graph-word + 1
 
 abbrev pub x-word : ℕ
-x-word = own-word + 12
+x-word = list-word + 1
 
 abbrev pub y-word : ℕ
-y-word = own-word + 13
+y-word = x-word + 1
 
 abbrev pub opened-word : ℕ
-opened-word = own-word + 14
+opened-word = y-word + 1
 
 abbrev pub last-word : ℕ
-last-word = own-word + 15
+last-word = opened-word + 1
 
 -- What is resumed at each depth: two words a depth, from here on.
 abbrev pub level-word : ℕ
-level-word = own-word + 16
+level-word = last-word + 1
 
 abbrev pub counts-of : List ℕ → Counts
 counts-of st = record { terms = getD st terms-word 0; used = getD st used-word 0; blanks = getD st blanks-word 0 }

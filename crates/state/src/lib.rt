@@ -14,35 +14,39 @@ impl Words {
 
     pub const TERMS: usize = Self::ROWS + 1;
 
-    pub const USED: usize = Self::ROWS + 2;
+    pub const USED: usize = Self::TERMS + 1;
 
-    pub const BLANKS: usize = Self::ROWS + 3;
+    pub const BLANKS: usize = Self::USED + 1;
+    // Numbers of IRIs that were asked for before: where a search begins, and nothing that is believed.
+    pub const KEPT: usize = Self::BLANKS + 1;
+
+    pub const KEPT_SIZE: usize = 32;
     // The number of the node that was written last.
-    pub const NODE: usize = Self::ROWS + 4;
+    pub const NODE: usize = Self::KEPT + Self::KEPT_SIZE;
     // The token at the cursor: its kind, or END, or UNREADABLE; its place and length; how far no prefixed name begins behind it.
-    pub const KIND: usize = Self::ROWS + 5;
+    pub const KIND: usize = Self::NODE + 1;
 
-    pub const AT: usize = Self::ROWS + 6;
+    pub const AT: usize = Self::KIND + 1;
 
-    pub const LEN: usize = Self::ROWS + 7;
+    pub const LEN: usize = Self::AT + 1;
 
-    pub const CLEAR: usize = Self::ROWS + 8;
+    pub const CLEAR: usize = Self::LEN + 1;
     // How many brackets are open; the graph that is open.
-    pub const DEPTH: usize = Self::ROWS + 9;
+    pub const DEPTH: usize = Self::CLEAR + 1;
 
-    pub const GRAPH: usize = Self::ROWS + 10;
+    pub const GRAPH: usize = Self::DEPTH + 1;
     // Where the next node belongs: in a list or not; to what; where the list was opened, and its last cell.
-    pub const LIST: usize = Self::ROWS + 11;
+    pub const LIST: usize = Self::GRAPH + 1;
 
-    pub const X: usize = Self::ROWS + 12;
+    pub const X: usize = Self::LIST + 1;
 
-    pub const Y: usize = Self::ROWS + 13;
+    pub const Y: usize = Self::X + 1;
 
-    pub const OPENED: usize = Self::ROWS + 14;
+    pub const OPENED: usize = Self::Y + 1;
 
-    pub const LAST: usize = Self::ROWS + 15;
+    pub const LAST: usize = Self::OPENED + 1;
     // What is resumed at each depth, from 0 to the limit, once a node is complete there: two words a depth.
-    pub const LEVELS: usize = Self::ROWS + 16;
+    pub const LEVELS: usize = Self::LAST + 1;
 
     pub const END: usize = 0;
 

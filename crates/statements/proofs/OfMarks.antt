@@ -8,6 +8,7 @@ use native.Mathlib.Omega.{arith}
 use lib.Dec.{T}
 use lib.ListN.{length, getD}
 use denote.Ref.{RefT}
+use Rattle.scope.specs.Code.{words-size}
 use Rattle.text.specs.Text.{Text}
 use Rattle.text.proofs.Booleans.{imp, imp-use, all}
 use Rattle.token.specs.Kind.{Kind, kinds, kind-of-code, among, close-bracket, close-paren}
@@ -88,5 +89,5 @@ module _ (doc : Text) (work rows terms store : RefT (List ℕ)) (st st' : List �
       turns-does mode doc (λ m. (0, m)) o p a b 0 ready token-here some-here (passed-same doc work rows terms store st st' k (getD st depth-word 0) 0 e (mark .quiet) P same-depth) w (return p)
       (ap (λ (x : ℕ). find-rule (kind-of-code x) (rules (here doc a) (tied-here doc a token-here some-here) mode o)) e ∙ rule (tied-here doc a token-here some-here)) (λ old m h. (refl, λ y. refl))
 
-pub mark-call : (doc : Text) (h : Held) (k : ℕ) → Mark k → Ready doc h → getD (h .st) kind-word 0 ≡ k → (Cursor doc (h .st) × TokenHere doc (h .st)) × (length (h .st) ≡ 212)
+pub mark-call : (doc : Text) (h : Held) (k : ℕ) → Mark k → Ready doc h → getD (h .st) kind-word 0 ≡ k → (Cursor doc (h .st) × TokenHere doc (h .st)) × (length (h .st) ≡ words-size)
 mark-call doc h k mark r e = pass-call doc h k r e (mark .some-kind) (mark .readable)

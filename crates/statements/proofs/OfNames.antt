@@ -9,6 +9,7 @@ use borrow.Author.Tests.{ne-eqb}
 use lib.Dec.{T, eqb}
 use lib.ListN.{length, getD}
 use denote.Ref.{RefT}
+use Rattle.scope.specs.Code.{words-size}
 use Rattle.text.specs.Text.{Text}
 use Rattle.text.proofs.Compare.{contrary}
 use Rattle.text.proofs.Booleans.{imp, imp-use, all, is-true}
@@ -110,7 +111,7 @@ module _ (doc : Text) (work rows terms store : RefT (List ℕ)) (st st1 st2 : Li
       (turns-comes trig doc (on-top (graph-label ∷ [])) (on-top (graph-label ∷ [])) a1 a 0 (comes-aimed doc work rows terms store st1 st2 (w .before) (w .words) (on-top (graph-label ∷ [])) (passed .ready refl)) [])
 
   aimed-later : getD st at-word 0 < getD st2 at-word 0
-  aimed-later = rw (w .before 72 (omega arith)) (p .later)
+  aimed-later = rw (w .before at-word (omega arith)) (p .later)
 
   pub name-ready : Ready doc a
   name-ready = aimed .ready refl
@@ -258,7 +259,7 @@ module _ (doc : Text) (work rows terms store : RefT (List ℕ)) (st st1 st2 : Li
       unfolding new-depth
       deeper = N .gives .does .done z .depth ∙ rw k22
 
-      pub bracket-leave : getD u kind-word 0 ≡ 23 → (Cursor doc u × TokenHere doc u) × ((length u ≡ 212) × (0 < getD u depth-word 0))
+      pub bracket-leave : getD u kind-word 0 ≡ 23 → (Cursor doc u × TokenHere doc u) × ((length u ≡ words-size) × (0 < getD u depth-word 0))
       bracket-leave c = leave-call doc b 23 bracket-ready c (λ h. omega arith) (λ h. omega arith) (omega (arith, deeper))
 
       module _ (u' : List ℕ) (c : getD u kind-word 0 ≡ 23) (left : Passed doc u u' (getD u depth-word 0 - 1) (getD u graph-word 0)) where

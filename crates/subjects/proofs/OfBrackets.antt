@@ -43,7 +43,7 @@ module _ (doc : Text) (work₀ rows₀ terms₀ store₀ : RefT (List ℕ)) (st 
   a1 = held work₀ rows₀ terms₀ store₀ st'
 
   kind-1 : getD st' kind-word 0 ≡ 22
-  kind-1 = aim .before 71 (omega arith) ∙ k
+  kind-1 = aim .before kind-word (omega arith) ∙ k
 
   ready-1 : Ready doc a1
   ready-1 = ready-aimed doc work₀ rows₀ terms₀ store₀ st st' (aim .before) (aim .words) ready
@@ -98,7 +98,7 @@ module _ (doc : Text) (work₀ rows₀ terms₀ store₀ : RefT (List ℕ)) (st 
       bracket-deep = omega (arith, depth-b)
 
       later-b : getD st at-word 0 < getD u at-word 0
-      later-b = omega (arith, N .gives .does .done z .later, aim .before 72 (omega arith))
+      later-b = omega (arith, N .gives .does .done z .later, aim .before at-word (omega arith))
 
       at-once : (mode : Mode) (o : Open) (place : Place) → SubjectAt mode doc a o place → (gs : List Frame) (c : Held) (q : ℕ) → Reads doc (bracket place (getD u node-word 0) ∷ []) gs b c q → Turns mode doc o (statement (gs ++ [])) a c q
       at-once mode o place s gs c q R =

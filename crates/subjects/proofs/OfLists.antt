@@ -44,7 +44,7 @@ module _ (doc : Text) (work₀ rows₀ terms₀ store₀ : RefT (List ℕ)) (st 
   a1 = held work₀ rows₀ terms₀ store₀ st'
 
   kind-1 : getD st' kind-word 0 ≡ 24
-  kind-1 = aim .before 71 (omega arith) ∙ k
+  kind-1 = aim .before kind-word (omega arith) ∙ k
 
   ready-1 : Ready doc a1
   ready-1 = ready-aimed doc work₀ rows₀ terms₀ store₀ st st' (aim .before) (aim .words) ready
@@ -75,7 +75,7 @@ module _ (doc : Text) (work₀ rows₀ terms₀ store₀ : RefT (List ℕ)) (st 
         (s1 .rules-are (here doc a1 .kind) (tied-here doc a1 token-1 some-kind) (rw kind-1) ∙ rw kind-1)
         (λ old m x. (
           ap (λ (y : ℕ × Memory). y .1) (sym (nothing-written m)),
-          λ y. ap (λ (n : ℕ). statement (list (list-place place) n no-cell ∷ [])) (aim .before 72 (omega arith)),
+          λ y. ap (λ (n : ℕ). statement (list (list-place place) n no-cell ∷ [])) (aim .before at-word (omega arith)),
         )))
 
     refused : (c : Held) (q : ℕ) → (q ≡ 0 → ⊥) → ((mode : Mode) (o : Open) (place : Place) → SubjectAt mode doc a o place → (p : Open) × Turns mode doc o p a c q) → Subject doc a c q
@@ -106,7 +106,7 @@ module _ (doc : Text) (work₀ rows₀ terms₀ store₀ : RefT (List ℕ)) (st 
         ready-b1 = ready-aimed doc work rows terms store u u' (aim' .before) (aim' .words) list-opened
 
         pub list-entered : (Ready doc b1 × Spotted b1) × (0 < getD u' depth-word 0)
-        list-entered = ((ready-b1, spotted work rows terms store u u' 0 0 0 at 0 aim' (omega arith) (omega arith) (omega (arith, place-small doc a ready)) (omega arith)), omega (arith, depth-b, aim' .before 75 (omega arith)))
+        list-entered = ((ready-b1, spotted work rows terms store u u' 0 0 0 at 0 aim' (omega arith) (omega arith) (omega (arith, place-small doc a ready)) (omega arith)), omega (arith, depth-b, aim' .before depth-word (omega arith)))
 
         pub list-first : getD u' terms-word 0 + 1 < 4294967296
         list-first = next-small doc b1 ready-b1
@@ -134,7 +134,7 @@ module _ (doc : Text) (work₀ rows₀ terms₀ store₀ : RefT (List ℕ)) (st 
             elements-done = L .reads (subject-before full-stop) (aim' .x-is) .ready w
 
             later-d : getD st at-word 0 < getD y at-word 0
-            later-d = omega (arith, D .done z .later, aim .before 72 (omega arith), aim' .before 72 (omega arith), L .reads (subject-before full-stop) (aim' .x-is) .later w)
+            later-d = omega (arith, D .done z .later, aim .before at-word (omega arith), aim' .before at-word (omega arith), L .reads (subject-before full-stop) (aim' .x-is) .later w)
 
             ends-with : (n : ℕ) → n ≡ list-node b1 d → (y' : List ℕ) → Aimed y y' 1 n 0 0 0 → Subject doc a (held work₂ rows₂ terms₂ store₂ y') 0
             ends-with n en y' aim'' =

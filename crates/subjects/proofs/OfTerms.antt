@@ -34,7 +34,7 @@ label-token : (k : ℕ) → code-among label-kinds k ≡ true → (k ≡ 0 → �
 label-token k v = ((λ e. contrary (sym (rw e at v))), (λ e. contrary (sym (rw e at v))))
 
 -- Where the next node belongs changes nothing, in any mode.
-pub turns-aimed : (mode : Mode) (doc : Text) (work rows terms store : RefT (List ℕ)) (st st' : List ℕ) → ((k : ℕ) → k < 77 → getD st' k 0 ≡ getD st k 0) → length st' ≡ length st → (o : Open) → Ready doc (held work rows terms store st)
+pub turns-aimed : (mode : Mode) (doc : Text) (work rows terms store : RefT (List ℕ)) (st st' : List ℕ) → ((k : ℕ) → k < list-word → getD st' k 0 ≡ getD st k 0) → length st' ≡ length st → (o : Open) → Ready doc (held work rows terms store st)
     → Turns mode doc o o (held work rows terms store st) (held work rows terms store st') 0
 turns-aimed mode doc work rows terms store st st' same n o r =
     turns-comes mode doc (λ (x : Unit {0}). o) (λ (x : Unit {0}). o) (held work rows terms store st) (held work rows terms store st') 0 (comes-aimed doc work rows terms store st st' same n (λ (x : Unit {0}). o) r) tt
@@ -47,7 +47,7 @@ module _ (doc : Text) (work rows terms store : RefT (List ℕ)) (st st' : List �
   a1 = held work rows terms store st'
 
   same-kind : getD st' kind-word 0 ≡ getD st kind-word 0
-  same-kind = aim .before 71 (omega arith)
+  same-kind = aim .before kind-word (omega arith)
 
   ready-1 : Ready doc a1
   ready-1 = ready-aimed doc work rows terms store st st' (aim .before) (aim .words) ready
@@ -96,7 +96,7 @@ module _ (doc : Text) (work rows terms store : RefT (List ℕ)) (st st' : List �
       numbers : (getD (b .st) node-word 0 < 4294967296) × ((0 < getD (b .st) node-word 0) × (getD st at-word 0 < getD (b .st) at-word 0))
       numbers =
           let (v, q) = term-rule (here doc a1) (here doc a1 .kind) (label-term-kind (here doc a1 .kind) label-1) in
-          (P v q .gives .small z, (P v q .positive z, omega (arith, P v q .gives .does .done z .later, aim .before 72 (omega arith))))
+          (P v q .gives .small z, (P v q .positive z, omega (arith, P v q .gives .does .done z .later, aim .before at-word (omega arith))))
 
       pub term-ready : Ready doc b
       term-ready =
@@ -117,7 +117,7 @@ module _ (doc : Text) (a : Held) (work rows terms store : RefT (List ℕ)) (u u'
         small = λ z. rw (aim .x-is) h;
         positive = λ z. rw (aim .x-is) p;
         shape = λ z. rw (aim .list-is) l;
-        later = λ z. omega (arith, e, aim .before 72 (omega arith));
+        later = λ z. omega (arith, e, aim .before at-word (omega arith));
       }
 
 -- A term as subject, done; or nothing that may be one.

@@ -22,7 +22,7 @@ use Rattle.nodes.proofs.Slots.{found-made, found-front}
 use Rattle.grammar.specs.Productions.{Mode}
 use Rattle.reading.specs.Reading.{Held, held, here}
 use Rattle.machine.specs.Refusals.{new-depth}
-use Rattle.state.specs.Words.{kind-word, depth-word}
+use Rattle.state.specs.Words.{kind-word, depth-word, at-word, len-word, list-word}
 use Rattle.nodes.proofs.Moving.{token-words}
 use denote.Ref.{RefT}
 use native.Mathlib.Omega.{arith}
@@ -78,10 +78,10 @@ module _ (t : Token) (tied : Bool) (place : Place) (k : Kind) (h : among label-k
       ∷ (kw-true ∷ kw-false ∷ [] ⇒ typed (t .text) xsd-boolean) ∷ (kw-a ∷ [] ⇒ term (iri rdf-type)) ∷ []) v two-kinds e))
 
 -- Where the next node belongs does not matter to what is awaited.
-pub subject-aimed : (mode : Mode) (doc : Text) (work rows terms store : RefT (List ℕ)) (st st' : List ℕ) → ((k : ℕ) → k < 77 → getD st' k 0 ≡ getD st k 0) → (o : Open) (place : Place) → SubjectAt mode doc (held work rows terms store st) o place → SubjectAt mode doc (held work rows terms store st') o place
+pub subject-aimed : (mode : Mode) (doc : Text) (work rows terms store : RefT (List ℕ)) (st st' : List ℕ) → ((k : ℕ) → k < list-word → getD st' k 0 ≡ getD st k 0) → (o : Open) (place : Place) → SubjectAt mode doc (held work rows terms store st) o place → SubjectAt mode doc (held work rows terms store st') o place
 subject-aimed mode doc work rows terms store st st' same o place s =
-    let e71 = same 71 (omega arith) in
-    let e : here doc (held work rows terms store st') ≡ here doc (held work rows terms store st) = rw (e71, same 72 (omega arith), same 73 (omega arith)) in
+    let e71 = same kind-word (omega arith) in
+    let e : here doc (held work rows terms store st') ≡ here doc (held work rows terms store st) = rw (e71, same at-word (omega arith), same len-word (omega arith)) in
     record {
       outer = s .outer;
       waits = s .waits;

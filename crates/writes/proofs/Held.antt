@@ -25,7 +25,7 @@ use Rattle.terms.proofs.Growth.{five-words}
 use Rattle.index.specs.Holds.{Holds}
 use Rattle.machine.specs.Memory.{Memory, new-term, row}
 use Rattle.machine.specs.Demand.{Fits}
-use Rattle.state.specs.Words.{rows-word, terms-word, used-word, blanks-word, node-word, graph-word, counts-of}
+use Rattle.state.specs.Words.{rows-word, terms-word, used-word, blanks-word, graph-word, counts-of, kind-word}
 use Rattle.state.specs.Represents.{Tables, lent-tables, counted, room-in, Represents}
 use Rattle.state.proofs.Counted.{counted-room}
 use Rattle.writes.specs.Steps.{CountsSet}
@@ -74,7 +74,7 @@ term-room old m work rows terms store st sort x g u R F M d =
 
 -- ---- The environment
 
-environment-kept : (work work' : Text) (st st' : List ℕ) → take work-size work' ≡ take work-size work → ((k : ℕ) → k < 66 → getD st' k 0 ≡ getD st k 0) → environment-in work' st' ≡ environment-in work st
+environment-kept : (work work' : Text) (st st' : List ℕ) → take work-size work' ≡ take work-size work → ((k : ℕ) → k < rows-word → getD st' k 0 ≡ getD st k 0) → environment-in work' st' ≡ environment-in work st
 environment-kept work work' st st' e same = in-force-front work work' st' e ∙ in-force-words work st st' same
 
 -- ---- A term more
@@ -154,16 +154,16 @@ held-row old m work rows rows' terms store st s p o at R room small A =
       same-store = rw (others used-word (λ e. omega arith)) (R .same-store);
     }
 
--- ---- The node's word
+-- ---- A word between the counts and the cursor's: a kept number, the node's
 
-pub held-node : (old : Tables) (m : Memory) (work : Text) (t : Tables) (st : List ℕ) (n : ℕ) → Represents old m work t st → Represents old m work t (set st node-word n)
-held-node old m work t st n R =
-    let st' = set st node-word n in
-    let others : (k : ℕ) → (k ≡ node-word → ⊥) → getD st' k 0 ≡ getD st k 0 = λ k h. getD-set-other st node-word k n 0 h in
+pub held-word : (old : Tables) (m : Memory) (work : Text) (t : Tables) (st : List ℕ) (i n : ℕ) → blanks-word < i → i < kind-word → Represents old m work t st → Represents old m work t (set st i n)
+held-word old m work t st i n low high R =
+    let st' = set st i n in
+    let others : (k : ℕ) → (k ≡ i → ⊥) → getD st' k 0 ≡ getD st k 0 = λ k h. getD-set-other st i k n 0 h in
     let same-counts : counts-of st' ≡ counts-of st = rw (others terms-word (λ e. omega arith), others used-word (λ e. omega arith), others blanks-word (λ e. omega arith)) in
     let same-count : getD st' rows-word 0 ≡ getD st rows-word 0 = others rows-word (λ e. omega arith) in
     record {
-      usable = record { room = R .usable .room; words = length-set st node-word n ∙ R .usable .words };
+      usable = record { room = R .usable .room; words = length-set st i n ∙ R .usable .words };
       environment = environment-kept work work st st' refl (λ k h. others k (λ e. omega arith)) ∙ R .environment;
       base = R .base;
       terms-held = rw same-counts (R .terms-held);

@@ -5,6 +5,7 @@ use Prim.Native.Nat.{ℕ, _+_, _*_, _≤_, _<_}
 use native.Mathlib.Omega.{arith}
 use lib.ListN.{length, getD, set, length-set}
 use lib.Seq.{getD-set-same, getD-set-other}
+use Rattle.scope.specs.Code.{words-size}
 use Rattle.text.specs.Text.{Text}
 use Rattle.text.proofs.Over.{over-at-length}
 use Rattle.terms.specs.Keeps.{RowAdded}
@@ -14,7 +15,7 @@ use Rattle.state.specs.Words.{rows-word, node-word, graph-word, Stays}
 use Rattle.state.specs.Represents.{Tables, Wrote}
 use Rattle.writes.specs.Ready.{Writes}
 use Rattle.writes.specs.Steps.{RowReady, RowWrites}
-use Rattle.writes.proofs.Held.{row-room, held-row, held-node}
+use Rattle.writes.proofs.Held.{row-room, held-row, held-word}
 
 module _ (s p o at : ℕ) (rows st : List ℕ) (r : RowReady s p o at rows st) where
   pub room-for-row : (5 * getD st rows-word 0 + 5 ≤ length rows) × (getD st rows-word 0 < 4294967294)
@@ -38,12 +39,12 @@ module _ (s p o at : ℕ) (rows st : List ℕ) (r : RowReady s p o at rows st) w
   })
 
 -- The result goes into the node's word.
-pub wrote : (w : Write ℕ) (n : ℕ) (work work' : Text) (t t' : Tables) (st st' st″ : List ℕ) → Writes w n work work' t t' st st' → n < 4294967296 → length st ≡ 212 → st″ ≡ set st' node-word n
+pub wrote : (w : Write ℕ) (n : ℕ) (work work' : Text) (t t' : Tables) (st st' st″ : List ℕ) → Writes w n work work' t t' st st' → n < 4294967296 → length st ≡ words-size → st″ ≡ set st' node-word n
     → Wrote w work work' t t' st st″ × (Stays st st″ × (length st″ ≡ length st))
 wrote w n work work' t t' st st' st″ W small long e =
     let here : getD st″ node-word 0 ≡ n = rw e (getD-set-same st' node-word n 0 (omega (arith, W .kept .words))) in (
       record {
-        represents = λ old m R. rw e (held-node old (w m .1) work' t' st' n (W .represents old m R));
+        represents = λ old m R. rw e (held-word old (w m .1) work' t' st' node-word n (omega arith) (omega arith) (W .represents old m R));
         node = λ old m R. here ∙ sym (W .result old m R);
         small = omega (arith, here);
       },

@@ -18,21 +18,21 @@ use Rattle.table.proofs.Finding.{number-last, number-within, zero-none, positiv
 use Rattle.terms.specs.declared.Counts.{Counts}
 use Rattle.terms.specs.declared.Sort.{Sort}
 use Rattle.terms.specs.Keeps.{Typed, Means, TermFits, Added, BlankAdded, blank-sort}
-use Rattle.terms.specs.Code.{next-entry}
+use Rattle.terms.specs.Code.{Readable, next-entry}
 use Rattle.text.proofs.Over.{over-at-length}
 use Rattle.table.specs.Layout.{entry-words}
 use Rattle.terms.proofs.Kept.{bytes-room}
-use Rattle.index.specs.Holds.{Finds, Searchable, iri-sort}
+use Rattle.index.specs.Holds.{Finds, Numbers, Searchable, iri-sort}
 use Rattle.index.proofs.Indexes.{searchable, holds-blank, holds-added, end-part}
-use Rattle.machine.specs.Memory.{Memory, term, term-by, new-term, typed}
+use Rattle.machine.specs.Memory.{Memory, Write, term, term-by, new-term, typed}
 use Rattle.machine.specs.Demand.{Fits}
 use Rattle.machine.proofs.Extends.{adds-term}
-use Rattle.state.specs.Words.{terms-word, used-word, blanks-word, counts-of}
+use Rattle.state.specs.Words.{terms-word, used-word, blanks-word, node-word, counts-of}
 use Rattle.state.specs.Represents.{Tables, lent-tables, counted, room-in, Represents}
 use Rattle.state.proofs.Counted.{counted-room}
 use Rattle.writes.specs.Steps.{CountsSet, Asks, ShareReady, Number, Shares, TermAdded, TermReady, TermWrites, FreshReady, FreshWrites}
 use Rattle.writes.proofs.Compose.{ready-first, kept-both, kept-same}
-use Rattle.writes.proofs.Held.{term-room, held-term}
+use Rattle.writes.proofs.Held.{term-room, held-term, held-word}
 
 -- ---- What a search answers
 
@@ -45,6 +45,12 @@ finds-whole terms store work n c d sort x g r e q F = rw (whole terms, whole sto
 pub searchable-whole : (terms : List ℕ) (store work : Text) (n : ℕ) (c d : Counts) → n ≡ work-size → c ≡ d → Searchable terms store (drop work-size work) d
     → Searchable (take (length terms - 0) (drop 0 terms)) (take (length store - 0) (drop 0 store)) (take (length work - n) (drop n work)) c
 searchable-whole terms store work n c d e q S = rw (whole terms, whole store, end-part n work-size work e, q) S
+
+pub readable-whole : (terms : List ℕ) (store : Text) (n : ℕ) → Readable terms store n → Readable (take (length terms - 0) (drop 0 terms)) (take (length store - 0) (drop 0 store)) n
+readable-whole terms store n R = rw (whole terms, whole store) R
+
+pub numbers-whole : (terms : List ℕ) (store : Text) (n : ℕ) (sort : Sort) (x g : Text) (k : ℕ) → Numbers (take (length terms - 0) (drop 0 terms)) (take (length store - 0) (drop 0 store)) n sort x g k → Numbers terms store n sort x g k
+numbers-whole terms store n sort x g k N = rw (whole terms, whole store) at N
 
 pub ready-searchable : (sort : Sort) (x g work : Text) (terms : List ℕ) (store : Text) (st : List ℕ) → ShareReady sort x g work terms store st → Searchable terms store (drop work-size work) (counts-of st)
 ready-searchable sort x g work terms store st S = searchable (S .ready .memory .terms) terms store (drop work-size work) (counts-of st) (S .ready .represents .terms-held)
@@ -267,3 +273,29 @@ counts-set st c e =
       behind = λ k h. set-three st (c .terms) (c .used) (c .blanks) k (λ q. omega arith) (λ q. omega arith) (λ q. omega arith);
       words = length-set two blanks-word (c .blanks) ∙ (long-two ∙ long-one);
     }
+
+-- ---- Kept numbers
+
+-- A kept number that was compared, and is believed.
+pub shares-kept : (sort : Sort) (x g : Text) (n : ℕ) (work : Text) (terms : List ℕ) (store : Text) (st : List ℕ) → Numbers terms store (getD st terms-word 0) sort x g n → ShareReady sort x g work terms store st
+    → Number n × ((rows : List ℕ) → Shares sort x g n work work (lent-tables rows terms store) (lent-tables rows terms store) st st)
+shares-kept sort x g n work terms store st N S =
+    let F = N .1 (drop work-size work) (counts-of st) refl in
+    (number-found sort x g n work terms store st F S (N .0), λ rows. shares-found sort x g n work rows terms store st F (N .0))
+
+-- A number is kept: no word that says anything has changed.
+pub writes-kept : {w : Write ℕ} {r : ℕ} {work work' : Text} {terms terms' : List ℕ} {store store' : Text} {st st' : List ℕ} (i n : ℕ) → blanks-word < i → i < node-word
+    → TermWrites w r work work' terms terms' store store' st st' → (st″ : List ℕ) → st″ ≡ set st' i n → TermWrites w r work work' terms terms' store store' st st″
+writes-kept {w} {r} {work} {work'} {terms} {terms'} {store} {store'} {st} {st'} i n low high (small, W) st″ e = (
+  small,
+  (λ rows. record {
+    represents = λ old m R. rw e (held-word old (w m .1) work' (lent-tables rows terms' store') st' i n low (omega arith) (W rows .represents old m R));
+    result = W rows .result;
+    kept = record {
+      front = W rows .kept .front;
+      room = W rows .kept .room;
+      stays = λ k h. rw e (getD-set-other st' i k n 0 (λ q. omega arith) ∙ W rows .kept .stays k h);
+      words = rw e (length-set st' i n ∙ W rows .kept .words);
+    };
+  }),
+)

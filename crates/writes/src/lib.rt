@@ -14,7 +14,7 @@ ghost use Rattle.index.specs.Tree.{InSlots};
 ghost use Rattle.machine.specs.Memory.{done, term, typed};
 ghost use Rattle.machine.specs.Frame.{no-cell, cells};
 ghost use Rattle.machine.specs.Rules.{hold, new-cell, end-list};
-ghost use Rattle.state.specs.Words.{terms-word, counts-of, Stays};
+ghost use Rattle.state.specs.Words.{terms-word, kept-size, counts-of, Stays};
 ghost use Rattle.state.specs.Represents.{lent-tables, Wrote};
 ghost use Rattle.state.specs.Writes.{place-of, cells-of, node-write, placed, opened-at, closed, SpotFits, NodeFits};
 ghost use Rattle.writes.specs.Ready.{Ready, Writes, put-at};
@@ -27,6 +27,12 @@ use state::Spot;
 use state::Words;
 use terms::Counts;
 use terms::Sort;
+
+fn wide(b: u8) -> usize
+    ensures { λ r. ⌜ (r ≡ b) × (r < 256) ⌝ }
+{
+    b as usize
+}
 
 fn set_counts(st: &mut [usize; Layout::WORDS], c: Counts)
     requires { ⌜ length (now st) ≡ words-size ⌝ }
@@ -110,7 +116,18 @@ fn share(
     )
 }
 
-// The number of an IRI.
+// Which of the kept numbers may be that of an IRI. Each would do: these bytes tell most names of a document apart.
+fn kept_at(start: usize, back: &[u8]) -> usize
+    ensures { λ r. ⌜ r < kept-size ⌝ }
+{
+    let n = back.len();
+    if n == 0 {
+        return 0;
+    }
+    (start / 64 % 32 + 5 * (n % 32) + 3 * wide(back[n - 1]) + wide(back[n / 2])) % Words::KEPT_SIZE
+}
+
+// The number of an IRI. Where it was asked for before, its number is mostly kept.
 fn share_iri(
     work: &mut [u8],
     terms: &mut [u32],
@@ -128,7 +145,23 @@ fn share_iri(
         kind: 1,
         datatype: 0,
     };
-    share(
+    let word = Words::KEPT + kept_at(start, back);
+    let kept = st[word];
+    let count = st[Words::TERMS];
+    if index::is_number(
+        kept,
+        &terms[0..],
+        &store[0..],
+        count,
+        sort,
+        &work[start..end],
+        form,
+        back,
+        &back[..0],
+    ) {
+        return kept;
+    }
+    let number = share(
         work,
         terms,
         store,
@@ -139,7 +172,9 @@ fn share_iri(
         form,
         back,
         &back[..0],
-    )
+    );
+    st[word] = number;
+    number
 }
 
 // The number of the blank node with a label.

@@ -1,6 +1,7 @@
 use mathlib.Core.Path.{refl, sym, _∙_}
 use native.Mathlib.Omega.{arith}
 use borrow.Author.Needs.{needs}
+use Rattle.state.specs.Words.{at-word, kind-word}
 use Rattle.machine.specs.Frame.{bracket-end}
 use Rattle.reading.proofs.Numbers.{next-small}
 use Rattle.nesting.proofs.Aiming.{ready-words, unexpected-call, pass-call, leave-call, negated, affirmed}
@@ -60,25 +61,25 @@ use Rattle.nesting.proofs.+after_object+close_bracket+contents+element+
 }
 
 abbrev μ-after-object : Measures 11 after-object-kinds.ps ℕ
-μ-after-object κs a = 3 * (length (a .0 .now .now) - getD (a .1 .1 .1 .1 .1 .0 .now) 72 0) + 1
+μ-after-object κs a = 3 * (length (a .0 .now .now) - getD (a .1 .1 .1 .1 .1 .0 .now) at-word 0) + 1
 
 abbrev μ-close-bracket : Measures 11 close-bracket-kinds.ps ℕ
-μ-close-bracket κs a = 3 * (length (a .0 .now .now) - getD (a .1 .1 .1 .1 .1 .0 .now) 72 0)
+μ-close-bracket κs a = 3 * (length (a .0 .now .now) - getD (a .1 .1 .1 .1 .1 .0 .now) at-word 0)
 
 abbrev μ-contents : Measures 11 contents-kinds.ps ℕ
-μ-contents κs a = 3 * (length (a .0 .now .now) - getD (a .1 .1 .1 .1 .1 .0 .now) 72 0) + 1
+μ-contents κs a = 3 * (length (a .0 .now .now) - getD (a .1 .1 .1 .1 .1 .0 .now) at-word 0) + 1
 
 abbrev μ-element : Measures 11 element-kinds.ps ℕ
-μ-element κs a = 3 * (length (a .0 .now .now) - getD (a .1 .1 .1 .1 .1 .0 .now) 72 0) + 1
+μ-element κs a = 3 * (length (a .0 .now .now) - getD (a .1 .1 .1 .1 .1 .0 .now) at-word 0) + 1
 
 abbrev μ-predicate : Measures 11 predicate-kinds.ps ℕ
-μ-predicate κs a = 3 * (length (a .0 .now .now) - getD (a .1 .1 .1 .1 .1 .0 .now) 72 0)
+μ-predicate κs a = 3 * (length (a .0 .now .now) - getD (a .1 .1 .1 .1 .1 .0 .now) at-word 0)
 
 abbrev μ-resume : Measures 11 resume-kinds.ps ℕ
-μ-resume κs a = 3 * (length (a .0 .now .now) - getD (a .1 .1 .1 .1 .1 .0 .now) 72 0) + 2
+μ-resume κs a = 3 * (length (a .0 .now .now) - getD (a .1 .1 .1 .1 .1 .0 .now) at-word 0) + 2
 
 abbrev μ-value : Measures 11 value-kinds.ps ℕ
-μ-value κs a = 3 * (length (a .0 .now .now) - getD (a .1 .1 .1 .1 .1 .0 .now) 72 0)
+μ-value κs a = 3 * (length (a .0 .now .now) - getD (a .1 .1 .1 .1 .1 .0 .now) at-word 0)
 
 abbrev after-object-at : ℕ → In 11 after-object-kinds.ps
 after-object-at t =
@@ -686,7 +687,7 @@ contents-predicate-requires : (t : ℕ) → contents-lts.Need-predicate-requires
   predicate-below t,
   predicate.Post,
 ) (contents-at t) contents.Post
-contents-predicate-requires t c κs = let l = contents-call _ _ _ _ _ _ (c .before .before .before .before .before .before .before .before .before .before .before .pre .1 .0 .0) _ _ refl (c .before .before .before .before .before .mark .ensures) (c .before .before .before .before .before .before .before .before .before .before .before .pre .1 .0 .1) (c .before .before .before .before .before .before .before .before .before .before .before .pre .1 .1 .0) (c .before .before .before .before .before .before .before .before .before .before .before .pre .1 .1 .1) (sym (c .before .before .before .before .before .before .before .before .before .is-verb .ensures) ∙ affirmed _ (c .before .before .before .before .before .before .before .before .if1 .left)) in (omega (arith, mark-before _ _ _ _ (c .before .before .before .before .before .mark .ensures) 72 (omega arith), c .before .before .before .before .before .before .before .before .before .before .before .pre .0), l)
+contents-predicate-requires t c κs = let l = contents-call _ _ _ _ _ _ (c .before .before .before .before .before .before .before .before .before .before .before .pre .1 .0 .0) _ _ refl (c .before .before .before .before .before .mark .ensures) (c .before .before .before .before .before .before .before .before .before .before .before .pre .1 .0 .1) (c .before .before .before .before .before .before .before .before .before .before .before .pre .1 .1 .0) (c .before .before .before .before .before .before .before .before .before .before .before .pre .1 .1 .1) (sym (c .before .before .before .before .before .before .before .before .before .is-verb .ensures) ∙ affirmed _ (c .before .before .before .before .before .before .before .before .if1 .left)) in (omega (arith, mark-before _ _ _ _ (c .before .before .before .before .before .mark .ensures) at-word (omega arith), c .before .before .before .before .before .before .before .before .before .before .before .pre .0), l)
 
 -- src/lib.rt:281:1
 contents-returns-2 : (t : ℕ) → contents-lts.Need-returns-2 (
@@ -816,7 +817,7 @@ element-value-requires : (t : ℕ) → element-lts.Need-value-requires (
   value-below t,
   value.Post,
 ) (element-at t) element.Post
-element-value-requires t c κs = let l = element-call _ _ _ _ _ _ _ (c .before .before .before .before .before .before .before .before .before .before .pre .1 .0 .0) (c .before .before .before .before .before .before .before .before .if1 .left) (c .before .before .before .before .before .before .before .before .before .before .pre .1 .1 .0) (c .before .before .before .before .before .before .before .before .before .before .pre .1 .1 .1) _ refl (c .before .before .before .before .before .mark .ensures) (c .before .before .before .before .before .before .before .before .before .before .pre .1 .0 .1) in (omega (arith, mark-before _ _ _ _ (c .before .before .before .before .before .mark .ensures) 72 (omega arith), c .before .before .before .before .before .before .before .before .before .before .pre .0), l)
+element-value-requires t c κs = let l = element-call _ _ _ _ _ _ _ (c .before .before .before .before .before .before .before .before .before .before .pre .1 .0 .0) (c .before .before .before .before .before .before .before .before .if1 .left) (c .before .before .before .before .before .before .before .before .before .before .pre .1 .1 .0) (c .before .before .before .before .before .before .before .before .before .before .pre .1 .1 .1) _ refl (c .before .before .before .before .before .mark .ensures) (c .before .before .before .before .before .before .before .before .before .before .pre .1 .0 .1) in (omega (arith, mark-before _ _ _ _ (c .before .before .before .before .before .mark .ensures) at-word (omega arith), c .before .before .before .before .before .before .before .before .before .before .pre .0), l)
 
 -- src/lib.rt:373:1
 element-returns-3 : (t : ℕ) → element-lts.Need-returns-3 (
@@ -1069,7 +1070,7 @@ resume-element-requires : (t : ℕ) → resume-lts.Need-element-requires (
   element-below t,
   element.Post,
 ) (resume-at t) resume.Post
-resume-element-requires t c κs = let l = resumes-call _ _ _ _ _ _ (c .before .before .before .before .before .before .before .before .before .before .before .before .before .pre .1 .0) (sym (c .before .before .before .before .before .before .before .before .before .before .before .level-x .ensures) ∙ c .before .before .before .before .before .before .before .before .before .before .if1 .left) (λ h. c .before .before .before .before .before .before .before .if2 .left (c .before .before .before .before .before .before .before .before .level-y .ensures ∙ h)) _ _ (c .before .before .before .before .before .before .before .before .level-y .ensures) (c .before .before .before .before .before .aim .ensures) (c .before .before .before .before .before .before .before .before .before .before .before .before .before .pre .1 .1) in (omega (arith, c .before .before .before .before .before .aim .ensures .before 72 (omega arith), c .before .before .before .before .before .before .before .before .before .before .before .before .before .pre .0), l)
+resume-element-requires t c κs = let l = resumes-call _ _ _ _ _ _ (c .before .before .before .before .before .before .before .before .before .before .before .before .before .pre .1 .0) (sym (c .before .before .before .before .before .before .before .before .before .before .before .level-x .ensures) ∙ c .before .before .before .before .before .before .before .before .before .before .if1 .left) (λ h. c .before .before .before .before .before .before .before .if2 .left (c .before .before .before .before .before .before .before .before .level-y .ensures ∙ h)) _ _ (c .before .before .before .before .before .before .before .before .level-y .ensures) (c .before .before .before .before .before .aim .ensures) (c .before .before .before .before .before .before .before .before .before .before .before .before .before .pre .1 .1) in (omega (arith, c .before .before .before .before .before .aim .ensures .before at-word (omega arith), c .before .before .before .before .before .before .before .before .before .before .before .before .before .pre .0), l)
 
 -- src/lib.rt:258:1
 resume-returns-3 : (t : ℕ) → resume-lts.Need-returns-3 (
@@ -1153,7 +1154,7 @@ value-leaf-requires : (t : ℕ) → value-lts.Need-leaf-requires (
   unexpected-reads.Asked,
   unexpected-reads.Learnt,
 ) (value-at t) value.Post
-value-leaf-requires t c κs = (c .before .before .before .before .before .before .before .before .pre .1 .0, leaf-call (getD (c .before .before .before .before .before .before .before .before .args .st .now) 71 0) _ (c .before .before .before .before .before .before .is-leaf .ensures) (c .before .before .before .before .before .if1 .taken))
+value-leaf-requires t c κs = (c .before .before .before .before .before .before .before .before .pre .1 .0, leaf-call (getD (c .before .before .before .before .before .before .before .before .args .st .now) kind-word 0) _ (c .before .before .before .before .before .before .is-leaf .ensures) (c .before .before .before .before .before .if1 .taken))
 
 -- src/lib.rt:233:13
 value-returns : (t : ℕ) → value-lts.Need-returns (

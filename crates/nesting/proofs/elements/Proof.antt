@@ -2,6 +2,7 @@ use Prim.Native.Nat.{_-_}
 use native.Mathlib.Omega.{arith}
 use borrow.Author.Needs.{needs}
 use lib.ListN.{length, getD}
+use Rattle.state.specs.Words.{at-word}
 use Rattle.reading.specs.Reading.{held}
 use Rattle.nesting.proofs.OfElements.{ElementsInv, elements-start, elements-small, elements-call, elements-close-call, elements-close, elements-stop, elements-again, elements-less}
 use Rattle.nesting.proofs.Aiming.{ready-words}
@@ -17,7 +18,7 @@ abbrev Inv-loop : tie.InvT-loop
 Inv-loop doc work₀ rows₀ terms₀ store₀ st₀ x y opened last₀ work rows terms store st last = ElementsInv (doc .now) (held work₀ rows₀ terms₀ store₀ st₀) (held work rows terms store st) x y opened last
 
 abbrev μ-loop : tie.MeasureT-loop
-μ-loop doc work₀ rows₀ terms₀ store₀ st₀ x y opened last₀ work rows terms store st last = length (doc .now) - getD st 72 0
+μ-loop doc work₀ rows₀ terms₀ store₀ st₀ x y opened last₀ work rows terms store st last = length (doc .now) - getD st at-word 0
 
 element-copy-out-x : tie.Need-element-copy-out-x Inv-loop μ-loop
 element-copy-out-x c = search needs

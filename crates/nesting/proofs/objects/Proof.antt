@@ -2,6 +2,7 @@ use Prim.Native.Nat.{_-_}
 use native.Mathlib.Omega.{arith}
 use borrow.Author.Needs.{needs}
 use lib.ListN.{length, getD}
+use Rattle.state.specs.Words.{at-word}
 use Rattle.reading.specs.Reading.{held}
 use Rattle.nesting.proofs.OfObjects.{ObjectsInv, objects-start, objects-ready, objects-stop, objects-end, objects-again, objects-less, objects-more-ready}
 use Rattle.nesting.proofs.Aiming.{ready-words, pass-call}
@@ -17,7 +18,7 @@ abbrev Inv-loop : tie.InvT-loop
 Inv-loop doc work₀ rows₀ terms₀ store₀ st₀ s p work rows terms store st = ObjectsInv (doc .now) (held work₀ rows₀ terms₀ store₀ st₀) (held work rows terms store st) s p
 
 abbrev μ-loop : tie.MeasureT-loop
-μ-loop doc work₀ rows₀ terms₀ store₀ st₀ s p work rows terms store st = length (doc .now) - getD st 72 0
+μ-loop doc work₀ rows₀ terms₀ store₀ st₀ s p work rows terms store st = length (doc .now) - getD st at-word 0
 
 loop-holds : tie.Need-loop-holds Inv-loop μ-loop
 loop-holds c = search objects-start

@@ -2,6 +2,7 @@ use mathlib.Core.Path.{refl, sym, _∙_}
 use Prim.Native.Nat.{_-_}
 use borrow.Author.Needs.{needs}
 use lib.ListN.{length, getD}
+use Rattle.state.specs.Words.{at-word}
 use Rattle.reading.specs.Reading.{held}
 use Rattle.nesting.proofs.OfProperties.{PropertiesInv, properties-start, properties-stop, objects-call, properties-stop-2, properties-end, skips-call, properties-end-2, properties-again, properties-less}
 use Rattle.nesting.proofs.OfVerbs.{verb-call}
@@ -20,7 +21,7 @@ abbrev Inv-loop : tie.InvT-loop
 Inv-loop doc work₀ rows₀ terms₀ store₀ st₀ s work rows terms store st = PropertiesInv (doc .now) (held work₀ rows₀ terms₀ store₀ st₀) (held work rows terms store st) s
 
 abbrev μ-loop : tie.MeasureT-loop
-μ-loop doc work₀ rows₀ terms₀ store₀ st₀ s work rows terms store st = length (doc .now) - getD st 72 0
+μ-loop doc work₀ rows₀ terms₀ store₀ st₀ s work rows terms store st = length (doc .now) - getD st at-word 0
 
 loop-holds : tie.Need-loop-holds Inv-loop μ-loop
 loop-holds c = search properties-start

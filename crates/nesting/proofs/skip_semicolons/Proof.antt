@@ -1,6 +1,7 @@
 use Prim.Native.Nat.{_-_}
 use native.Mathlib.Omega.{arith}
 use lib.ListN.{length, getD}
+use Rattle.state.specs.Words.{at-word}
 use Rattle.nesting.proofs.Skipping.{SkipInv, skip-start, skip-ready, skip-again, skips, skip-less}
 use borrow.Author.Needs.{needs}
 use Rattle.nesting.proofs.skip_semicolons.Statement.{statement}
@@ -13,7 +14,7 @@ abbrev Inv-loop : tie.InvT-loop
 Inv-loop doc st₀ st = SkipInv (doc .now) st₀ st
 
 abbrev μ-loop : tie.MeasureT-loop
-μ-loop doc st₀ st = length (doc .now) - getD st 72 0
+μ-loop doc st₀ st = length (doc .now) - getD st at-word 0
 
 -- src/lib.rt:96:5
 loop-holds : tie.Need-loop-holds Inv-loop μ-loop

@@ -1,6 +1,7 @@
 use mathlib.Core.Path.{refl}
 use mathlib.Core.Logic.{inr}
 use native.Mathlib.Omega.{arith}
+use Rattle.state.specs.Words.{depth-word}
 use Rattle.nodes.proofs.Moving.{passed-leave}
 use borrow.Author.Needs.{needs}
 use Rattle.nodes.proofs.leave.Statement.{statement}
@@ -19,7 +20,7 @@ element-copy-out-st c = search needs
 
 -- src/lib.rt:98:24
 sub-st : tie.Need-sub-st
-sub-st c = omega (arith, c .before .advance .ensures .beside 75 (inr (omega arith)))
+sub-st c = omega (arith, c .before .advance .ensures .beside depth-word (inr (omega arith)))
 
 -- src/lib.rt:98:5
 element-write-st : tie.Need-element-write-st

@@ -1,6 +1,7 @@
 use Prim.Native.Nat.{_-_}
 use lib.ListN.{length, getD}
 use borrow.Author.Needs.{needs}
+use Rattle.state.specs.Words.{at-word}
 use Rattle.reading.specs.Reading.{held}
 use Rattle.machine.specs.Read.{mode-of}
 use Rattle.statements.proofs.OfDocuments.{SomeInv, some-start, some-end, some-stop, some-again, some-less}
@@ -14,7 +15,7 @@ abbrev Inv-loop : tie.InvT-loop
 Inv-loop doc work₀ rows₀ terms₀ store₀ st₀ mode work rows terms store st = SomeInv (mode-of mode) (doc .now) (held work₀ rows₀ terms₀ store₀ st₀) (held work rows terms store st)
 
 abbrev μ-loop : tie.MeasureT-loop
-μ-loop doc work₀ rows₀ terms₀ store₀ st₀ mode work rows terms store st = length (doc .now) - getD st 72 0
+μ-loop doc work₀ rows₀ terms₀ store₀ st₀ mode work rows terms store st = length (doc .now) - getD st at-word 0
 
 -- src/lib.rt:283:5
 loop-holds : tie.Need-loop-holds Inv-loop μ-loop
