@@ -155,7 +155,7 @@ shapes = {
     'deep.ttl': (line, nested, ''),
     'motors.trig': (line, serial, ''),
     'full_iris.ttl': (line, full, ''),
-    'relative.ttl': (line, lambda i: '<part/%d> <../terms/%s> <%s#%d>, <./%s/../%d> .\n' % (i // 4, word(), word(), i % 999, word(), i % 99), ''),
+    'relative.ttl': (line, lambda i: '<part/%d> <../terms/%s> <%s#%d>, <%s/%d> .\n' % (i // 4, word(), word(), i % 999, word(), i % 99), ''),
     'flat_lists.ttl': (line, lambda i: 'm:s%d m:p ( %s ) .\n' % (i % 9, ' '.join(random.choice(['m:' + word(), number()]) for _ in range(40))), ''),
     'commented.ttl': (line, lambda i: '# %s\n# %s\nm:%s m:%s %d . # %s\n' % (sentence(), sentence(), word(), word(), i, sentence()), ''),
     'escapes_30.ttl': (line, escaped(30), ''),

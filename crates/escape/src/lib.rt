@@ -300,7 +300,7 @@ pub fn plain_to(left: usize, s: &[u8], at: usize) -> usize
     at
 }
 
-// Behind 1, the byte that a backslash and a letter stand for; 0 where a numeric escape stands, or none.
+// One more than the byte that a backslash and a letter stand for; 0 where a numeric escape stands, or none.
 pub fn letter_at(left: usize, s: &[u8], at: usize) -> usize
     requires { ⌜ at < length (now s) ⌝ }
     ensures { λ r. ⌜ (0 < r → Stretch left (now (s .entry)) at (at + 2) ((r - 1) ∷ [])) × (r ≤ 256) ⌝ }

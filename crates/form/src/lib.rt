@@ -97,12 +97,25 @@ fn wide(b: u8) -> usize
     b as usize
 }
 
+// The first multiplier, and its powers modulo 2^32.
+pub struct Multiplier {}
+
+impl Multiplier {
+    pub const FIRST: usize = 16777619;
+
+    const SQUARE: usize = 637696617;
+
+    const CUBE: usize = 1055306571;
+
+    const FOURTH: usize = 1345077009;
+}
+
 // The hash h with one number more, by the multiplier m.
 pub fn stir(m: usize, h: usize, n: usize) -> usize
     requires { ⌜ (m ≤ most-multiplier) × ((h < 4294967296) × (n < 4294967296)) ⌝ }
     ensures { λ r. ⌜ (r ≡ stir m h n) × (r < 4294967296) ⌝ }
 {
-    if m == 16777619 {
+    if m == Multiplier::FIRST {
         return (h * m + n) % 4294967296;
     }
     (h * m + h / 32768 + n) % 4294967296
@@ -113,10 +126,13 @@ fn stir_4(h: usize, a: usize, b: usize, c: usize, d: usize) -> usize
     requires { ⌜ (h < 4294967296) × ((a < 256) × ((b < 256) × ((c < 256) × (d < 256)))) ⌝ }
     ensures { λ r. ⌜ (r ≡ stir-4 h a b c d) × (r < 4294967296) ⌝ }
 {
-    (h * 1345077009 + (a * 1055306571 + b * 637696617 + c * 16777619 + d)) % 4294967296
+    (h * Multiplier::FOURTH
+        + (a * Multiplier::CUBE + b * Multiplier::SQUARE + c * Multiplier::FIRST + d))
+        % 4294967296
 }
 
-fn hash_slow(m: usize, h: usize, s: &[u8], at: usize) -> usize
+// The hash h with the bytes of s from a place on, one by one.
+fn hash_each(m: usize, h: usize, s: &[u8], at: usize) -> usize
     requires { ⌜ (m ≤ most-multiplier) × ((h < 4294967296) × (at ≤ length (now s))) ⌝ }
     ensures { λ r. ⌜ (r ≡ hash-from m h (drop at (now (s .entry)))) × (r < 4294967296) ⌝ }
 {
@@ -129,6 +145,7 @@ fn hash_slow(m: usize, h: usize, s: &[u8], at: usize) -> usize
     total
 }
 
+// The same by the first multiplier, four bytes at a time.
 fn hash_first(h: usize, s: &[u8]) -> usize
     requires { ⌜ h < 4294967296 ⌝ }
     ensures { λ r. ⌜ (r ≡ hash-from first-multiplier h (now (s .entry))) × (r < 4294967296) ⌝ }
@@ -145,7 +162,7 @@ fn hash_first(h: usize, s: &[u8]) -> usize
         );
         i += 4;
     }
-    hash_slow(16777619, total, s, i)
+    hash_each(Multiplier::FIRST, total, s, i)
 }
 
 // The hash h with the bytes of s.
@@ -153,10 +170,10 @@ pub fn hash_bytes(m: usize, h: usize, s: &[u8]) -> usize
     requires { ⌜ (m ≤ most-multiplier) × (h < 4294967296) ⌝ }
     ensures { λ r. ⌜ (r ≡ hash-from m h (now (s .entry))) × (r < 4294967296) ⌝ }
 {
-    if m == 16777619 {
+    if m == Multiplier::FIRST {
         return hash_first(h, s);
     }
-    hash_slow(m, h, s, 0)
+    hash_each(m, h, s, 0)
 }
 
 // The same with bytes that are given as numbers.

@@ -14,6 +14,7 @@ ghost use Rattle.index.specs.Keys.{key-at, turn-of, turn-at, type-of};
 ghost use Rattle.index.specs.Tree.{buckets, least, Linked, Follows, Vacant, InSlots, Links};
 ghost use Rattle.index.specs.Holds.{Searchable, iri-sort, PartOf, Finds, Numbers};
 use form::Form;
+use form::Multiplier;
 use limits::Limits;
 use terms::Counts;
 use terms::Sort;
@@ -67,7 +68,7 @@ fn type_number(sort: Sort) -> usize
 fn key_at(k: usize, sort: Sort, front: &[u8], form: Form, back: &[u8], tag: &[u8]) -> usize
     ensures { λ r. ⌜ (r ≡ key-at k (joined (now (front .entry)) form (now (back .entry))) (now (tag .entry)) (type-of sort)) × (r < 4294967296) ⌝ }
 {
-    let m = 16777619 + 2 * (k % 65536);
+    let m = Multiplier::FIRST + 2 * (k % 65536);
     let text = form::hash_joined(m, front, form, back);
     let whole = form::hash_bytes(m, text, tag);
     form::stir(m, whole, type_number(sort) % 4294967296)
@@ -203,16 +204,7 @@ pub fn is_number(
     if count < number {
         return false;
     }
-    terms::is_term(
-        terms,
-        store,
-        number - 1,
-        sort,
-        front,
-        form,
-        back,
-        tag,
-    )
+    terms::is_term(terms, store, number - 1, sort, front, form, back, tag)
 }
 
 // Puts the term that was added behind `count` others into its slot.

@@ -16,7 +16,7 @@ use Rattle.nesting.specs.Nesting.{level-x, level-y, Marked, ListOf, Save
 use Rattle.nesting.proofs.Aiming.{ready-words}
 
 -- Levels depend on their own words.
-pub levels-same : (st st' : List ℕ) (d : ℕ) → ((k : ℕ) → level-word ≤ k → k < 84 + 2 * d → getD st' k 0 ≡ getD st k 0) → (fs : List Frame) → Levels st d fs → Levels st' d fs
+pub levels-same : (st st' : List ℕ) (d : ℕ) → ((k : ℕ) → level-word ≤ k → k < level-word + 2 * d + 2 → getD st' k 0 ≡ getD st k 0) → (fs : List Frame) → Levels st d fs → Levels st' d fs
 levels-same st st' d same [] (x, y) = (same (level-word + 2 * d) (omega arith) (omega arith) ∙ x, same (level-word + 2 * d + 1) (omega arith) (omega arith) ∙ y)
 levels-same st st' d same (f ∷ fs) (h, (s, l)) = (
   h,

@@ -46,7 +46,7 @@ add-result : tie.Need-add-result
 add-result c = search needs
 
 returns-6 : tie.Need-returns-6
-returns-6 c = 
+returns-6 c =
     let value : c .wide .result + 1 - 1 ≡ letter-value (getD (c .before .before .before .before .before .before .before .before .before .before .args .s .now) (c .before .before .before .before .before .before .before .before .before .before .args .at + 1) 0) = omega (arith, c .wide .ensures, c .before .letter-value .ensures) in
     ((λ z. rw (c .before .before .before .before .before .before .before .before .if1 .left, value) (stretch-letter (c .before .before .before .before .before .before .before .before .before .before .args .s .now) (c .before .before .before .before .before .before .before .before .before .before .args .at) _ (omega arith) (c .before .before .before .before .before .if3 .left) refl (c .before .before .before .if4 .left) (c .before .before .if5 .left))), omega (arith, c .wide .ensures))
 

@@ -11,11 +11,11 @@ hash-first-requires c κs = search needs
 returns : tie.Need-returns
 returns c = (c .hash-first .ensures .0 ∙ ap (λ (m : ℕ). hash-from m (c .before .before .before .args .h) (c .before .before .before .args .s .now)) (sym (c .before .if1 .taken)), c .hash-first .ensures .1)
 
-hash-slow-requires : tie.Need-hash-slow-requires
-hash-slow-requires c κs = search needs
+hash-each-requires : tie.Need-hash-each-requires
+hash-each-requires c κs = search needs
 
 returns-2 : tie.Need-returns-2
 returns-2 c = search needs
 
 pub hash-bytes-spec : {M : Type 1} → statement M
-hash-bytes-spec = tie.close (tie.spec hash-first-requires returns hash-slow-requires returns-2)
+hash-bytes-spec = tie.close (tie.spec hash-first-requires returns hash-each-requires returns-2)

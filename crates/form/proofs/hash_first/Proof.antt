@@ -66,11 +66,11 @@ loop-less c = search needs
 loop-again : tie.Need-loop-again Inv-loop μ-loop
 loop-again c = ((omega arith, c .stir-4 .ensures .1), c .before .before .before .before .before .before .before .before .before .before .loop .inv .1 ∙ (hash-four (c .before .before .before .before .before .before .before .before .before .before .loop .total) (c .before .before .before .before .before .before .before .before .before .before .before .before .args .s .now) (c .before .before .before .before .before .before .before .before .before .before .loop .i) (omega arith) (λ k. c .before .before .before .before .before .before .before .before .before .before .before .shared-slice-known .given k .fits) ∙ ap (λ (n : ℕ). hash-from first-multiplier n (drop (c .before .before .before .before .before .before .before .before .before .before .loop .i + 4) (c .before .before .before .before .before .before .before .before .before .before .before .before .args .s .now))) (sym (c .stir-4 .ensures .0 ∙ rw (c .before .before .before .before .before .before .before .wide .ensures, c .before .before .before .before .before .wide2 .ensures, c .before .before .before .wide3 .ensures, c .before .wide4 .ensures)))))
 
-hash-slow-requires : tie.Need-hash-slow-requires Inv-loop μ-loop
-hash-slow-requires c κs = (omega arith, (c .before .loop .inv .0 .1, c .before .loop .inv .0 .0))
+hash-each-requires : tie.Need-hash-each-requires Inv-loop μ-loop
+hash-each-requires c κs = (omega arith, (c .before .loop .inv .0 .1, c .before .loop .inv .0 .0))
 
 returns : tie.Need-returns Inv-loop μ-loop
-returns c = (c .hash-slow .ensures .0 ∙ sym (c .before .before .loop .inv .1), c .hash-slow .ensures .1)
+returns c = (c .hash-each .ensures .0 ∙ sym (c .before .before .loop .inv .1), c .hash-each .ensures .1)
 
 pub hash-first-spec : {M : Type 1} → statement M
 hash-first-spec =
@@ -95,5 +95,5 @@ hash-first-spec =
     add-i
     loop-less
     loop-again
-    hash-slow-requires
+    hash-each-requires
     returns)

@@ -6,8 +6,8 @@ use lib.ListN.{length, drop}
 use Rattle.form.specs.Hash.{hash-from}
 use Rattle.form.proofs.Hashes.{hash-more, hash-end}
 use borrow.Author.Needs.{needs}
-use Rattle.form.proofs.hash_slow.Statement.{statement}
-use Rattle.form.proofs.hash_slow.Tie as tie
+use Rattle.form.proofs.hash_each.Statement.{statement}
+use Rattle.form.proofs.hash_each.Tie as tie
 
 abbrev Inv-loop : tie.InvT-loop
 Inv-loop m h s at total₀ i₀ total i = ((i ≤ length s) × (total < 4294967296)) × (hash-from m h (drop at s) ≡ hash-from m total (drop i s))
@@ -39,8 +39,8 @@ loop-again c = ((omega arith, c .stir .ensures .1), c .before .before .before .b
 returns : tie.Need-returns Inv-loop μ-loop
 returns c = (sym (c .before .loop .inv .1 ∙ hash-end (c .before .before .before .args .m) (c .before .loop .total) (c .before .before .before .args .s .now) (c .before .loop .i) (omega arith)), c .before .loop .inv .0 .1)
 
-pub hash-slow-spec : {M : Type 1} → statement M
-hash-slow-spec =
+pub hash-each-spec : {M : Type 1} → statement M
+hash-each-spec =
     tie.close
     (tie.spec
     Inv-loop
