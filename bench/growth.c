@@ -13,7 +13,7 @@ static const double limit = 2.2, a_while = 1;
 
 static struct lent sizes[SIZES];
 static double best[SIZES], growths[SIZES - 1][ROUNDS]; // of the last measurement
-static int rounds;
+static int rounds, tries;
 
 static double time_of(const struct lent *l)
 {
@@ -45,6 +45,7 @@ static int by_size(const void *a, const void *b)
 static void measure(void)
 {
     rounds = 0;
+    tries++;
     for (double start = cpu_seconds(); rounds == 0 || (rounds < ROUNDS && cpu_seconds() - start < a_while);)
         measure_round();
     for (int i = 1; i < SIZES; i++)
@@ -68,7 +69,9 @@ static void print(const char *name)
         printf(" %9.2f", best[i] * 1e3);
     for (int i = 1; i < SIZES; i++)
         printf(" %6.2f", growth(i));
-    printf(" %7u%s\n", sizes[SIZES - 1].answer.number, is_over() ? "  over" : "");
+    printf(" %7u%s", sizes[SIZES - 1].answer.number, is_over() ? "  over" : "");
+    if (tries > 1) printf("  measured %d times", tries);
+    printf("\n");
 }
 
 int main(int count, char **arguments)
@@ -81,8 +84,8 @@ int main(int count, char **arguments)
         best[i] = 1e9;
     }
     measure();
-    // Again, a little later, while it is over, since the machine may be busy.
-    for (int i = 1; i < TRIES && !is_short && is_over(); i++) {
+    // Again, a little later, while it is over, since the machine may be busy; the last measurement counts.
+    while (tries < TRIES && !is_short && is_over()) {
         sleep(1);
         measure();
     }

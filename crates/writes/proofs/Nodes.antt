@@ -7,6 +7,7 @@ use native.Mathlib.Omega.{arith}
 use lib.ListN.{length, take, drop, set}
 use lib.Dec.{eqb}
 use Rattle.text.specs.Text.{Text, cond}
+use Rattle.text.proofs.Compare.{by, contrary}
 use Rattle.scope.specs.Code.{cell}
 use Rattle.scope.proofs.Cells.{front-cell, most-small}
 use Rattle.machine.proofs.Extends.{adds-new-term, adds-term}
@@ -22,7 +23,7 @@ use Rattle.state.specs.Words.{node-word, Stays}
 use Rattle.state.specs.Represents.{Tables, Wrote}
 use Rattle.state.specs.Writes.{place-of, cells-of, new-element, begin, node-iri, node-write, placed, opened-at, closed, SpotFits, NodeFits}
 use Rattle.writes.specs.Ready.{Ready, Writes, put-at}
-use Rattle.writes.specs.Steps.{Part, TermReady, TermWrites, FreshReady, FreshWrites, NumberWrites, PutReady}
+use Rattle.writes.specs.Steps.{Part, TermReady, TermWrites, FreshReady, FreshWrites, NumberWrites, PutReady, Below}
 use Rattle.writes.proofs.Compose.{Grows, grows-return, grows-bind, ready-first, ready-next, writes-return, writes-bind, writes-then-return}
 use Rattle.writes.proofs.Places.{place-element, grows-put}
 use Rattle.writes.proofs.Rows.{wrote}
@@ -224,6 +225,19 @@ module _ (s : Spot) where
           alone-wrote k work' t' st' (i, Z) =
               result-as (placed s w) (put-at (place-of (s .x) (s .y)) (s .at) w) work' t' (set st' node-word k) (placed-alone w e)
               (wrote (put-at (place-of (s .x) (s .y)) (s .at) w) k work work' t t' st st' (set st' node-word k) Z (i .1) (r .represents .usable .words) refl)
+
+        -- Either way.
+        module _ (x y : ℕ) (work' : Text) (t' : Tables) (st' : List ℕ) (b : Below s x work work' t t' st st') (ey : y ≡ cond (s .list) 0 (s .y)) where
+          pub below-put : PutReady x y (s .at) (node-write n work' back text tag (s .at)) work' t' st' × NodeFits n work' back text tag
+          below-put =
+              by (s .list) (λ e. let ez : y ≡ 0 = ey ∙ rw e in rw ez (listed-put e x work' t' st' (b .listed e)))
+              (λ e. let ez : y ≡ s .y = ey ∙ rw e in let a = b .alone e in rw (ez, a .0, a .1 .0, a .1 .1 .0, a .1 .1 .1) (alone-put e, f))
+
+          pub below-wrote : (k : ℕ) (work″ : Text) (t″ : Tables) (st″ : List ℕ) → NumberWrites (put-at (place-of x y) (s .at) (node-write n work' back text tag (s .at))) k work' work″ t' t″ st' st″
+              → Result (placed s w) work″ t″ (set st″ node-word k)
+          below-wrote k work″ t″ st″ Z =
+              by (s .list) (λ e. let ez : y ≡ 0 = ey ∙ rw e in listed-wrote e x work' t' st' (b .listed e) k work″ t″ st″ (rw ez at Z))
+              (λ e. let ez : y ≡ s .y = ey ∙ rw e in let a = b .alone e in alone-wrote e k work″ t″ st″ (rw (ez, a .0, a .1 .0, a .1 .1 .0, a .1 .1 .1) at Z))
 
     -- A place alone.
     module _ (r : Ready (opened-at s) work t st) where

@@ -16,9 +16,10 @@ use Rattle.terms.specs.Keeps.{findable, Typed, Means, Added}
 use Rattle.index.specs.Tree.{Links}
 use Rattle.machine.specs.Memory.{Memory, Write, done, term, new-term, row}
 use Rattle.state.specs.Words.{rows-word, terms-word, node-word, counts-of}
-use Rattle.machine.specs.Rules.{hold}
+use Rattle.machine.specs.Rules.{hold, new-cell}
 use Rattle.state.specs.Represents.{Tables, lent-tables, Represents}
-use Rattle.state.specs.Writes.{place-of}
+use Rattle.state.specs.Writes.{place-of, cells-of}
+use Rattle.state.specs.declared.Spot.{Spot}
 use Rattle.writes.specs.Ready.{Ready, Kept, Writes, put-at}
 
 -- Only the counts of terms, bytes and blank nodes were set.
@@ -124,3 +125,8 @@ pub record PutReady (x y at : ℕ) (w : Write ℕ) (work : Text) (t : Tables) (s
   pub first : x < 4294967296
   pub second : y < 4294967296
   pub position : at < 4294967296
+
+-- What a node belongs to has the number x: a new cell where it is an element, else what the place says.
+pub record Below (s : Spot) (x : ℕ) (work work' : Text) (t t' : Tables) (st st' : List ℕ) : Type 0 where
+  pub listed : s .list ≡ true → NumberWrites (new-cell (place-of (s .x) (s .y)) (s .opened) (cells-of (s .last)) (s .at)) x work work' t t' st st'
+  pub alone : s .list ≡ false → (x ≡ s .x) × ((work' ≡ work) × ((t' ≡ t) × (st' ≡ st)))

@@ -1,10 +1,11 @@
 // What one token writes into the lent tables, once it is known that there is room: the place of its node, the node, and the
 // row that holds it.
 ghost use mathlib.Core.Path.{_≡_};
-ghost use mathlib.Core.Bool.{false};
+ghost use mathlib.Core.Bool.{true, false};
 ghost use mathlib.Core.List.{List};
 ghost use Prim.Native.Nat.{ℕ, _+_, _-_, _<_};
 ghost use lib.ListN.{length, getD, take, drop};
+ghost use Rattle.text.specs.Text.{cond};
 ghost use Rattle.scope.specs.Code.{words-size, Usable};
 ghost use Rattle.form.specs.Form.{undo, bad, joined};
 ghost use Rattle.dataset.specs.Terms.{iri, blank, label, tagged, rdf-first, rdf-rest, rdf-nil};
@@ -18,7 +19,7 @@ ghost use Rattle.state.specs.Words.{terms-word, kept-size, counts-of, Stays};
 ghost use Rattle.state.specs.Represents.{lent-tables, Wrote};
 ghost use Rattle.state.specs.Writes.{place-of, cells-of, node-write, placed, opened-at, closed, SpotFits, NodeFits};
 ghost use Rattle.writes.specs.Ready.{Ready, Writes, put-at};
-ghost use Rattle.writes.specs.Steps.{CountsSet, Number, Part, ShareReady, Shares, TermAdded, TermReady, TermWrites, FreshReady, FreshWrites, RowReady, RowWrites, NumberWrites, HoldReady, PutReady};
+ghost use Rattle.writes.specs.Steps.{CountsSet, Number, Part, ShareReady, Shares, TermAdded, TermReady, TermWrites, FreshReady, FreshWrites, RowReady, RowWrites, NumberWrites, HoldReady, PutReady, Below};
 use form::Form;
 use limits::Limits;
 use scope::Layout;
@@ -430,6 +431,36 @@ fn new_cell(
     later_cell(work, rows, terms, store, st, spot)
 }
 
+// The number of what a node belongs to: of a new cell where it is an element, else of what its place says.
+fn holder(
+    work: &mut [u8],
+    rows: &mut [u32],
+    terms: &mut [u32],
+    store: &mut [u8],
+    st: &mut [usize; Layout::WORDS],
+    spot: Spot,
+) -> usize
+    requires { ⌜ (spot .list ≡ true → Ready (new-cell (place-of (spot .x) (spot .y)) (spot .opened) (cells-of (spot .last)) (spot .at)) (now work) (lent-tables (now rows) (now terms) (now store)) (now st)) × SpotFits spot ⌝ }
+    ensures { λ r. ⌜ Below spot r (now (work .entry)) (now (work .exit)) (lent-tables (now (rows .entry)) (now (terms .entry)) (now (store .entry))) (lent-tables (now (rows .exit)) (now (terms .exit)) (now (store .exit))) (now (st .entry)) (now (st .exit)) ⌝ }
+{
+    let list = spot.list;
+    if list {
+        return new_cell(work, rows, terms, store, st, spot);
+    }
+    spot.x
+}
+
+// The predicate; 0 where the node is an element.
+fn predicate(spot: Spot) -> usize
+    ensures { λ r. ⌜ r ≡ cond (spot .list) 0 (spot .y) ⌝ }
+{
+    let list = spot.list;
+    if list {
+        return 0;
+    }
+    spot.y
+}
+
 // The number of a node.
 fn node(
     work: &mut [u8],
@@ -503,28 +534,9 @@ pub fn write_placed(
     requires { ⌜ Ready (placed spot (node-write node (now work) (now back) (now text) (now tag) (spot .at))) (now work) (lent-tables (now rows) (now terms) (now store)) (now st) × (SpotFits spot × NodeFits node (now work) (now back) (now text) (now tag)) ⌝ }
     ensures { λ _. ⌜ Wrote (placed spot (node-write node (now (work .entry)) (now (back .entry)) (now (text .entry)) (now (tag .entry)) (spot .at))) (now (work .entry)) (now (work .exit)) (lent-tables (now (rows .entry)) (now (terms .entry)) (now (store .entry))) (lent-tables (now (rows .exit)) (now (terms .exit)) (now (store .exit))) (now (st .entry)) (now (st .exit)) × (Stays (now (st .entry)) (now (st .exit)) × (length (now (st .exit)) ≡ length (now (st .entry)))) ⌝ }
 {
-    let list = spot.list;
     let at = spot.at;
-    if list {
-        let cell = new_cell(work, rows, terms, store, st, spot);
-        st[Words::NODE] = put_node(
-            work,
-            rows,
-            terms,
-            store,
-            st,
-            cell,
-            0,
-            at,
-            node,
-            back,
-            text,
-            tag,
-        );
-        return;
-    }
-    let x = spot.x;
-    let y = spot.y;
+    let x = holder(work, rows, terms, store, st, spot);
+    let y = predicate(spot);
     st[Words::NODE] = put_node(
         work,
         rows,
