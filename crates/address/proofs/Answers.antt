@@ -27,7 +27,7 @@ use Rattle.scope.specs.declared.Found.{Found}
 use Rattle.scope.specs.declared.Found.the-variants.{At, Missing}
 use Rattle.dataset.specs.Constructors.{inner, iri-of, nothing, awaiting}
 use Rattle.address.specs.Tests.{token-as, Sound, iri-refusal, outcome}
-use Rattle.address.specs.Addresses.{refused-address, front-of, Addresses, Lightened, WritesReference, LocalFrom}
+use Rattle.address.specs.Addresses.{refused-address, front-of, back-of, with-form, Addresses, WritesReference, LocalFrom}
 use Rattle.address.specs.declared.Address.{Address}
 use Rattle.address.proofs.Between.{inside-good, inside-read, scheme-inside}
 use Rattle.address.proofs.Bases.{outcome-written}
@@ -207,39 +207,47 @@ module _ (kind : ℕ) (token work : Text) (st : List ℕ) (buffer : Text) where
 pub as-kind : (kind : ℕ) (token work : Text) (st : List ℕ) (buffer : Text) (r : Address) → kind ≡ 1 → Addresses 1 token work st buffer r → Addresses kind token work st buffer r
 as-kind kind token work st buffer r e a = subst (λ (k : ℕ). Addresses k token work st buffer r) (sym e) a
 
--- An address whose back is in another form that reads the same.
-pub still-stands : (kind : ℕ) (token work : Text) (st : List ℕ) (buffer : Text) (a r : Address) → Addresses kind token work st buffer a → Lightened token a r → Addresses kind token work st buffer r
+-- ---- Forms that read the same
+
+-- What `form: simplest` says of a back that was in the form g.
+abbrev pub Reads : Form → Form → Text → Type 0
+Reads f g back = (undo f back ≡ undo g back) × (bad f back ≡ bad g back)
+
+-- An address with its back in another form that reads the same.
+pub in-form : (kind : ℕ) (token work : Text) (st : List ℕ) (buffer : Text) (a : Address) (f : Form) → Reads f (a .form) (back-of a token buffer) → Addresses kind token work st buffer a
+    → Addresses kind token work st buffer (with-form a f)
 unfolding joined
-still-stands kind token work st buffer a r A L =
-    subst (Addresses kind token work st buffer) (sym (L .is))
-    (record {
-      order = A .order;
-      inside = A .inside;
-      back-order = A .back-order;
-      back-inside = A .back-inside;
-      stands = λ u s b at.
-          let S = A .stands u s b at in
-          record {
-            refusal = S .refusal;
-            iri = λ z. S .iri z ∙ ap (λ (t : Text). front-of a work ++ t) (sym (L .reads buffer));
-            right = λ z. L .right buffer ∙ S .right z;
-            short = S .short;
-          };
-    })
-
--- What the code that finds the form answers: the same address, or one with that form.
-pub lightened-not : (token : Text) (a : Address) → Lightened token a a
-lightened-not token a = record { form = a .form; is = refl; reads = λ b. refl; right = λ b. refl }
-
-pub lightened-so : (token : Text) (a : Address) (f : Form) → a .buffered ≡ false
-    → (undo f (take (a .to - a .from) (drop (a .from) token)) ≡ undo (a .form) (take (a .to - a .from) (drop (a .from) token))) × (bad f (take (a .to - a .from) (drop (a .from) token)) ≡ bad (a .form) (take (a .to - a .from) (drop (a .from) token)))
-    → Lightened token a (record { refused = a .refused; start = a .start; end = a .end; form = f; from = a .from; to = a .to; buffered = false })
-lightened-so token a f e q = record {
-  form = f;
-  is = ap (λ (b : Bool). record { refused = a .refused; start = a .start; end = a .end; form = f; from = a .from; to = a .to; buffered = b }) (sym e);
-  reads = λ b. rw e (q .0);
-  right = λ b. rw e (q .1);
+in-form kind token work st buffer a f q A = record {
+  order = A .order;
+  inside = A .inside;
+  back-order = A .back-order;
+  back-inside = A .back-inside;
+  stands = λ u s b at.
+      let S = A .stands u s b at in
+      record {
+        refusal = S .refusal;
+        iri = λ z. S .iri z ∙ ap (λ (t : Text). front-of a work ++ t) (sym (q .0));
+        right = λ z. q .1 ∙ S .right z;
+        short = S .short;
+      };
 }
 
-pub within-token : (kind : ℕ) (token work : Text) (st : List ℕ) (buffer : Text) (a : Address) → Addresses kind token work st buffer a → a .buffered ≡ false → (a .from ≤ a .to) × (a .to ≤ length token)
-within-token kind token work st buffer a A e = (A .back-order, rw e at (A .back-inside))
+module _ (f : Form) (s : Text) where
+  pub as-escaped : Reads f Escaped s → undo f s ≡ unescape s
+  unfolding undo
+  as-escaped q = q .0
+
+  pub escaped-length : (n : ℕ) → n ≡ length (undo f s) → Reads f Escaped s → n ≡ length (unescape s)
+  escaped-length n e q = e ∙ ap length (as-escaped q)
+
+  pub reserved-length : (n : ℕ) → n ≡ length (undo f s) → Reads f Reserved s → n ≡ length (unreserve s)
+  unfolding undo
+  reserved-length n e q = e ∙ ap length (q .0)
+
+  pub plain-scheme : (r : Bool) → f ≡ Plain → r ≡ has-scheme s → undo f s ≡ unescape s → r ≡ has-scheme (unescape s)
+  unfolding undo
+  plain-scheme r e h q = h ∙ ap has-scheme (rw e at q)
+
+-- What stands inside of an IRIREF is the back of its address.
+pub inside-reads : (f : Form) (token text : Text) → 2 ≤ length token → text ≡ inner 1 token → Reads f Escaped text → Reads f Escaped (take (length token - 1 - 1) (drop 1 token))
+inside-reads f token text h e q = rw (inside-read token h, ← e) q

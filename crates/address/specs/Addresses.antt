@@ -51,12 +51,6 @@ pub record Addresses (kind : ℕ) (token work : Text) (st : List ℕ) (buffer : 
 abbrev pub with-form : Address → Form → Address
 with-form a f = record { refused = a .refused; start = a .start; end = a .end; form = f; from = a .from; to = a .to; buffered = a .buffered }
 
-pub record Lightened (token : Text) (a r : Address) : Type 0 where
-  pub form : Form
-  pub is : r ≡ with-form a form
-  pub reads : (buffer : Text) → undo form (back-of a token buffer) ≡ undo (a .form) (back-of a token buffer)
-  pub right : (buffer : Text) → bad form (back-of a token buffer) ≡ bad (a .form) (back-of a token buffer)
-
 -- The reference s, without bad escapes, is resolved into the front of the buffer.
 pub record Resolves (base s buffer : Text) (a : Resolution) : Type 0 where
   pub is : a ≡ outcome base (unescape s)

@@ -7,12 +7,13 @@ ghost use lib.ListN.{length, getD};
 ghost use Rattle.text.specs.Text.{Text, is, empty};
 ghost use Rattle.limits.specs.Limits.{iri-limit, prefix-limit};
 ghost use Rattle.escape.specs.Escape.{unescape};
+ghost use Rattle.form.specs.Form.{undo};
 ghost use Rattle.iri.specs.Iri.{has-scheme};
 ghost use Rattle.iri.specs.Code.{before};
 ghost use Rattle.scope.specs.Code.{environment-in, Usable};
 ghost use Rattle.dataset.specs.Constructors.{inner};
 ghost use Rattle.address.specs.Tests.{Sound};
-ghost use Rattle.address.specs.Addresses.{refused-address, Addresses, Lightened, WritesReference, LocalFrom, GoodReference, DeclaresNamespace, DeclaresBase};
+ghost use Rattle.address.specs.Addresses.{refused-address, Addresses, WritesReference, LocalFrom, GoodReference, DeclaresNamespace, DeclaresBase};
 use form::Form;
 use iri::Resolution;
 use limits::Limits;
@@ -90,6 +91,18 @@ fn write_reference(
     iri::resolve(base, buffer, n)
 }
 
+// Whether a reference in this form has a scheme.
+fn with_scheme(form: Form, text: &[u8]) -> bool
+    requires { ⌜ undo form (now text) ≡ unescape (now text) ⌝ }
+    ensures { λ r. ⌜ r ≡ has-scheme (unescape (now (text .entry))) ⌝ }
+{
+    match form {
+        Form::Plain => iri::has_scheme(text),
+        Form::Escaped => iri::has_scheme_unescaped(text),
+        Form::Reserved => iri::has_scheme_unescaped(text),
+    }
+}
+
 // A reference with a scheme stays in the token; any other is resolved into the buffer.
 fn reference_address(
     token: &[u8],
@@ -104,15 +117,16 @@ fn reference_address(
         return refuse(7);
     }
     let text = inside(token);
-    if iri::has_scheme_unescaped(text) {
-        if Limits::IRI < escape::unescaped_length(text) {
+    let form = form::simplest(Form::Escaped, text);
+    if with_scheme(form, text) {
+        if Limits::IRI < form::undone_length(form, text) {
             return refuse(11);
         }
         return Address {
             refused: 0,
             start: 0,
             end: 0,
-            form: Form::Escaped,
+            form: form,
             from: 1,
             to: token.len() - 1,
             buffered: false,
@@ -173,38 +187,17 @@ fn name_address(token: &[u8], kind: usize, work: &[u8], st: &[usize; Layout::WOR
         return refuse(9);
     };
     let from = local_start(token, at);
-    if Limits::IRI - n < escape::unreserved_length(&token[from..]) {
+    let form = form::simplest(Form::Reserved, &token[from..]);
+    if Limits::IRI - n < form::undone_length(form, &token[from..]) {
         return refuse(11);
     }
     Address {
         refused: 0,
         start: start,
         end: start + n,
-        form: Form::Reserved,
+        form: form,
         from: from,
         to: token.len(),
-        buffered: false,
-    }
-}
-
-// The same, its back in the form that is cheapest to read: whoever looks at the IRI later need not look for escapes again.
-fn lightened(a: Address, token: &[u8]) -> Address
-    requires { ⌜ (a .buffered ≡ false → (a .from ≤ a .to) × (a .to ≤ length (now token))) ⌝ }
-    ensures { λ r. ⌜ Lightened (now (token .entry)) a r ⌝ }
-{
-    if a.buffered {
-        return a;
-    }
-    let from = a.from;
-    let to = a.to;
-    let form = a.form;
-    Address {
-        refused: a.refused,
-        start: a.start,
-        end: a.end,
-        form: form::simplest(form, &token[from..to]),
-        from: from,
-        to: to,
         buffered: false,
     }
 }
@@ -221,11 +214,9 @@ pub fn address_of(
     ensures { λ r. ⌜ Addresses kind (now (token .entry)) (now (work .entry)) (now (st .entry)) (now (buffer .exit)) r ⌝ }
 {
     if kind == 1 {
-        let a = reference_address(token, work, st, buffer);
-        return lightened(a, token);
+        return reference_address(token, work, st, buffer);
     }
-    let a = name_address(token, kind, work, st);
-    lightened(a, token)
+    name_address(token, kind, work, st)
 }
 
 // Declares the prefix for the IRI of a reference without bad escapes; it is written into the buffer.
