@@ -7,6 +7,7 @@ ghost use Rattle.text.specs.Text.{same-text};
 ghost use Rattle.text.specs.Slice.{over};
 ghost use Rattle.escape.specs.Code.{undone, Starts, Written};
 ghost use Rattle.form.specs.Form.{undo, bad, joined};
+ghost use Rattle.form.specs.declared.Form.the-variants.{Plain};
 ghost use Rattle.form.specs.Hash.{first-multiplier, most-multiplier, stir, stir-4, hash-from};
 use escape::Scan;
 
@@ -47,6 +48,20 @@ fn same_undone(form: Form, back: &[u8], t: &[u8]) -> bool
         Form::Escaped => escape::same_unescaped(back, t),
         Form::Reserved => escape::same_unreserved(back, t),
     }
+}
+
+// Whether t is the front and the back, both as they are.
+pub fn same_plain(front: &[u8], back: &[u8], t: &[u8]) -> bool
+    ensures { λ r. ⌜ r ≡ same-text (joined (now (front .entry)) Plain (now (back .entry))) (now (t .entry)) ⌝ }
+{
+    let n = front.len();
+    if t.len() < n {
+        return false;
+    }
+    if text::same(back, &t[n..]) {
+        return text::same(front, &t[..n]);
+    }
+    false
 }
 
 // Whether t is the whole text. The back is looked at first: names of one namespace differ there.

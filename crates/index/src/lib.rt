@@ -9,10 +9,11 @@ ghost use Rattle.limits.specs.Limits.{work-size};
 ghost use Rattle.form.specs.Form.{joined};
 ghost use Rattle.table.specs.Layout.{entry-at};
 ghost use Rattle.terms.specs.Code.{matches, Readable};
+ghost use Rattle.terms.specs.Keeps.{iri-sort};
 ghost use Rattle.index.specs.Slots.{slot-at, put-slot};
 ghost use Rattle.index.specs.Keys.{key-at, turn-of, turn-at, type-of};
 ghost use Rattle.index.specs.Tree.{buckets, least, Linked, Follows, Vacant, InSlots, Links};
-ghost use Rattle.index.specs.Holds.{Searchable, iri-sort, PartOf, Finds, Numbers};
+ghost use Rattle.index.specs.Holds.{Searchable, PartOf, Finds, Numbers};
 use form::Form;
 use form::Multiplier;
 use limits::Limits;
@@ -183,20 +184,19 @@ pub fn find(
     }
 }
 
-// Whether the number is that of the term. It may be any number: its entry is compared before it is believed.
+// Whether the number is that of the IRI. It may be any number: its entry is compared before it is believed. Where the back has
+// escapes the answer is no.
 pub fn is_number(
     number: usize,
     terms: &[u32],
     store: &[u8],
     count: usize,
-    sort: Sort,
     front: &[u8],
     form: Form,
     back: &[u8],
-    tag: &[u8],
 ) -> bool
     requires { ⌜ Readable (now terms) (now store) count ⌝ }
-    ensures { λ r. ⌜ (r ≡ true → Numbers (now (terms .entry)) (now (store .entry)) count sort (joined (now (front .entry)) form (now (back .entry))) (now (tag .entry)) number) ⌝ }
+    ensures { λ r. ⌜ (r ≡ true → Numbers (now (terms .entry)) (now (store .entry)) count (joined (now (front .entry)) form (now (back .entry))) number) ⌝ }
 {
     if number == 0 {
         return false;
@@ -204,7 +204,11 @@ pub fn is_number(
     if count < number {
         return false;
     }
-    terms::is_term(terms, store, number - 1, sort, front, form, back, tag)
+    match form {
+        Form::Plain => terms::is_iri(terms, store, number - 1, front, back),
+        Form::Escaped => false,
+        Form::Reserved => false,
+    }
 }
 
 // Puts the term that was added behind `count` others into its slot.

@@ -1,5 +1,5 @@
 -- The tests of an entry, as the code makes them one after another.
-use mathlib.Core.Path.{_≡_, sym, ap, _∙_}
+use mathlib.Core.Path.{_≡_, refl, sym, ap, _∙_}
 use mathlib.Core.Bool.{Bool, true, false}
 use Prim.Native.Nat.{ℕ, suc, _+_, _-_, _<_, _≤_}
 use native.Mathlib.Numerals.{add-one}
@@ -44,6 +44,12 @@ module _ (store : Text) (e : Entry) (sort : Sort) (x g : Text) where
   pub rest-other : (sort .kind ≡ 3 → ⊥) → (sort .kind ≡ 4 → ⊥) → true ≡ same-rest store e sort g
   unfolding same-rest
   rest-other h k = rw (ne-eqb (sort .kind) 3 h, ne-eqb (sort .kind) 4 k)
+
+  -- Of a term that has neither datatype nor tag nothing but the text is compared.
+  pub text-alone : e .kind ≡ sort .kind → (sort .kind ≡ 3 → ⊥) → (sort .kind ≡ 4 → ⊥) → (start end : ℕ) → start ≡ e .start → end ≡ e .start + e .size
+      → (b : Bool) → b ≡ same-text x (take (end - start) (drop start store)) → b ≡ matches store e sort x g
+  text-alone k h l start end a z true q = same-text-too k start end a z true true q refl (rest-other h l)
+  text-alone k h l start end a z false q = other-text k start end a z false q refl
 
 -- One index further in a search.
 first-suc : (p : ℕ → Bool) (i n m : ℕ) → n ≡ suc m → first p i n ≡ cond (p i) (suc i) (first p (suc i) m)

@@ -75,6 +75,9 @@ pub record Added (terms terms' : List ℕ) (store store' : Text) (c c' : Counts)
   pub keeps : (ts : List Term) (t : Term) → Keeps ts terms store c → Means ts sort x g t → Typed ts t → (findable t ≡ true → number t ts ≡ none) → Keeps (ts ++ t ∷ []) terms' store' c'
 
 -- The sort of a [ or a list cell.
+abbrev pub iri-sort : Sort
+iri-sort = record { kind = iri-kind; datatype = 0 }
+
 abbrev pub blank-sort : Sort
 blank-sort = record { kind = blank-kind; datatype = 0 }
 

@@ -1,14 +1,15 @@
 // Terms and rows in lent slices: looking for an equal term one by one, adding a term, adding a row.
 ghost use mathlib.Core.Path.{_≡_};
 ghost use mathlib.Core.Bool.{false};
-ghost use mathlib.Core.List.{_++_};
+ghost use mathlib.Core.List.{[], _++_};
 ghost use Prim.Native.Nat.{ℕ, suc, _+_, _*_, _-_, _≤_, _<_};
 ghost use lib.ListN.{length, getD};
 ghost use Rattle.text.specs.Slice.{over-at};
 ghost use Rattle.form.specs.Form.{joined, bad};
+ghost use Rattle.form.specs.declared.Form.the-variants.{Plain};
 ghost use Rattle.table.specs.Layout.{entry-at, entry-words};
 ghost use Rattle.terms.specs.Code.{same-rest, matches, first, Inside, Readable, fourth, next-entry, next-counts};
-ghost use Rattle.terms.specs.Keeps.{Small, TermFits, Added, blank-sort, BlankAdded, RowAdded};
+ghost use Rattle.terms.specs.Keeps.{Small, TermFits, Added, iri-sort, blank-sort, BlankAdded, RowAdded};
 use form::Form;
 
 // How many terms there are, how many bytes of the store they use, and how many of them are blank nodes.
@@ -73,6 +74,20 @@ pub fn is_term(
         return same_rest(terms, store, i, sort, tag);
     }
     false
+}
+
+// The same for an IRI whose parts are as they are, which most are.
+pub fn is_iri(terms: &[u32], store: &[u8], i: usize, front: &[u8], back: &[u8]) -> bool
+    requires { ⌜ Inside (now terms) (now store) i ⌝ }
+    ensures { λ r. ⌜ r ≡ matches (now (store .entry)) (entry-at (now (terms .entry)) (suc i)) iri-sort (joined (now (front .entry)) Plain (now (back .entry))) [] ⌝ }
+{
+    let at = 5 * i;
+    if wide(terms[at]) != 1 {
+        return false;
+    }
+    let start = wide(terms[at + 1]);
+    let end = start + wide(terms[at + 2]);
+    form::same_plain(front, back, &store[start..end])
 }
 
 // The first number of such a term behind the first `from` terms, or 0.

@@ -17,12 +17,12 @@ use Rattle.table.specs.Tables.{number, or-zero}
 use Rattle.table.proofs.Finding.{number-last, number-within, zero-none, positive-some}
 use Rattle.terms.specs.declared.Counts.{Counts}
 use Rattle.terms.specs.declared.Sort.{Sort}
-use Rattle.terms.specs.Keeps.{Typed, Means, TermFits, Added, BlankAdded, blank-sort}
+use Rattle.terms.specs.Keeps.{Typed, Means, TermFits, Added, BlankAdded, iri-sort, blank-sort}
 use Rattle.terms.specs.Code.{Readable, next-entry}
 use Rattle.text.proofs.Over.{over-at-length}
 use Rattle.table.specs.Layout.{entry-words}
 use Rattle.terms.proofs.Kept.{bytes-room}
-use Rattle.index.specs.Holds.{Finds, Numbers, Searchable, iri-sort}
+use Rattle.index.specs.Holds.{Finds, Numbers, Searchable}
 use Rattle.index.proofs.Indexes.{searchable, holds-blank, holds-added, end-part}
 use Rattle.machine.specs.Memory.{Memory, Write, term, term-by, new-term, typed}
 use Rattle.machine.specs.Demand.{Fits}
@@ -49,8 +49,8 @@ searchable-whole terms store work n c d e q S = rw (whole terms, whole store, en
 pub readable-whole : (terms : List ℕ) (store : Text) (n : ℕ) → Readable terms store n → Readable (take (length terms - 0) (drop 0 terms)) (take (length store - 0) (drop 0 store)) n
 readable-whole terms store n R = rw (whole terms, whole store) R
 
-pub numbers-whole : (terms : List ℕ) (store : Text) (n : ℕ) (sort : Sort) (x g : Text) (k : ℕ) → Numbers (take (length terms - 0) (drop 0 terms)) (take (length store - 0) (drop 0 store)) n sort x g k → Numbers terms store n sort x g k
-numbers-whole terms store n sort x g k N = rw (whole terms, whole store) at N
+pub numbers-whole : (terms : List ℕ) (store : Text) (n : ℕ) (x : Text) (k : ℕ) → Numbers (take (length terms - 0) (drop 0 terms)) (take (length store - 0) (drop 0 store)) n x k → Numbers terms store n x k
+numbers-whole terms store n x k N = rw (whole terms, whole store) at N
 
 pub ready-searchable : (sort : Sort) (x g work : Text) (terms : List ℕ) (store : Text) (st : List ℕ) → ShareReady sort x g work terms store st → Searchable terms store (drop work-size work) (counts-of st)
 ready-searchable sort x g work terms store st S = searchable (S .ready .memory .terms) terms store (drop work-size work) (counts-of st) (S .ready .represents .terms-held)
@@ -277,11 +277,11 @@ counts-set st c e =
 -- ---- Kept numbers
 
 -- A kept number that was compared, and is believed.
-pub shares-kept : (sort : Sort) (x g : Text) (n : ℕ) (work : Text) (terms : List ℕ) (store : Text) (st : List ℕ) → Numbers terms store (getD st terms-word 0) sort x g n → ShareReady sort x g work terms store st
-    → Number n × ((rows : List ℕ) → Shares sort x g n work work (lent-tables rows terms store) (lent-tables rows terms store) st st)
-shares-kept sort x g n work terms store st N S =
+pub shares-kept : (x : Text) (n : ℕ) (work : Text) (terms : List ℕ) (store : Text) (st : List ℕ) → Numbers terms store (getD st terms-word 0) x n → ShareReady iri-sort x [] work terms store st
+    → Number n × ((rows : List ℕ) → Shares iri-sort x [] n work work (lent-tables rows terms store) (lent-tables rows terms store) st st)
+shares-kept x n work terms store st N S =
     let F = N .1 (drop work-size work) (counts-of st) refl in
-    (number-found sort x g n work terms store st F S (N .0), λ rows. shares-found sort x g n work rows terms store st F (N .0))
+    (number-found iri-sort x [] n work terms store st F S (N .0), λ rows. shares-found iri-sort x [] n work rows terms store st F (N .0))
 
 -- A number is kept: no word that says anything has changed.
 pub writes-kept : {w : Write ℕ} {r : ℕ} {work work' : Text} {terms terms' : List ℕ} {store store' : Text} {st st' : List ℕ} (i n : ℕ) → blanks-word < i → i < node-word

@@ -142,10 +142,6 @@ fn share_iri(
     requires { ⌜ TermReady (term (iri (joined (take (end - start) (drop start (now work))) form (now back)))) (now work) (now terms) (now store) (now st) × Part start end form (now back) ⌝ }
     ensures { λ r. ⌜ TermWrites (term (iri (joined (take (end - start) (drop start (now (work .entry)))) form (now (back .entry))))) r (now (work .entry)) (now (work .exit)) (now (terms .entry)) (now (terms .exit)) (now (store .entry)) (now (store .exit)) (now (st .entry)) (now (st .exit)) ⌝ }
 {
-    let sort = Sort {
-        kind: 1,
-        datatype: 0,
-    };
     let word = Words::KEPT + kept_at(start, back);
     let kept = st[word];
     let count = st[Words::TERMS];
@@ -154,14 +150,16 @@ fn share_iri(
         &terms[0..],
         &store[0..],
         count,
-        sort,
         &work[start..end],
         form,
         back,
-        &back[..0],
     ) {
         return kept;
     }
+    let sort = Sort {
+        kind: 1,
+        datatype: 0,
+    };
     let number = share(
         work,
         terms,

@@ -1,8 +1,12 @@
--- An entry that is the term has its number, since each term stands there once.
+-- An entry that is the IRI has its number, since each term stands there once.
 use mathlib.Core.Path.{sym, _∙_}
+use mathlib.Core.List.{[]}
 use Prim.Native.Nat.{_-_}
 use native.Mathlib.Omega.{arith}
 use Rattle.text.proofs.Compare.{contrary}
+use Rattle.form.specs.Form.{joined}
+use Rattle.form.specs.declared.Form.the-variants.{Plain}
+use Rattle.terms.specs.Keeps.{iri-sort}
 use Rattle.index.proofs.Indexes.{found-number}
 use borrow.Author.Needs.{needs}
 use Rattle.index.proofs.is_number.Statement.{statement}
@@ -14,14 +18,41 @@ returns c = λ z. contrary (sym z)
 returns-2 : tie.Need-returns-2
 returns-2 c = λ z. contrary (sym z)
 
-sub-is-term : tie.Need-sub-is-term
-sub-is-term c = search needs
+enum-told : tie.Need-enum-told
+enum-told c = search needs
 
-is-term-requires : tie.Need-is-term-requires
-is-term-requires c κs = c .before .before .before .before .before .before .before .pre (c .before .before .before .before .before .before .before .args .number - 1) (omega arith)
+sub-is-iri : tie.Need-sub-is-iri
+sub-is-iri c = search needs
+
+is-iri-requires : tie.Need-is-iri-requires
+is-iri-requires c κs = c .before .before .before .before .before .before .before .before .pre (c .before .before .before .before .before .before .before .before .args .number - 1) (omega arith)
+
+enum-told-2 : tie.Need-enum-told-2
+enum-told-2 c = search needs
+
+enum-told-3 : tie.Need-enum-told-3
+enum-told-3 c = search needs
 
 returns-3 : tie.Need-returns-3
-returns-3 c = λ z. (omega arith, (λ index k e ts t H M f. found-number (H .keeps) (c .before .before .before .before .before .before .before .before .args .sort) _ _ t M f (c .before .before .before .before .before .before .before .before .args .number) (omega arith) (omega (arith, e)) (sym (c .is-term .ensures) ∙ z)))
+returns-3 c = λ z. (omega arith, (λ index k e ts t H M f. found-number (H .keeps) iri-sort (joined (c .before .before .before .before .before .before .before .before .before .args .front .now) Plain (c .before .before .before .before .before .before .before .before .before .args .back .now)) [] t (rw (c .before .enum-told .given .1) at M) f (c .before .before .before .before .before .before .before .before .before .args .number) (omega arith) (omega (arith, e)) (sym (c .is-iri .ensures) ∙ z)))
+
+returns-4 : tie.Need-returns-4
+returns-4 c = λ z. contrary (sym z)
+
+returns-5 : tie.Need-returns-5
+returns-5 c = λ z. contrary (sym z)
 
 pub is-number-spec : {M : Type 1} → statement M
-is-number-spec = tie.close (tie.spec returns returns-2 sub-is-term is-term-requires returns-3)
+is-number-spec =
+    tie.close
+    (tie.spec
+    returns
+    returns-2
+    enum-told
+    sub-is-iri
+    is-iri-requires
+    enum-told-2
+    enum-told-3
+    returns-3
+    returns-4
+    returns-5)
