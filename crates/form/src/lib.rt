@@ -54,12 +54,12 @@ fn same_undone(form: Form, back: &[u8], t: &[u8]) -> bool
 pub fn same_plain(front: &[u8], back: &[u8], t: &[u8]) -> bool
     ensures { λ r. ⌜ r ≡ same-text (joined (now (front .entry)) Plain (now (back .entry))) (now (t .entry)) ⌝ }
 {
-    let n = front.len();
-    if t.len() < n {
+    let size = front.len();
+    if t.len() < size {
         return false;
     }
-    if text::same(back, &t[n..]) {
-        return text::same(front, &t[..n]);
+    if text::same(back, &t[size..]) {
+        return text::same(front, &t[..size]);
     }
     false
 }

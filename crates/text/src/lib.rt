@@ -162,7 +162,7 @@ pub fn copy(s: &[u8], out: &mut [u8])
 }
 
 // Whether none of the sixteen bytes from a place on is q. The compiler makes one comparison of it.
-pub fn none_of_16(s: &[u8], at: usize, q: u8) -> bool
+fn none_of_16(s: &[u8], at: usize, q: u8) -> bool
     requires { ⌜ at + 16 ≤ length (now s) ⌝ }
     ensures { λ r. ⌜ r ≡ free (byte q) (now (s .entry)) at 16 ⌝ }
 {
@@ -215,7 +215,7 @@ pub fn next(s: &[u8], at: usize, q: u8) -> usize
 }
 
 // Whether all of the sixteen bytes from a place on are ASCII.
-pub fn ascii_16(s: &[u8], at: usize) -> bool
+fn ascii_16(s: &[u8], at: usize) -> bool
     requires { ⌜ at + 16 ≤ length (now s) ⌝ }
     ensures { λ r. ⌜ r ≡ free high (now (s .entry)) at 16 ⌝ }
 {
