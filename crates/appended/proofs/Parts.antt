@@ -13,7 +13,7 @@ use Rattle.token.specs.Tokens.{Token, has-kind, Lexeme, token, unreadable, lexe
 use Rattle.grammar.specs.Productions.{Mode, Derivation, Grammatical}
 use Rattle.grammar.proofs.Grammar.{kinds-of, accepted as accepted-iff, one-derivation}
 use Rattle.grammar.proofs.Modes.{grammar}
-use Rattle.scope.specs.Environment.{Environment}
+use Rattle.environment.specs.Environment.{Environment}
 use Rattle.dataset.specs.Constructors.{reference, prefix, local, resolved-reference, joined-name, iri-of, Awaited, nothing, prefix-name, new-base, namespace-of, InForce, awaiting, directive-token, after-token, in-force}
 use Rattle.machine.specs.Refusals.{no-character, undeclared, no-base, too-long, one-prefix-more, too-deep, new-depth}
 use Rattle.machine.specs.Read.{Lent, mode-of, room-of, read}

@@ -14,7 +14,7 @@ use Rattle.escape.specs.Escape.{unescape}
 use Rattle.escape.proofs.Walk.{plain-text}
 use Rattle.iri.specs.Iri.{has-scheme}
 use Rattle.iri.specs.Resolve.{resolved}
-use Rattle.scope.specs.Environment.{Environment}
+use Rattle.environment.specs.Environment.{Environment}
 use Rattle.dataset.specs.Terms.{Term, iri, blank, literal, tagged}
 use Rattle.dataset.specs.Constructors.{inner, reference, resolved-reference, iri-of}
 use Rattle.table.specs.Tables.{same-term, number-from, number}

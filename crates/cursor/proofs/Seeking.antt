@@ -10,7 +10,7 @@ use lib.Dec.{eqb, ltb}
 use lib.ListN.{length, getD, set, take, drop, length-set, length-drop}
 use lib.Seq.{getD-set-same, getD-set-other, take-all}
 use borrow.Author.Tests.{eq-eqb, ne-eqb, lt-ltb, le-ltb, ltb-true, ltb-false, eqb-true, eqb-false}
-use Rattle.scope.specs.Code.{words-size}
+use Rattle.environment.specs.Code.{words-size}
 use Rattle.text.specs.Text.{Text, cond}
 use Rattle.text.proofs.Compare.{by}
 use Rattle.utf8.specs.Utf8.{first-bad}

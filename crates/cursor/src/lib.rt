@@ -6,13 +6,13 @@ ghost use lib.ListN.{length, getD, drop};
 ghost use Rattle.limits.specs.Limits.{document-limit};
 ghost use Rattle.utf8.specs.Utf8.{first-bad};
 ghost use Rattle.lexer_words.specs.Ahead.{Clear};
-ghost use Rattle.scope.specs.Code.{words-size};
+ghost use Rattle.environment.specs.Code.{words-size};
 ghost use Rattle.state.specs.Words.{at-word, len-word};
 ghost use Rattle.state.specs.Cursor.{Cursor, TokenHere, Sought};
 ghost use Rattle.cursor.specs.Code.{put-token, kind-there};
 use automaton::Next;
+use environment::Layout;
 use lexer_words::names::minus;
-use scope::Layout;
 use state::Words;
 
 fn wide(b: u8) -> usize
@@ -43,7 +43,7 @@ fn kind_there(kind: u8, at: usize, size: usize) -> usize
     Words::END
 }
 
-// Goes to the first token from a place on. No prefixed name begins within the `clear` bytes behind that place.
+// Goes to the first token from a place on. No prefixed name begins within the `zeroing` bytes behind that place.
 pub fn seek(doc: &[u8], st: &mut [usize; Layout::WORDS], at: usize, clear: usize)
     requires { ⌜ ((length (now doc) ≤ document-limit) × (at ≤ length (now doc))) × ((first-bad (drop at (now doc)) ≡ none) × (Clear (drop at (now doc)) clear × (length (now st) ≡ words-size))) ⌝ }
     ensures { λ _. ⌜ Sought (now (doc .entry)) at (now (st .entry)) (now (st .exit)) ⌝ }

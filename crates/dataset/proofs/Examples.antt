@@ -7,7 +7,7 @@ use Rattle.text.proofs.Table.{_⇒_, Gives}
 use Rattle.utf8.specs.Utf8.{encodes}
 use Rattle.token.specs.Kind.{dot}
 use Rattle.token.specs.Tokens.{Token, Lexeme, token, unreadable, lexemes}
-use Rattle.scope.specs.Environment.{bind}
+use Rattle.environment.specs.Environment.{bind}
 use Rattle.dataset.specs.Constructors.{string-text, reference, tag, node-label, prefix, local, iri-of, InForce, nothing, prefix-name, new-base, namespace-of, after-token, in-force, computing}
 
 -- The tokens of a quoted text; the first of them, and the last.

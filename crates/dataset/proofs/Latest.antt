@@ -14,7 +14,7 @@ use Rattle.grammar.specs.Ebnf.{Expr, tok, nt, _⨾_, _∣_, star, opt, Tree, le
 use Rattle.grammar.specs.Meaning.{Parts, meaning}
 use Rattle.grammar.specs.Productions.{Nonterminal, Mode, trig, turtle, production, root, kind-of, Derivation, trigDoc, block, turtleDoc, statement, directive, prefixID, base as base-nt, sparqlPrefix, sparqlBase, triples}
 use Rattle.grammar.proofs.Nonterminals.{nonterminals, nonterminal-code, each-nonterminal}
-use Rattle.scope.specs.Environment.{Environment, declare, set-base, start-environment}
+use Rattle.environment.specs.Environment.{Environment, declare, set-base, start-environment}
 use Rattle.dataset.specs.Terms.{Quad}
 use Rattle.dataset.specs.Constructors.{InForce, nothing, prefix-name, new-base, namespace-of, awaiting, directive-token, after-token, after-tokens, in-force, prefix, iri-of}
 use Rattle.dataset.specs.Statements.{Value, action, trig-quads, turtle-quads, statements}

@@ -8,7 +8,7 @@ use Rattle.token.specs.Kind.{IRIREF, long-strings, at-prefix, at-base, PREFIX, 
 use Rattle.token.specs.Tokens.{Token, has-kind, computing as token-computing}
 use Rattle.escape.specs.Escape.{unescape, unreserve, computing as escape-computing}
 use Rattle.iri.specs.Resolve.{resolved, computing as iri-computing}
-use Rattle.scope.specs.Environment.{Environment, lookup, declare, set-base, start-environment, computing as scope-computing}
+use Rattle.environment.specs.Environment.{Environment, lookup, declare, set-base, start-environment, computing as scope-computing}
 
 -- The text without n bytes at each end.
 unfoldable pub inner : ℕ → Text → Text

@@ -6,7 +6,7 @@ use Rattle.token.specs.Tokens.{Token}
 use Rattle.grammar.specs.Ebnf.{Expr, nt, _∣_, star, Tree, leaves, node, both, left, right, done, more}
 use Rattle.grammar.specs.Meaning.{Parts, meaning}
 use Rattle.grammar.specs.Productions.{Mode, trig, turtle, production, root, kind-of, Derivation, trigDoc, block, turtleDoc, statement, directive}
-use Rattle.scope.specs.Environment.{Environment}
+use Rattle.environment.specs.Environment.{Environment}
 use Rattle.dataset.specs.Terms.{Quad}
 use Rattle.dataset.specs.Constructors.{in-force}
 use Rattle.dataset.specs.Statements.{Value, action, in-graph}

@@ -8,7 +8,7 @@ use Rattle.token.specs.Tokens.{Token}
 use Rattle.grammar.specs.Meaning.{Parts, meaning}
 use Rattle.grammar.specs.Productions.{Nonterminal, Mode, trig, turtle, production, Derivation, root, trigDoc, block, triplesOrGraph, triples2, wrappedGraph, triplesBlock, labelOrSubject, turtleDoc, statement, directive, prefixID, base as base-nt, sparqlPrefix, sparqlBase, triples, predicateObjectList, objectList, verb, subject as subject-nt, predicate as predicate-nt, object as object-nt, literal as literal-nt, blank as blank-nt, blankNodePropertyList, collection, NumericLiteral, RDFLiteral, BooleanLiteral, String as String-nt, iri as iri-nt, PrefixedName, BlankNode, ANON}
 use Rattle.dataset.specs.Terms.{label, bracket, cell, Term, iri, blank, literal, tagged, Triple, Quad, rdf-type, rdf-first, rdf-rest, rdf-nil, xsd-string, xsd-integer, xsd-decimal, xsd-double, xsd-boolean}
-use Rattle.scope.specs.Environment.{Environment, declare, set-base, start-environment}
+use Rattle.environment.specs.Environment.{Environment, declare, set-base, start-environment}
 use Rattle.dataset.specs.Constructors.{string-text, tag, node-label, prefix, iri-of}
 
 -- A node: the place of its first token, its term, and the triples that its own brackets or cells produce.

@@ -16,14 +16,14 @@ use Rattle.token.specs.Terminals.{token-at}
 use Rattle.utf8.specs.Utf8.{decode}
 use Rattle.iri.specs.Code.{before}
 use Rattle.iri.proofs.Places.{until-take}
-use Rattle.scope.specs.Code.{environment-in, Usable, Beside, words-size}
-use Rattle.scope.proofs.Directives.{in-force-words}
+use Rattle.environment.specs.Code.{environment-in, Usable, Beside, words-size}
+use Rattle.environment.proofs.Directives.{in-force-words}
 use Rattle.state.specs.Words.{kind-word, at-word, len-word}
 use Rattle.state.specs.Cursor.{Cursor, TokenHere}
-use Rattle.address.specs.Tests.{Sound}
-use Rattle.address.specs.Addresses.{DeclaresNamespace, DeclaresBase}
-use Rattle.address.proofs.Begins.{iriref-begins}
-use Rattle.reading.specs.Reading.{code-among, held, Ready}
+use Rattle.token_iri.specs.Tests.{Sound}
+use Rattle.token_iri.specs.Addresses.{DeclaresNamespace, DeclaresBase}
+use Rattle.token_iri.proofs.Begins.{iriref-begins}
+use Rattle.simulation.specs.Simulation.{code-among, held, Ready}
 use Rattle.nodes.specs.Nodes.{Passed}
 use Rattle.nodes.proofs.Moving.{token-words, cursor-words}
 use Rattle.directives.specs.Directives.{directive-kinds, Able, Prefix, Prefixed}

@@ -14,8 +14,8 @@ use Rattle.text.specs.Text.{Text, cond, is}
 use Rattle.token.specs.Kind.{Kind, kind-code, kind-of-code, IRIREF, «PNAME_NS», dot}
 use Rattle.token.specs.Tokens.{Token}
 use Rattle.grammar.specs.Productions.{Mode, trig}
-use Rattle.scope.specs.Environment.{Environment, declare, set-base}
-use Rattle.scope.specs.Code.{environment-in, Beside}
+use Rattle.environment.specs.Environment.{Environment, declare, set-base}
+use Rattle.environment.specs.Code.{environment-in, Beside}
 use Rattle.dataset.specs.Constructors.{prefix, iri-of, awaiting, namespace-of as namespace-awaited, new-base as base-awaited}
 use Rattle.table.specs.Tables.{or-zero}
 use Rattle.machine.specs.Memory.{Memory, Write, return, in-environment}
@@ -27,11 +27,11 @@ use Rattle.machine.specs.Demand.{Fits}
 use Rattle.state.specs.Words.{kind-word, at-word, len-word, depth-word, graph-word}
 use Rattle.state.specs.Cursor.{TokenHere}
 use Rattle.state.specs.Represents.{Tables, room-in}
-use Rattle.address.specs.Tests.{token-as, namespace-refusal, base-refusal}
-use Rattle.address.specs.Addresses.{Leaves, DeclaresNamespace, DeclaresBase}
-use Rattle.reading.specs.Reading.{Held, held, tables-of, here, Holding, Ready, Turns, refusal-here}
-use Rattle.reading.proofs.Tests.{among-code}
-use Rattle.reading.proofs.Turning.{turns-then, turns-stop, turns-none}
+use Rattle.token_iri.specs.Tests.{token-as, namespace-refusal, base-refusal}
+use Rattle.token_iri.specs.Addresses.{Leaves, DeclaresNamespace, DeclaresBase}
+use Rattle.simulation.specs.Simulation.{Held, held, tables-of, here, Holding, Ready, Turns, refusal-here}
+use Rattle.simulation.proofs.Tests.{among-code}
+use Rattle.simulation.proofs.Turning.{turns-then, turns-stop, turns-none}
 use Rattle.nodes.specs.Nodes.{Passed}
 use Rattle.nodes.proofs.Passing.{Quiet}
 use Rattle.directives.specs.Directives.{Prefixed, Finishes, Directs}

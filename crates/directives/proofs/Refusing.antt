@@ -17,7 +17,7 @@ use Rattle.machine.specs.Frame.{Open}
 use Rattle.machine.specs.Refusals.{no-character, undeclared, no-base, too-long, one-prefix-more, too-deep}
 use Rattle.machine.specs.Step.{Room, State, first-refusal, awaited-by, tests}
 use Rattle.machine.specs.Demand.{Fits}
-use Rattle.address.specs.Tests.{token-as, namespace-refusal, base-refusal}
+use Rattle.token_iri.specs.Tests.{token-as, namespace-refusal, base-refusal}
 use Rattle.nodes.proofs.Passing.{Quiet}
 
 module _ (room : Room) (s : State) (v : Write Open) (s′ : State) (fits : Fits room (s′ .memory)) where

@@ -11,8 +11,8 @@ use Rattle.text.specs.Text.{Text}
 use Rattle.token.specs.Kind.{kind-of-code, among, open-bracket, open-paren, close-bracket, close-paren}
 use Rattle.lexer.specs.Rest.{rest}
 use Rattle.grammar.specs.Productions.{Mode}
-use Rattle.scope.specs.Environment.{Environment}
-use Rattle.scope.specs.Code.{environment-in, Beside}
+use Rattle.environment.specs.Environment.{Environment}
+use Rattle.environment.specs.Code.{environment-in, Beside}
 use Rattle.table.specs.Tables.{or-zero}
 use Rattle.machine.specs.Memory.{Memory, Write, return, in-environment}
 use Rattle.machine.specs.Frame.{Open}
@@ -22,10 +22,10 @@ use Rattle.machine.specs.Step.{State, first-refusal, tests}
 use Rattle.state.specs.Words.{kind-word, depth-word, graph-word, at-word, blanks-word, len-word, rows-word, terms-word, used-word}
 use Rattle.state.specs.Cursor.{TokenHere}
 use Rattle.state.specs.Represents.{Tables, room-in, Represents}
-use Rattle.address.specs.Addresses.{Leaves}
-use Rattle.reading.specs.Reading.{Held, held, tables-of, here, Holding, Ready, Turns}
-use Rattle.reading.proofs.Compose.{same-all}
-use Rattle.reading.proofs.Turning.{turns-token}
+use Rattle.token_iri.specs.Addresses.{Leaves}
+use Rattle.simulation.specs.Simulation.{Held, held, tables-of, here, Holding, Ready, Turns}
+use Rattle.simulation.proofs.Compose.{same-all}
+use Rattle.simulation.proofs.Turning.{turns-token}
 use Rattle.nodes.specs.Nodes.{Passed}
 use Rattle.nodes.proofs.Passing.{represents-words}
 

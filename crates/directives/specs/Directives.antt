@@ -8,12 +8,12 @@ use Rattle.text.specs.Text.{Text, is, until}
 use Rattle.limits.specs.Limits.{prefix-limit}
 use Rattle.token.specs.Kind.{Kind, at-prefix, at-base, PREFIX, BASE}
 use Rattle.grammar.specs.Productions.{Mode}
-use Rattle.scope.specs.Code.{environment-in, Usable}
+use Rattle.environment.specs.Code.{environment-in, Usable}
 use Rattle.machine.specs.Frame.{Open, statement}
 use Rattle.state.specs.Words.{at-word, depth-word}
 use Rattle.state.specs.Cursor.{Cursor}
-use Rattle.address.specs.Tests.{Sound}
-use Rattle.reading.specs.Reading.{Held, held, Ready, Turns}
+use Rattle.token_iri.specs.Tests.{Sound}
+use Rattle.simulation.specs.Simulation.{Held, held, Ready, Turns}
 
 -- The kinds that begin a directive.
 abbrev pub directive-kinds : List Kind

@@ -5,14 +5,14 @@ ghost use mathlib.Core.Bool.{true};
 ghost use Prim.Native.Nat.{_-_};
 ghost use lib.ListN.{length, getD, take, drop};
 ghost use Rattle.machine.specs.Frame.{prefix-name, namespace-of, new-base, last-dot, directive};
-ghost use Rattle.scope.specs.Code.{words-size};
+ghost use Rattle.environment.specs.Code.{words-size};
 ghost use Rattle.state.specs.Words.{kind-word, at-word, len-word};
 ghost use Rattle.state.specs.Cursor.{Cursor};
-ghost use Rattle.address.specs.Addresses.{DeclaresNamespace, DeclaresBase};
-ghost use Rattle.reading.specs.Reading.{code-among, held, Ready};
+ghost use Rattle.token_iri.specs.Addresses.{DeclaresNamespace, DeclaresBase};
+ghost use Rattle.simulation.specs.Simulation.{code-among, held, Ready};
 ghost use Rattle.directives.specs.Directives.{directive-kinds, Able, Prefix, Prefixed, Finishes, Directs};
+use environment::Layout;
 use limits::Limits;
-use scope::Layout;
 use state::Words;
 
 // The dot behind @prefix or @base.
@@ -21,7 +21,7 @@ fn final_dot(doc: &&[u8], st: &mut [usize; Layout::WORDS]) -> u8
     ensures { λ r. ⌜ ((work : _) → Finishes (now (now (doc .entry))) (directive last-dot) work work (now (st .entry)) (now (st .exit)) r) ⌝ }
 {
     if st[Words::KIND] != 19 {
-        return reading::unexpected(*doc, st);
+        return simulation::unexpected(*doc, st);
     }
     nodes::pass(doc, st);
     0
@@ -34,7 +34,7 @@ fn set_base(doc: &[u8], work: &mut [u8], st: &mut [usize; Layout::WORDS]) -> u8
 {
     let at = st[Words::AT];
     let end = at + st[Words::LEN];
-    address::declare_base(&doc[at..end], work, st)
+    token_iri::declare_base(&doc[at..end], work, st)
 }
 
 // The IRI of a new base, and the dot if there is to be one.
@@ -43,7 +43,7 @@ fn base_part(doc: &&[u8], work: &mut &mut [u8], st: &mut [usize; Layout::WORDS],
     ensures { λ r. ⌜ Finishes (now (now (doc .entry))) (directive (new-base dotted)) (now (work .entry)) (now (work .exit)) (now (st .entry)) (now (st .exit)) r ⌝ }
 {
     if st[Words::KIND] != 1 {
-        return reading::unexpected(*doc, st);
+        return simulation::unexpected(*doc, st);
     }
     let r = set_base(*doc, *work, st);
     if r != 0 {
@@ -69,7 +69,7 @@ fn declare(
 {
     let at = st[Words::AT];
     let end = at + st[Words::LEN];
-    address::declare_namespace(&doc[at..end], &doc[from..to], work, st)
+    token_iri::declare_namespace(&doc[at..end], &doc[from..to], work, st)
 }
 
 // The IRI of a prefix's namespace, and the dot if there is to be one.
@@ -85,7 +85,7 @@ fn namespace_part(
     ensures { λ r. ⌜ Finishes (now (now (doc .entry))) (directive (namespace-of (take (to - from) (drop from (now (now (doc .entry))))) dotted)) (now (work .entry)) (now (work .exit)) (now (st .entry)) (now (st .exit)) r ⌝ }
 {
     if st[Words::KIND] != 1 {
-        return reading::unexpected(*doc, st);
+        return simulation::unexpected(*doc, st);
     }
     let r = declare(*doc, *work, st, from, to);
     if r != 0 {
@@ -105,7 +105,7 @@ fn prefix_length(doc: &[u8], st: &[usize; Layout::WORDS]) -> usize
 {
     let at = st[Words::AT];
     let end = at + st[Words::LEN];
-    address::colon(&doc[at..end])
+    token_iri::colon(&doc[at..end])
 }
 
 // The prefix, its namespace, and the dot if there is to be one.
@@ -119,7 +119,7 @@ fn prefix_part(
     ensures { λ r. ⌜ Finishes (now (now (doc .entry))) (directive (prefix-name dotted)) (now (work .entry)) (now (work .exit)) (now (st .entry)) (now (st .exit)) r ⌝ }
 {
     if st[Words::KIND] != 2 {
-        return reading::unexpected(*doc, st);
+        return simulation::unexpected(*doc, st);
     }
     let at = st[Words::AT];
     let n = prefix_length(*doc, st);

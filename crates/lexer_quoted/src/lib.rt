@@ -1,4 +1,4 @@
 // The tokens between marks: IRIREF and the four kinds of string, with the escapes in them.
 pub mod escapes;
-pub mod iri;
+pub mod irirefs;
 pub mod strings;

@@ -12,7 +12,7 @@ use Rattle.grammar.specs.Ebnf.{Expr, tok, nt, _⨾_, _∣_, star, opt, Tree, le
 use Rattle.grammar.specs.Meaning.{Parts, meaning}
 use Rattle.grammar.specs.Productions.{Nonterminal, Mode, trig, turtle, production, root, kind-of, Derivation, trigDoc, block, triplesOrGraph, triples2, wrappedGraph, triplesBlock, labelOrSubject, turtleDoc, statement, directive, prefixID, base as base-nt, sparqlPrefix, sparqlBase, triples, predicateObjectList, objectList, verb, subject as subject-nt, predicate as predicate-nt, object as object-nt, literal as literal-nt, blank as blank-nt, blankNodePropertyList, collection, NumericLiteral, RDFLiteral, BooleanLiteral, String as String-nt, iri as iri-nt, PrefixedName, BlankNode, ANON}
 use Rattle.dataset.specs.Terms.{label, bracket, cell, Term, iri, blank, literal, tagged, Triple, Quad, rdf-type, rdf-first, rdf-rest, rdf-nil, xsd-string, xsd-integer, xsd-decimal, xsd-double, xsd-boolean}
-use Rattle.scope.specs.Environment.{Environment, start-environment, declare, set-base}
+use Rattle.environment.specs.Environment.{Environment, start-environment, declare, set-base}
 use Rattle.dataset.specs.Constructors.{string-text, tag, node-label, prefix, iri-of}
 use Rattle.dataset.specs.Statements as Said
 use Rattle.dataset.specs.Statements.{Value, triple, in-graph, list-term, list-triples, statements}

@@ -4,7 +4,7 @@ use mathlib.Core.List.{List, [], _∷_, _++_, append-nil, append-assoc}
 use mathlib.Core.Option.{Option, none, some}
 use Prim.Native.Nat.{ℕ}
 use Rattle.dataset.specs.Terms.{Term, iri, literal, Triple, Quad, rdf-first}
-use Rattle.scope.specs.Environment.{Environment}
+use Rattle.environment.specs.Environment.{Environment}
 use Rattle.dataset.specs.Constructors.{iri-of}
 use Rattle.dataset.specs.Statements.{triple, in-graph}
 use Rattle.table.specs.Tables.{number}

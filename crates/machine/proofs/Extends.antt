@@ -14,7 +14,7 @@ use Rattle.token.specs.Tokens.{Token}
 use Rattle.token.proofs.KindCodes.{same, same-eq}
 use Rattle.grammar.specs.Productions.{Mode}
 use Rattle.dataset.specs.Terms.{Term, bracket as bracket-node, cell, iri, blank, literal}
-use Rattle.scope.specs.Environment.{Environment}
+use Rattle.environment.specs.Environment.{Environment}
 use Rattle.dataset.specs.Constructors.{InForce, nothing, prefix-name as prefix-awaited, new-base as base-awaited, awaiting, after-token, directive-token, iri-of, prefix}
 use Rattle.table.specs.Layout.{Row}
 use Rattle.table.specs.Tables.{number}

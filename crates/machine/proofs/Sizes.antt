@@ -21,7 +21,7 @@ use Rattle.iri.specs.Iri.{has-scheme}
 use Rattle.iri.specs.Resolve.{resolve, resolve-with-dots, resolved}
 use Rattle.iri.proofs.Lengths.{resolve-short}
 use Rattle.grammar.specs.Productions.{Mode}
-use Rattle.scope.specs.Environment.{Environment}
+use Rattle.environment.specs.Environment.{Environment}
 use Rattle.dataset.specs.Constructors.{nothing, awaiting, prefix, reference, resolved-reference, joined-name, iri-of}
 use Rattle.table.specs.Tables.{store-size}
 use Rattle.machine.specs.Memory.{Memory, Write}

@@ -17,7 +17,7 @@ use Rattle.token.specs.Kind.{Kind, among, iris, long-strings, at-prefix, at-bas
 use Rattle.token.specs.Tokens.{Token, has-kind}
 use Rattle.escape.proofs.Walk.{unescape-short}
 use Rattle.grammar.specs.Productions.{Mode, trig, turtle}
-use Rattle.scope.specs.Environment.{Environment}
+use Rattle.environment.specs.Environment.{Environment}
 use Rattle.dataset.specs.Terms.{Term, label, bracket as bracket-node, cell, iri, blank, literal, tagged, rdf-type, rdf-first, rdf-rest, rdf-nil, xsd-string, xsd-integer, xsd-decimal, xsd-double, xsd-boolean}
 use Rattle.dataset.specs.Constructors.{nothing, inner, string-text, tag, node-label, iri-of}
 use Rattle.table.specs.Tables.{number-from, number, text-of, tag-of, store-size}

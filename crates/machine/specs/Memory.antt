@@ -6,7 +6,7 @@ use lib.ListN.{length}
 use Rattle.text.specs.Text.{Text}
 use Rattle.token.specs.Tokens.{Token}
 use Rattle.dataset.specs.Terms.{Term, iri, literal}
-use Rattle.scope.specs.Environment.{Environment, declare, set-base, start-environment}
+use Rattle.environment.specs.Environment.{Environment, declare, set-base, start-environment}
 use Rattle.dataset.specs.Constructors.{iri-of}
 use Rattle.table.specs.Layout.{Row}
 use Rattle.table.specs.Tables.{number}

@@ -11,7 +11,7 @@ use Rattle.token.specs.Tokens.{Token, has-kind}
 use Rattle.escape.specs.Escape.{bad-escape}
 use Rattle.iri.specs.Iri.{has-scheme}
 use Rattle.iri.specs.Resolve.{resolve-with-dots}
-use Rattle.scope.specs.Environment.{Environment, lookup}
+use Rattle.environment.specs.Environment.{Environment, lookup}
 use Rattle.dataset.specs.Constructors.{reference, prefix, joined-name, InForce, Awaited, nothing, prefix-name, new-base, namespace-of}
 
 -- Is the token awaited as the prefix that a directive declares?

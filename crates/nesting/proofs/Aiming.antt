@@ -6,7 +6,7 @@ use Prim.Native.Nat.{ℕ, _-_, _<_}
 use native.Mathlib.Omega.{arith}
 use lib.ListN.{length, getD}
 use denote.Ref.{RefT}
-use Rattle.scope.specs.Code.{words-size}
+use Rattle.environment.specs.Code.{words-size}
 use Rattle.text.specs.Text.{Text}
 use Rattle.text.proofs.Compare.{contrary}
 use Rattle.machine.specs.Frame.{Open}
@@ -15,7 +15,7 @@ use Rattle.grammar.specs.Productions.{Mode}
 use Rattle.state.specs.Words.{kind-word, at-word, depth-word, graph-word, list-word}
 use Rattle.state.specs.Cursor.{Cursor, TokenHere}
 use Rattle.state.specs.Represents.{Tables}
-use Rattle.reading.specs.Reading.{Held, held, tables-of, Holding, goes, Ready, Comes}
+use Rattle.simulation.specs.Simulation.{Held, held, tables-of, Holding, goes, Ready, Comes}
 use Rattle.nodes.specs.Nodes.{Aimed, Spotted}
 use Rattle.nodes.proofs.Moving.{cursor-words, left-words}
 use Rattle.nodes.proofs.Passing.{represents-words}

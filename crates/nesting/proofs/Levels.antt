@@ -6,12 +6,12 @@ use Prim.Native.Nat.{ℕ, zero, suc, _+_, _*_, _-_, _≤_, _<_}
 use native.Mathlib.Omega.{arith}
 use lib.ListN.{length, getD, set, length-set}
 use lib.Seq.{getD-set-same, getD-set-other}
-use Rattle.scope.specs.Code.{words-size}
+use Rattle.environment.specs.Code.{words-size}
 use Rattle.text.specs.Text.{Text}
 use Rattle.machine.specs.Frame.{bracket-end, Place, cells, Frame, list, after-object}
 use Rattle.machine.specs.Rules.{after-node}
 use Rattle.state.specs.Words.{depth-word, list-word, level-word}
-use Rattle.reading.specs.Reading.{Held, Ready}
+use Rattle.simulation.specs.Simulation.{Held, Ready}
 use Rattle.nesting.specs.Nesting.{level-x, level-y, Marked, ListOf, Saves, Levels, Deep}
 use Rattle.nesting.proofs.Aiming.{ready-words}
 

@@ -16,11 +16,11 @@ use Rattle.machine.specs.Frame.{bracket-end, object-of, Frame, bracket, object}
 use Rattle.machine.specs.Rules.{find-rule, frame-rules, after-properties}
 use Rattle.machine.specs.Refusals.{new-depth}
 use Rattle.state.specs.Words.{node-word, kind-word, depth-word, graph-word}
-use Rattle.reading.specs.Reading.{code-among, Held, held, here, Ready, Reads, on-top, refusal-here}
-use Rattle.reading.proofs.Compose.{comes-then, comes-within}
-use Rattle.reading.proofs.Tests.{among-code}
-use Rattle.reading.proofs.Frames.{reads-does, reads-none}
-use Rattle.reading.proofs.Steps.{here-some}
+use Rattle.simulation.specs.Simulation.{code-among, Held, held, here, Ready, Reads, on-top, refusal-here}
+use Rattle.simulation.proofs.Compose.{comes-then, comes-within}
+use Rattle.simulation.proofs.Tests.{among-code}
+use Rattle.simulation.proofs.Frames.{reads-does, reads-none}
+use Rattle.simulation.proofs.Steps.{here-some}
 use Rattle.nodes.specs.Nodes.{Passed, Verbs, Ends, verb-kinds}
 use Rattle.nodes.proofs.Passing.{Quiet, passed-same, depth-closing}
 use Rattle.nodes.proofs.Predicates.{verbs-bracket, no-verb}

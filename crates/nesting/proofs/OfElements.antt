@@ -10,14 +10,14 @@ use Rattle.text.specs.Text.{Text}
 use Rattle.machine.specs.Frame.{full-stop, Place, subject-before, object-of, element-of, Cells, no-cell, cells, list}
 use Rattle.machine.specs.Rules.{extended, after-node}
 use Rattle.state.specs.Words.{terms-word, node-word, kind-word, at-word, depth-word, x-word, y-word, opened-word}
-use Rattle.reading.specs.Reading.{Held, held, Ready, Reads, on-top}
-use Rattle.reading.proofs.Compose.{comes-here, comes-then, comes-stop}
+use Rattle.simulation.specs.Simulation.{Held, held, Ready, Reads, on-top}
+use Rattle.simulation.proofs.Compose.{comes-here, comes-then, comes-stop}
 use Rattle.nodes.specs.Nodes.{Aimed, Fills, Steady, Spotted, Belongs, LastCell, InList, Closes}
 use Rattle.nodes.proofs.Passing.{depth-closing}
 use Rattle.nodes.proofs.Slots.{in-list, element-slot, list-closes, cell-or-nil}
 use Rattle.nesting.specs.Nesting.{Awaited, Lists, list-node}
 use Rattle.nesting.proofs.Skipping.{token-there}
-use Rattle.reading.proofs.Numbers.{next-small}
+use Rattle.simulation.proofs.Numbers.{next-small}
 use Rattle.nesting.proofs.Aiming.{comes-aimed, ready-aimed, spotted, less-left}
 
 -- What is known of the list's first cell: where there is none yet, all is as at the start.

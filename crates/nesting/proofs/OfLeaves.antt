@@ -12,8 +12,8 @@ use Rattle.token.specs.Tokens.{Token}
 use Rattle.token.proofs.KindCodes.{each-kind}
 use Rattle.machine.specs.Rules.{find-rule}
 use Rattle.state.specs.Words.{kind-word}
-use Rattle.reading.specs.Reading.{code-among, Held, here, Ready}
-use Rattle.reading.proofs.Tests.{kinds-of, among-any, no-rule, among-code}
+use Rattle.simulation.specs.Simulation.{code-among, Held, here, Ready}
+use Rattle.simulation.proofs.Tests.{kinds-of, among-any, no-rule, among-code}
 use Rattle.nodes.specs.Nodes.{term-rules, Fills, Settled, PutsTerm}
 use Rattle.nesting.specs.Nesting.{Leaf}
 

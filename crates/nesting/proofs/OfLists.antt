@@ -9,10 +9,10 @@ use Rattle.text.specs.Text.{Text}
 use Rattle.machine.specs.Frame.{Place, object-of, Cells, no-cell, cells, Frame, list}
 use Rattle.machine.specs.Rules.{extended, after-node}
 use Rattle.state.specs.Words.{terms-word, node-word, kind-word, at-word, depth-word, list-word, x-word, y-word, opened-word, last-word, level-word}
-use Rattle.reading.specs.Reading.{Held, held, Ready, Reads, on-top}
-use Rattle.reading.proofs.Compose.{comes-here, comes-then, comes-stop, comes-within}
-use Rattle.reading.proofs.Frames.{ready-does}
-use Rattle.reading.proofs.Numbers.{next-small}
+use Rattle.simulation.specs.Simulation.{Held, held, Ready, Reads, on-top}
+use Rattle.simulation.proofs.Compose.{comes-here, comes-then, comes-stop, comes-within}
+use Rattle.simulation.proofs.Frames.{ready-does}
+use Rattle.simulation.proofs.Numbers.{next-small}
 use Rattle.state.specs.Writes.{closed}
 use Rattle.nodes.specs.Nodes.{Aimed, Spotted, Slot, InList, Closes, spot-of}
 use Rattle.nodes.proofs.Passing.{depth-closing}

@@ -22,11 +22,11 @@ use Rattle.state.specs.Words.{terms-word, node-word, kind-word, at-word, depth-
 use Rattle.state.specs.Cursor.{TokenHere}
 use Rattle.state.specs.Represents.{Tables}
 use Rattle.state.specs.Writes.{place-of, placed, opened-at}
-use Rattle.reading.specs.Reading.{code-among, Held, held, tables-of, here, Holding, Ready, Reads, on-top, Does, refusal-here}
-use Rattle.reading.proofs.Compose.{comes-then, comes-stop, comes-within}
-use Rattle.reading.proofs.Tests.{among-code}
-use Rattle.reading.proofs.Frames.{reads-none, ready-does}
-use Rattle.reading.proofs.Steps.{here-some}
+use Rattle.simulation.specs.Simulation.{code-among, Held, held, tables-of, here, Holding, Ready, Reads, on-top, Does, refusal-here}
+use Rattle.simulation.proofs.Compose.{comes-then, comes-stop, comes-within}
+use Rattle.simulation.proofs.Tests.{among-code}
+use Rattle.simulation.proofs.Frames.{reads-none, ready-does}
+use Rattle.simulation.proofs.Steps.{here-some}
 use Rattle.nodes.specs.Nodes.{Slot, slot-place, spot-of, object-kinds, term-kinds, Fills, Steady, Settled, Spotted, Belongs, InList, Numbers, PutsTerm}
 use Rattle.nodes.proofs.Slots.{term-fills, term-rule, bracket-opens, paren-opens, slot-plain, slot-list}
 use Rattle.nodes.proofs.Predicates.{term-depth}
@@ -35,7 +35,7 @@ use Rattle.nodes.proofs.Passing.{represents-words}
 use Rattle.nesting.specs.Nesting.{Leaf, Awaited, Entered, Marked, Levels, SomeLevels, Deep, Resumes, Values, Contents, Elements}
 use Rattle.nesting.proofs.Levels.{levels-at, mark-depth, mark-before, mark-spot, mark-none}
 use Rattle.nesting.proofs.Skipping.{token-there}
-use Rattle.reading.proofs.Numbers.{next-small}
+use Rattle.simulation.proofs.Numbers.{next-small}
 use Rattle.nesting.proofs.Aiming.{comes-aimed, ready-aimed, place-small}
 
 -- The kind of a term is a token's.

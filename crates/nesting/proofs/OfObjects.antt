@@ -10,9 +10,9 @@ use Rattle.machine.specs.Memory.{return}
 use Rattle.machine.specs.Frame.{Ending, full-stop, object, after-object}
 use Rattle.machine.specs.Refusals.{new-depth}
 use Rattle.state.specs.Words.{kind-word, at-word, depth-word, graph-word}
-use Rattle.reading.specs.Reading.{Held, held, here, Ready, Reads, on-top}
-use Rattle.reading.proofs.Compose.{comes-here, comes-then}
-use Rattle.reading.proofs.Frames.{reads-does}
+use Rattle.simulation.specs.Simulation.{Held, held, here, Ready, Reads, on-top}
+use Rattle.simulation.proofs.Compose.{comes-here, comes-then}
+use Rattle.simulation.proofs.Frames.{reads-does}
 use Rattle.nodes.specs.Nodes.{Aimed, Passed, Fills, Steady, Spotted}
 use Rattle.nodes.proofs.Passing.{Quiet, passed-same}
 use Rattle.nodes.proofs.Slots.{object-slot}

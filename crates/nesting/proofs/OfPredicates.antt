@@ -9,8 +9,8 @@ use denote.Ref.{RefT}
 use Rattle.text.specs.Text.{Text}
 use Rattle.machine.specs.Frame.{Ending, bracket-end, Frame, object, after-object, after-semicolon}
 use Rattle.state.specs.Words.{node-word, kind-word, at-word, depth-word, graph-word, list-word, level-word}
-use Rattle.reading.specs.Reading.{code-among, Held, held, Ready, Reads, on-top}
-use Rattle.reading.proofs.Compose.{comes-then, comes-stop, comes-within}
+use Rattle.simulation.specs.Simulation.{code-among, Held, held, Ready, Reads, on-top}
+use Rattle.simulation.proofs.Compose.{comes-then, comes-stop, comes-within}
 use Rattle.nodes.specs.Nodes.{Aimed, Passed, Spotted, PutsTerm, Slot, Verbs, verb-kinds}
 use Rattle.nodes.proofs.Predicates.{verbs-semicolon, ends-object, ends-semicolon}
 use Rattle.nodes.proofs.Slots.{object-slot}

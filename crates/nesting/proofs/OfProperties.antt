@@ -6,13 +6,13 @@ use Prim.Native.Nat.{ℕ, _-_, _≤_, _<_}
 use native.Mathlib.Omega.{arith}
 use lib.ListN.{length, getD}
 use denote.Ref.{RefT}
-use Rattle.scope.specs.Code.{words-size}
+use Rattle.environment.specs.Code.{words-size}
 use Rattle.text.specs.Text.{Text}
 use Rattle.machine.specs.Frame.{Ending, full-stop, Frame, object, after-object, after-semicolon}
 use Rattle.state.specs.Words.{node-word, kind-word, at-word, depth-word}
 use Rattle.state.specs.Cursor.{Cursor}
-use Rattle.reading.specs.Reading.{code-among, Held, held, Ready, Reads, on-top}
-use Rattle.reading.proofs.Compose.{comes-here, comes-then, comes-within}
+use Rattle.simulation.specs.Simulation.{code-among, Held, held, Ready, Reads, on-top}
+use Rattle.simulation.proofs.Compose.{comes-here, comes-then, comes-within}
 use Rattle.nodes.specs.Nodes.{Aimed, Steady, PutsTerm, Verbs, verb-kinds}
 use Rattle.nodes.proofs.Predicates.{verbs-semicolon, ends-object, ends-semicolon}
 use Rattle.nesting.specs.Nesting.{Objects, Properties, Skips}

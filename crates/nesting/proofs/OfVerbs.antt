@@ -12,9 +12,9 @@ use Rattle.token.specs.Kind.{among, strings, kw-a}
 use Rattle.machine.specs.Frame.{Ending, full-stop, Frame, object, after-semicolon}
 use Rattle.state.specs.Words.{node-word, kind-word, at-word, depth-word, level-word}
 use Rattle.state.specs.Cursor.{TokenHere}
-use Rattle.reading.specs.Reading.{code-among, Held, held, here, Ready, Reads, on-top}
-use Rattle.reading.proofs.Compose.{comes-then}
-use Rattle.reading.proofs.Tests.{among-code}
+use Rattle.simulation.specs.Simulation.{code-among, Held, held, here, Ready, Reads, on-top}
+use Rattle.simulation.proofs.Compose.{comes-then}
+use Rattle.simulation.proofs.Tests.{among-code}
 use Rattle.nodes.specs.Nodes.{Aimed, Spotted, PutsTerm, Verbs, verb-kinds, term-kinds}
 use Rattle.nodes.proofs.Predicates.{verb-reads, verb-is-term, term-depth, verbs-semicolon}
 use Rattle.nodes.proofs.Slots.{term-rule}

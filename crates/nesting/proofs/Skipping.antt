@@ -6,16 +6,16 @@ use Prim.Native.Nat.{ℕ, _-_, _≤_, _<_}
 use native.Mathlib.Omega.{arith}
 use lib.ListN.{length, getD}
 use denote.Ref.{RefT}
-use Rattle.scope.specs.Code.{words-size}
+use Rattle.environment.specs.Code.{words-size}
 use Rattle.text.specs.Text.{Text}
 use Rattle.machine.specs.Memory.{return}
 use Rattle.machine.specs.Frame.{Ending, after-object, after-semicolon}
 use Rattle.machine.specs.Refusals.{new-depth}
 use Rattle.state.specs.Words.{kind-word, at-word, depth-word, graph-word, list-word}
 use Rattle.state.specs.Cursor.{Cursor, TokenHere}
-use Rattle.reading.specs.Reading.{held, here, Ready, Reads, on-top}
-use Rattle.reading.proofs.Compose.{comes-then}
-use Rattle.reading.proofs.Frames.{reads-does}
+use Rattle.simulation.specs.Simulation.{held, here, Ready, Reads, on-top}
+use Rattle.simulation.proofs.Compose.{comes-then}
+use Rattle.simulation.proofs.Frames.{reads-does}
 use Rattle.nodes.specs.Nodes.{Passed}
 use Rattle.nodes.proofs.Passing.{Quiet, passed-same}
 use Rattle.nesting.specs.Nesting.{Skips}

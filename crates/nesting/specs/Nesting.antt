@@ -12,7 +12,7 @@ use Rattle.token.specs.Kind.{strings}
 use Rattle.machine.specs.Frame.{Ending, bracket-end, Place, Cells, no-cell, cells, Frame, bracket, list, object, after-object, after-semicolon}
 use Rattle.machine.specs.Rules.{after-node, after-properties}
 use Rattle.state.specs.Words.{terms-word, node-word, kind-word, at-word, depth-word, list-word, x-word, y-word, opened-word, last-word, level-word}
-use Rattle.reading.specs.Reading.{code-among, Held, held, Ready, Reads}
+use Rattle.simulation.specs.Simulation.{code-among, Held, held, Ready, Reads}
 use Rattle.nodes.specs.Nodes.{PutsTerm, Slot, Fills, Verbs, Ends, Steady, Settled, Belongs, InList}
 
 -- Semicolons were passed.

@@ -9,14 +9,14 @@ ghost use Rattle.limits.specs.Limits.{depth-limit};
 ghost use Rattle.dataset.specs.Terms.{blank, bracket};
 ghost use Rattle.machine.specs.Memory.{new-term};
 ghost use Rattle.state.specs.Words.{node-word, kind-word, at-word, depth-word, list-word};
-ghost use Rattle.scope.specs.Code.{words-size};
+ghost use Rattle.environment.specs.Code.{words-size};
 ghost use Rattle.state.specs.Cursor.{Cursor};
 ghost use Rattle.state.specs.Writes.{placed, opened-at};
-ghost use Rattle.reading.specs.Reading.{code-among, held, Ready, Does};
+ghost use Rattle.simulation.specs.Simulation.{code-among, held, Ready, Does};
 ghost use Rattle.nodes.specs.Nodes.{spot-of, Spotted, Fills, Numbers, PutsTerm, Closes, Steady, term-kinds, verb-kinds};
 ghost use Rattle.token.specs.Kind.{strings, kw-a};
 ghost use Rattle.nesting.specs.Nesting.{Skips, Leaf, Awaited, Lists, Objects, Properties, Entered, level-x, level-y, Marked, SomeLevels, Deep, Values, Resumes, Contents, Closing, Predicates, Follows, Elements};
-use scope::Layout;
+use environment::Layout;
 use state::Words;
 
 // Goes behind the semicolons at the cursor.
@@ -46,9 +46,9 @@ pub fn leaf(
     ensures { λ r. ⌜ Leaf (now (now (doc .entry))) (held (now (work .entry)) (now (rows .entry)) (now (terms .entry)) (now (store .entry)) (now (st .entry))) (held (now (work .exit)) (now (rows .exit)) (now (terms .exit)) (now (store .exit)) (now (st .exit))) r ⌝ }
 {
     if nodes::is_string(st[Words::KIND]) {
-        return literals::put_string(doc, work, rows, terms, store, st);
+        return rdf_literals::put_string(doc, work, rows, terms, store, st);
     }
-    leaves::put_term(doc, work, rows, terms, store, st)
+    simple_terms::put_term(doc, work, rows, terms, store, st)
 }
 
 // A node where one is awaited. The level of zeros ends what is read in its brackets.
@@ -147,7 +147,7 @@ pub fn elements(
     loop {
         nodes::aim(st, 1, x, y, opened, last);
         if st[Words::KIND] == 25 {
-            return leaves::close_list(doc, work, rows, terms, store, st);
+            return simple_terms::close_list(doc, work, rows, terms, store, st);
         }
         let cell = st[Words::TERMS] + 1;
         let c = node(doc, work, rows, terms, store, st);
@@ -237,7 +237,7 @@ fn value(
         return resume(doc, work, rows, terms, store, st);
     }
     if kind == 22 {
-        let c = leaves::put_bracket(doc, work, rows, terms, store, st);
+        let c = simple_terms::put_bracket(doc, work, rows, terms, store, st);
         if c != 0 {
             return c;
         }
@@ -246,14 +246,14 @@ fn value(
     if kind == 24 {
         let at = st[Words::AT];
         let cell = st[Words::TERMS] + 1;
-        let c = leaves::put_paren(doc, work, rows, terms, store, st);
+        let c = simple_terms::put_paren(doc, work, rows, terms, store, st);
         if c != 0 {
             return c;
         }
         enter_list(st, at, cell);
         return element(doc, work, rows, terms, store, st);
     }
-    reading::unexpected(*doc, st)
+    simulation::unexpected(*doc, st)
 }
 
 // What the level of this depth says; nothing where it says that the caller goes on.
@@ -312,7 +312,7 @@ fn close_bracket(
     ensures { λ r. ⌜ Closing (now (now (doc .entry))) (held (now (work .entry)) (now (rows .entry)) (now (terms .entry)) (now (store .entry)) (now (st .entry))) (held (now (work .exit)) (now (rows .exit)) (now (terms .exit)) (now (store .exit)) (now (st .exit))) r ⌝ }
 {
     if st[Words::KIND] != 23 {
-        return reading::unexpected(*doc, st);
+        return simulation::unexpected(*doc, st);
     }
     nodes::leave(doc, st);
     resume(doc, work, rows, terms, store, st)
@@ -384,7 +384,7 @@ fn element(
     ensures { λ r. ⌜ Elements (now (now (doc .entry))) (held (now (work .entry)) (now (rows .entry)) (now (terms .entry)) (now (store .entry)) (now (st .entry))) (held (now (work .exit)) (now (rows .exit)) (now (terms .exit)) (now (store .exit)) (now (st .exit))) r ⌝ }
 {
     if st[Words::KIND] == 25 {
-        let c = leaves::close_list(doc, work, rows, terms, store, st);
+        let c = simple_terms::close_list(doc, work, rows, terms, store, st);
         if c != 0 {
             return c;
         }

@@ -6,7 +6,7 @@ use Prim.Native.Nat.{ℕ, _+_, _-_, _≤_, _<_}
 use native.Mathlib.Omega.{arith}
 use lib.ListN.{length, getD, set, length-set}
 use lib.Seq.{getD-set-same, getD-set-other}
-use Rattle.scope.specs.Code.{words-size}
+use Rattle.environment.specs.Code.{words-size}
 use Rattle.text.specs.Text.{Text}
 use Rattle.lexer.specs.Rest.{rest}
 use Rattle.state.specs.Words.{kind-word, at-word, len-word, clear-word, depth-word, graph-word, last-word, list-word, opened-word, x-word, y-word}

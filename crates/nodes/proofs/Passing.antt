@@ -15,8 +15,8 @@ use Rattle.limits.specs.Limits.{work-size}
 use Rattle.token.specs.Kind.{kind-of-code, among, names, strings, IRIREF, open-bracket, open-paren, close-bracket, close-paren}
 use Rattle.token.specs.Tokens.{Token}
 use Rattle.grammar.specs.Productions.{Mode}
-use Rattle.scope.specs.Code.{environment-in}
-use Rattle.scope.proofs.Directives.{in-force-words}
+use Rattle.environment.specs.Code.{environment-in}
+use Rattle.environment.proofs.Directives.{in-force-words}
 use Rattle.dataset.specs.Constructors.{nothing, awaiting}
 use Rattle.machine.specs.Memory.{Memory, Write, enter}
 use Rattle.machine.specs.Frame.{Frame, Open, statement}
@@ -27,9 +27,9 @@ use Rattle.machine.specs.Demand.{Fits}
 use Rattle.state.specs.Words.{kind-word, at-word, len-word, depth-word, graph-word, blanks-word, rows-word, terms-word, used-word}
 use Rattle.state.specs.Cursor.{TokenHere}
 use Rattle.state.specs.Represents.{Tables, lent-tables, room-in, Represents}
-use Rattle.reading.specs.Reading.{Held, held, tables-of, here, Holding, Ready, Same, Comes, token-refusal, Done, Does}
-use Rattle.reading.proofs.Compose.{same-all}
-use Rattle.reading.proofs.Steps.{does-comes, tied-here}
+use Rattle.simulation.specs.Simulation.{Held, held, tables-of, here, Holding, Ready, Same, Comes, token-refusal, Done, Does}
+use Rattle.simulation.proofs.Compose.{same-all}
+use Rattle.simulation.proofs.Steps.{does-comes, tied-here}
 use Rattle.nodes.specs.Nodes.{Passed}
 
 -- Representation depends on the words before the cursor's, and on the graph's.

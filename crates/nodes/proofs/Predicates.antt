@@ -24,9 +24,9 @@ use Rattle.state.specs.Words.{node-word, kind-word, list-word, x-word, y-word}
 use Rattle.state.specs.Represents.{Tables}
 use Rattle.state.specs.Writes.{place-of, begin, placed}
 use Rattle.state.specs.Cursor.{TokenHere}
-use Rattle.reading.specs.Reading.{code-among, Held, here, Holding, Ready, Reads}
-use Rattle.reading.proofs.Tests.{kinds-of, among-any, no-rule, among-code}
-use Rattle.reading.proofs.Frames.{FrameDoes, reads-does}
+use Rattle.simulation.specs.Simulation.{code-among, Held, here, Holding, Ready, Reads}
+use Rattle.simulation.proofs.Tests.{kinds-of, among-any, no-rule, among-code}
+use Rattle.simulation.proofs.Frames.{FrameDoes, reads-does}
 use Rattle.nodes.specs.Nodes.{term-rules, term-kinds, verb-kinds, spot-of, Numbers, PutsTerm, Verbs, Ends}
 use Rattle.nodes.proofs.Slots.{found-made, term-rule, begin-plain}
 

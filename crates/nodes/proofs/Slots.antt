@@ -24,9 +24,9 @@ use Rattle.state.specs.Words.{terms-word, node-word, kind-word, at-word, list-w
 use Rattle.state.specs.Represents.{Tables}
 use Rattle.state.specs.Writes.{place-of, cells-of, begin, new-element, placed, opened-at, closed}
 use Rattle.state.specs.Cursor.{TokenHere}
-use Rattle.reading.specs.Reading.{Held, here, Holding, Ready, Reads, Does, Gives}
-use Rattle.reading.proofs.Tests.{kinds-of, among-any, no-rule, among-code}
-use Rattle.reading.proofs.Frames.{FrameDoes, reads-does}
+use Rattle.simulation.specs.Simulation.{Held, here, Holding, Ready, Reads, Does, Gives}
+use Rattle.simulation.proofs.Tests.{kinds-of, among-any, no-rule, among-code}
+use Rattle.simulation.proofs.Frames.{FrameDoes, reads-does}
 use Rattle.nodes.specs.Nodes.{node-rules, term-rules, spot-of, slot-place, object-kinds, term-kinds, Slot, Fills, Numbers, PutsTerm, Belongs, LastCell, InList}
 
 -- ---- Kinds

@@ -19,7 +19,7 @@ use Rattle.state.specs.Cursor.{Cursor, TokenHere, remaining}
 use Rattle.state.specs.Represents.{Tables}
 use Rattle.state.specs.Writes.{place-of, begin, placed, closed}
 use Rattle.state.specs.declared.Spot.{Spot}
-use Rattle.reading.specs.Reading.{Held, here, Holding, Reads, Gives}
+use Rattle.simulation.specs.Simulation.{Held, here, Holding, Reads, Gives}
 
 -- The terms that one token stands for: objects, and predicates.
 abbrev pub node-rules : Token → List (Rule ℕ)

@@ -6,7 +6,7 @@ ghost use mathlib.Core.Option.{some};
 ghost use mathlib.Core.Bool.{true};
 ghost use Prim.Native.Nat.{ℕ, _+_, _-_, _≤_, _<_};
 ghost use lib.ListN.{length, getD};
-ghost use Rattle.scope.specs.Code.{words-size};
+ghost use Rattle.environment.specs.Code.{words-size};
 ghost use Rattle.token.specs.Kind.{strings};
 ghost use Rattle.dataset.specs.Terms.{blank, bracket};
 ghost use Rattle.machine.specs.Memory.{Write, new-term};
@@ -14,9 +14,9 @@ ghost use Rattle.machine.specs.Rules.{find-rule};
 ghost use Rattle.state.specs.Words.{kind-word, at-word, depth-word, graph-word};
 ghost use Rattle.state.specs.Cursor.{Cursor, TokenHere};
 ghost use Rattle.state.specs.Writes.{placed, opened-at, closed};
-ghost use Rattle.reading.specs.Reading.{code-among, held, here, Ready, Gives, Does};
+ghost use Rattle.simulation.specs.Simulation.{code-among, held, here, Ready, Gives, Does};
 ghost use Rattle.nodes.specs.Nodes.{term-rules, spot-of, Spotted, Fills, Aimed, Passed, Steady, term-kinds, verb-kinds};
-use scope::Layout;
+use environment::Layout;
 use state::Words;
 
 // Whether a token of this kind is a predicate: an IRI, or a.

@@ -2,7 +2,7 @@
 ghost use mathlib.Core.Path.{_≡_};
 ghost use Rattle.state.specs.Represents.{lent-tables, Represented, Puts};
 ghost use Rattle.state.specs.Writes.{node-write, placed, opened-at, closed, SpotFits, NodeFits};
-use scope::Layout;
+use environment::Layout;
 use state::Node;
 use state::Spot;
 

@@ -13,7 +13,7 @@ use Rattle.token.specs.Kind.{Kind, among, names, strings, at-prefix, at-base, P
 use Rattle.token.specs.Tokens.{Token}
 use Rattle.escape.specs.Escape.{bad-escape}
 use Rattle.iri.specs.Iri.{has-scheme}
-use Rattle.scope.specs.Environment.{start-environment}
+use Rattle.environment.specs.Environment.{start-environment}
 use Rattle.dataset.specs.Constructors.{InForce, nothing, awaiting, after-token, after-tokens, in-force}
 use Rattle.machine.specs.Refusals.{no-character, undeclared, no-base, too-long, one-prefix-more, too-deep}
 use Rattle.machine.specs.Demand.{depth-after, Nowhere, Fair}

@@ -15,7 +15,7 @@ use Rattle.token.specs.Tokens.{Token, has-kind}
 use Rattle.iri.specs.Iri.{letter, scheme-byte, first-is, has-scheme, scheme, after-scheme}
 use Rattle.iri.specs.Dots.{remove-dot-segments}
 use Rattle.iri.specs.Resolve.{parts, transform, recompose, resolve-by, resolve, resolved}
-use Rattle.scope.specs.Environment.{Binding, Environment, lookup, bound}
+use Rattle.environment.specs.Environment.{Binding, Environment, lookup, bound}
 use Rattle.dataset.specs.Constructors.{string-text, tag, node-label, reference, prefix, local, or-empty, resolved-reference, joined-name, iri-of, Awaited, nothing, awaiting}
 use Rattle.table.specs.Usable.{is-tag}
 use Rattle.machine.specs.Refusals.{no-character, undeclared, no-base, too-long}

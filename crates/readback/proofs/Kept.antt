@@ -11,7 +11,7 @@ use lib.ListN.{length}
 use Rattle.text.specs.Text.{Text}
 use Rattle.utf8.specs.Utf8.{first-bad}
 use Rattle.token.specs.Tokens.{Token}
-use Rattle.scope.specs.Environment.{Environment}
+use Rattle.environment.specs.Environment.{Environment}
 use Rattle.dataset.specs.Terms.{Term, iri, blank, literal, tagged}
 use Rattle.dataset.specs.Constructors.{iri-of}
 use Rattle.table.specs.Layout.{Row}

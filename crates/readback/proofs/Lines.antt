@@ -18,7 +18,7 @@ use Rattle.grammar.specs.Productions.{subject as subject-nt, predicate as predi
 use Rattle.iri.specs.Iri.{has-scheme}
 use Rattle.iri.specs.Resolve.{resolve, resolved}
 use Rattle.dataset.specs.Terms.{Blank, label, bracket, cell, numbered, Term, iri, blank, literal, tagged, Triple, Quad, xsd-string}
-use Rattle.scope.specs.Environment.{Environment, start-environment}
+use Rattle.environment.specs.Environment.{Environment, start-environment}
 use Rattle.dataset.specs.Constructors.{node-label, resolved-reference, iri-of}
 use Rattle.dataset.specs.Statements.{Node, Value, action, triple, more-objects, more-verbs, in-graph, trig-quads, statements}
 use Rattle.readback.specs.ReadBack.{renamed-blank, renamed-term, renamed}

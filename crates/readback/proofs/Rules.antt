@@ -15,7 +15,7 @@ use Rattle.token.specs.Kind.{Kind, among, iris, strings, LANGTAG, «BLANK_NODE_
 use Rattle.token.specs.Tokens.{Token}
 use Rattle.iri.specs.Iri.{has-scheme}
 use Rattle.grammar.specs.Productions.{Mode, trig, turtle}
-use Rattle.scope.specs.Environment.{Environment}
+use Rattle.environment.specs.Environment.{Environment}
 use Rattle.dataset.specs.Terms.{label, bracket as bracket-node, cell, Term, iri, blank, tagged, rdf-type, rdf-first, rdf-rest, rdf-nil, xsd-string, xsd-integer, xsd-decimal, xsd-double, xsd-boolean}
 use Rattle.dataset.specs.Constructors.{string-text, tag, node-label, iri-of}
 use Rattle.table.specs.Usable.{is-tag}

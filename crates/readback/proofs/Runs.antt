@@ -11,7 +11,7 @@ use Rattle.text.specs.Text.{cond}
 use Rattle.token.specs.Kind.{among, IRIREF, «PNAME_NS», at-prefix, at-base, PREFIX, BASE, dot}
 use Rattle.token.specs.Tokens.{Token, Lexeme, token, unreadable, tokens-of}
 use Rattle.grammar.specs.Productions.{Mode}
-use Rattle.scope.specs.Environment.{Environment}
+use Rattle.environment.specs.Environment.{Environment}
 use Rattle.dataset.specs.Constructors.{iri-of, nothing, awaiting}
 use Rattle.table.proofs.Numbers.{not-none}
 use Rattle.machine.specs.Memory.{Memory, Write}

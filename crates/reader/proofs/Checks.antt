@@ -15,7 +15,7 @@ use Rattle.utf8.specs.Utf8.{first-bad}
 use Rattle.machine.specs.Step.{_when_, first-refusal}
 use Rattle.machine.specs.Read.{Answer, untouched, bad-base, first-checks, read-tokens, read-utf8, read-checked, read}
 use Rattle.checks.specs.Checks.{number-of, lent-work}
-use Rattle.scope.proofs.Directives.{whole}
+use Rattle.environment.proofs.Directives.{whole}
 use Rattle.reader.specs.declared.Reading.{Reading}
 use Rattle.reader.specs.Reader.{LentSlices, lengths, Gives}
 use Rattle.reader.specs.Stages.{Checked, Cleared}

@@ -8,7 +8,7 @@ use lib.Dec.{eqb}
 use lib.ListN.{length, getD, take, drop, take-append-drop}
 use Rattle.text.specs.Text.{Text}
 use Rattle.text.proofs.Compare.{by}
-use Rattle.clear.proofs.Zeros.{zeros}
+use Rattle.zeroing.proofs.Zeros.{zeros}
 use Rattle.table.specs.Tables.{rows-words, terms-words, store-bytes}
 use Rattle.table.proofs.Store.{rows-length, bytes-length}
 use Rattle.terms.proofs.Words.{words-length}
@@ -18,7 +18,7 @@ use Rattle.machine.specs.Step.{Outcome, accepted, refused}
 use Rattle.machine.specs.Read.{Answer, refusal, success, reported, mode-of, read-tokens}
 use Rattle.state.specs.Words.{at-word, rows-word, terms-word, used-word}
 use Rattle.state.proofs.Counted.{counted-run}
-use Rattle.reading.specs.Reading.{Held, tables-of, Holding, goes}
+use Rattle.simulation.specs.Simulation.{Held, tables-of, Holding, goes}
 use Rattle.reader.specs.declared.Reading.{Reading}
 use Rattle.statements.specs.Statements.{ReadsAll}
 use Rattle.reader.specs.Reader.{LentSlices, lent-slices, lengths, Gives}

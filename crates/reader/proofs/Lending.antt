@@ -5,7 +5,7 @@ use Prim.Native.Nat.{ℕ}
 use denote.Ref.{RefT, at-last}
 use Rattle.text.specs.Text.{Text}
 use Rattle.grammar.specs.Productions.{Mode}
-use Rattle.reading.specs.Reading.{held, goes}
+use Rattle.simulation.specs.Simulation.{held, goes}
 use Rattle.statements.specs.Statements.{ReadsAll}
 
 same-name : (x y : RefT (List ℕ)) (l : List ℕ) → y ≡ at-last x l → x .name ≡ y .name

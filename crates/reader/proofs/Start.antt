@@ -18,17 +18,17 @@ use Rattle.lexer.specs.Rest.{rest}
 use Rattle.lexer_words.specs.Ahead.{Clear}
 use Rattle.lexer_words.proofs.Clearing.{clear-none}
 use Rattle.iri.specs.Iri.{has-scheme, forbidden}
-use Rattle.scope.specs.Environment.{start-environment}
-use Rattle.scope.specs.Code.{words-size, environment-in, listed, base-cell, cell, Usable, SetsBase}
-use Rattle.scope.proofs.Directives.{in-force-words}
-use Rattle.clear.proofs.Zeros.{zeros, zero-at}
+use Rattle.environment.specs.Environment.{start-environment}
+use Rattle.environment.specs.Code.{words-size, environment-in, listed, base-cell, cell, Usable, SetsBase}
+use Rattle.environment.proofs.Directives.{in-force-words}
+use Rattle.zeroing.proofs.Zeros.{zeros, zero-at}
 use Rattle.table.specs.Tables.{rows-words, store-size}
-use Rattle.index.proofs.Indexes.{holds-none}
+use Rattle.term_tree.proofs.Indexes.{holds-none}
 use Rattle.machine.specs.Memory.{start-memory}
 use Rattle.machine.specs.Read.{bad-base}
 use Rattle.state.specs.Words.{counts-of, blanks-word, clear-word, depth-word, graph-word, kind-word, rows-word, terms-word, used-word}
 use Rattle.state.specs.Cursor.{Sought}
-use Rattle.reading.specs.Reading.{Held, Holding, tables-of, Ready}
+use Rattle.simulation.specs.Simulation.{Held, Holding, tables-of, Ready}
 use Rattle.reader.specs.Stages.{Checked, Started}
 
 -- ---- The base

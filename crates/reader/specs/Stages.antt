@@ -9,8 +9,8 @@ use Rattle.text.specs.Text.{Text}
 use Rattle.limits.specs.Limits.{document-limit, work-size}
 use Rattle.utf8.specs.Utf8.{first-bad}
 use Rattle.token.specs.Tokens.{lexemes}
-use Rattle.scope.specs.Environment.{start-environment}
-use Rattle.scope.specs.Code.{environment-in, Usable}
+use Rattle.environment.specs.Environment.{start-environment}
+use Rattle.environment.specs.Code.{environment-in, Usable}
 use Rattle.machine.specs.Read.{bad-base}
 use Rattle.state.specs.Words.{rows-word, terms-word, used-word, blanks-word, at-word, depth-word, graph-word}
 use Rattle.state.specs.Cursor.{Cursor, remaining}

@@ -3,13 +3,13 @@
 ghost use mathlib.Core.Path.{_≡_};
 ghost use Prim.Native.Nat.{_≤_};
 ghost use lib.ListN.{length, replicate};
-ghost use Rattle.scope.specs.Code.{words-size};
+ghost use Rattle.environment.specs.Code.{words-size};
 ghost use Rattle.machine.specs.Read.{mode-of, read-tokens};
-ghost use Rattle.reading.specs.Reading.{held, Ready};
+ghost use Rattle.simulation.specs.Simulation.{held, Ready};
 ghost use Rattle.statements.specs.Statements.{ReadsAll};
 ghost use Rattle.reader.specs.Reader.{lent-slices, lengths, Gives, Contract};
 ghost use Rattle.reader.specs.Stages.{Checked, Started, Cleared, Finishes};
-use scope::Layout;
+use environment::Layout;
 use state::Words;
 use utf8::Validity;
 
@@ -126,18 +126,18 @@ fn prepare(document: &[u8], base: &[u8], work: &mut [u8], st: &mut [usize; Layou
     requires { ⌜ Checked (now document) (now base) (now work) × (now st ≡ replicate words-size 0) ⌝ }
     ensures { λ _. ⌜ Started (now (document .entry)) (now (base .entry)) (now (work .entry)) (now (work .exit)) (now (st .exit)) ⌝ }
 {
-    clear::clear_bytes(work);
-    scope::set_base(work, st, base);
+    zeroing::clear_bytes(work);
+    environment::set_base(work, st, base);
     cursor::seek(document, st, 0, 0);
 }
 
 fn clear_all(work: &mut [u8], rows: &mut [u32], terms: &mut [u32], store: &mut [u8])
     ensures { λ _. ⌜ Cleared (lent-slices (now (work .entry)) (now (rows .entry)) (now (terms .entry)) (now (store .entry))) (lent-slices (now (work .exit)) (now (rows .exit)) (now (terms .exit)) (now (store .exit))) ⌝ }
 {
-    clear::clear_bytes(work);
-    clear::clear_words(rows);
-    clear::clear_words(terms);
-    clear::clear_bytes(store);
+    zeroing::clear_bytes(work);
+    zeroing::clear_words(rows);
+    zeroing::clear_words(terms);
+    zeroing::clear_bytes(store);
 }
 
 // The answer 0 with its counts, and the work slice is zeros; or a refusal, and all slices are.
@@ -154,7 +154,7 @@ fn finish(
     ensures { λ r. ⌜ Finishes size number (now (st .entry)) (lent-slices (now (work .entry)) (now (rows .entry)) (now (terms .entry)) (now (store .entry))) (lent-slices (now (work .exit)) (now (rows .exit)) (now (terms .exit)) (now (store .exit))) r ⌝ }
 {
     if number == 0 {
-        clear::clear_bytes(work);
+        zeroing::clear_bytes(work);
         return Reading {
             number: 0,
             position: size,

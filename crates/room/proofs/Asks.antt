@@ -8,7 +8,7 @@ use native.Mathlib.Omega.{arith}
 use lib.Dec.{eqb}
 use lib.ListN.{length, length-append}
 use Rattle.text.specs.Text.{Text, cond}
-use Rattle.form.specs.Form.{undo}
+use Rattle.spelling.specs.Form.{undo}
 use Rattle.dataset.specs.Terms.{Term, iri, blank, literal, tagged, label, bracket, cell, rdf-first, rdf-rest, rdf-nil}
 use Rattle.table.specs.Tables.{number}
 use Rattle.machine.specs.Memory.{Memory, Write, return, _>>=_, done, term-by, term, new-term, row}

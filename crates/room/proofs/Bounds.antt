@@ -9,9 +9,9 @@ use lib.ListN.{length, length-append}
 use Rattle.text.specs.Text.{Text, cond}
 use Rattle.text.proofs.Compare.{by}
 use Rattle.escape.proofs.Walk.{unescape-short, unreserve-short}
-use Rattle.form.specs.Form.{undo}
-use Rattle.form.specs.declared.Form.{Form}
-use Rattle.form.specs.declared.Form.the-variants.{Plain, Escaped, Reserved}
+use Rattle.spelling.specs.Form.{undo}
+use Rattle.spelling.specs.declared.Form.{Form}
+use Rattle.spelling.specs.declared.Form.the-variants.{Plain, Escaped, Reserved}
 use Rattle.dataset.specs.Terms.{Term, iri, blank, literal, tagged, label, rdf-first, rdf-rest, rdf-nil}
 use Rattle.table.specs.Tables.{number, or-zero, term-bytes}
 use Rattle.state.specs.declared.Spot.{Spot}

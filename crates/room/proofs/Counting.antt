@@ -10,7 +10,7 @@ use lib.ListN.{length, length-append}
 use borrow.Author.Tests.{eqb-true, ne-eqb}
 use Rattle.text.specs.Text.{Text, cond, same-text, is-none}
 use Rattle.text.proofs.Compare.{by, contrary, same-eq, same-refl}
-use Rattle.form.specs.Form.{undo}
+use Rattle.spelling.specs.Form.{undo}
 use Rattle.dataset.specs.Terms.{Term, iri, blank, literal, tagged, label, cell, bracket}
 use Rattle.table.specs.Tables.{same-blank, same-term, number, or-zero, term-bytes, store-size}
 use Rattle.table.proofs.Finding.{number-positive}

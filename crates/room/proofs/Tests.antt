@@ -9,8 +9,8 @@ use lib.Seq.{length-take-le}
 use borrow.Author.Tests.{eq-eqb, ne-eqb, le-leb, lt-leb, lt-ltb, le-ltb}
 use Rattle.text.specs.Text.{Text}
 use Rattle.text.proofs.Compare.{by}
-use Rattle.form.specs.Form.{undo}
-use Rattle.form.proofs.Forms.{joined-length}
+use Rattle.spelling.specs.Form.{undo}
+use Rattle.spelling.proofs.Forms.{joined-length}
 use Rattle.dataset.specs.Terms.{Term, iri, blank, literal, tagged, label}
 use Rattle.table.specs.Tables.{number, or-zero, term-bytes}
 use Rattle.terms.specs.declared.Counts.{Counts}

@@ -4,7 +4,7 @@ use mathlib.Core.Option.{Option, none, some}
 use Prim.Native.Nat.{ℕ, _+_}
 use lib.Dec.{eqb}
 use Rattle.text.specs.Text.{Text, cond}
-use Rattle.form.specs.Form.{undo}
+use Rattle.spelling.specs.Form.{undo}
 use Rattle.dataset.specs.Terms.{Term, iri, blank, literal, tagged, label, bracket, cell, rdf-first, rdf-rest, rdf-nil}
 use Rattle.table.specs.Tables.{number}
 use Rattle.machine.specs.Frame.{Place, top, subject-before, object-of, element-of, Cells, no-cell, cells}

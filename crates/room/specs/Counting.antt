@@ -7,11 +7,11 @@ use lib.Dec.{eqb, ltb}
 use lib.ListN.{length, getD, drop}
 use Rattle.text.specs.Text.{Text, cond, same-text}
 use Rattle.limits.specs.Limits.{iri-limit, work-size}
-use Rattle.form.specs.Form.{undo}
+use Rattle.spelling.specs.Form.{undo}
 use Rattle.dataset.specs.Terms.{Term, iri, blank, literal, tagged, label}
 use Rattle.table.specs.Tables.{number, or-zero, term-bytes}
 use Rattle.terms.specs.declared.Counts.{Counts}
-use Rattle.index.specs.Holds.{Holds}
+use Rattle.term_tree.specs.Holds.{Holds}
 use Rattle.machine.specs.Memory.{Memory, Write}
 use Rattle.machine.specs.Step.{Room, _when_, first-refusal}
 use Rattle.state.specs.declared.Spot.{Spot}

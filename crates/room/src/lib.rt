@@ -5,16 +5,16 @@ ghost use mathlib.Core.Path.{_≡_};
 ghost use Prim.Native.Nat.{_+_, _-_, _≤_, _<_};
 ghost use lib.ListN.{length, take, drop};
 ghost use Rattle.limits.specs.Limits.{document-limit, work-size};
-ghost use Rattle.form.specs.Form.{undo, joined};
+ghost use Rattle.spelling.specs.Form.{undo, joined};
 ghost use Rattle.dataset.specs.Terms.{iri, blank, label, literal, tagged};
-ghost use Rattle.index.specs.Holds.{Finds};
+ghost use Rattle.term_tree.specs.Holds.{Finds};
 ghost use Rattle.state.specs.Represents.{counted as at-most, lent-tables, room-in, Represented};
 ghost use Rattle.state.specs.Writes.{place-of, node-iri, node-write, placed, opened-at, closed, NodeFits};
 ghost use Rattle.room.specs.Asks.{supplied, place-iri, place-rows, before-iri, before-rows, behind-iri, behind-rows, close-rows};
 ghost use Rattle.room.specs.Counting.{tally, more, count-term, count-supply, is-supplied, count-iri, count-node, asks-first, count-behind, count-before, count-place, count-close, Held, Numbers, Tallies, LiteralTallies, Answers, Small, Named, rows-in, tally-in, refusal-of};
-use form::Form;
+use environment::Layout;
 use limits::Limits;
-use scope::Layout;
+use spelling::Form;
 use state::Node;
 use state::Spot;
 use state::Words;
@@ -57,7 +57,7 @@ fn find_iri(
     requires { ⌜ Held (now work) (now terms) (now store) counts × ((start ≤ end) × (end ≤ length (now work))) ⌝ }
     ensures { λ r. ⌜ Numbers (now (work .entry)) (now (terms .entry)) (now (store .entry)) counts (iri (joined (take (end - start) (drop start (now (work .entry)))) form (now (back .entry)))) r ⌝ }
 {
-    index::find_name(work, start, end, terms, store, counts, form, back)
+    term_tree::find_name(work, start, end, terms, store, counts, form, back)
 }
 
 fn find_first(work: &[u8], terms: &[u32], store: &[u8], counts: Counts) -> usize
@@ -142,7 +142,7 @@ fn is_first(work: &[u8], node: Node, back: &[u8]) -> bool
     let start = node.start;
     let end = node.end;
     let form = node.form;
-    form::same_joined(
+    spelling::same_joined(
         &work[start..end],
         form,
         back,
@@ -157,7 +157,7 @@ fn is_rest(work: &[u8], node: Node, back: &[u8]) -> bool
     let start = node.start;
     let end = node.end;
     let form = node.form;
-    form::same_joined(
+    spelling::same_joined(
         &work[start..end],
         form,
         back,
@@ -194,7 +194,7 @@ fn find_text(
     ensures { λ r. ⌜ Finds (now (terms .entry)) (now (store .entry)) (drop work-size (now (work .entry))) counts sort (undo form (now (text .entry))) (now (tag .entry)) r ⌝ }
 {
     let n = Limits::work_size();
-    let found = index::find(
+    let found = term_tree::find(
         &work[n..],
         terms,
         store,
@@ -253,7 +253,7 @@ fn tally_iri(
     let end = node.end;
     let form = node.form;
     let n = find_iri(work, terms, store, counts, start, end, form, back);
-    more(t, n, end - start + form::undone_length(form, back))
+    more(t, n, end - start + spelling::undone_length(form, back))
 }
 
 fn tally_label(
@@ -302,7 +302,7 @@ fn tally_tagged(
         datatype: 0,
     };
     let n = find_text(work, terms, store, counts, sort, form, text, tag);
-    more(t, n, form::undone_length(form, text) + tag.len())
+    more(t, n, spelling::undone_length(form, text) + tag.len())
 }
 
 // With a literal of the datatype d, which is behind its IRI.
@@ -324,7 +324,7 @@ fn tally_literal(
         datatype: d,
     };
     let n = find_text(work, terms, store, counts, sort, form, text, &text[..0]);
-    more(t, n, form::undone_length(form, text))
+    more(t, n, spelling::undone_length(form, text))
 }
 
 fn tally_typed(

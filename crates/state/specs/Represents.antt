@@ -8,11 +8,11 @@ use lib.ListN.{length, getD, drop}
 use Rattle.text.specs.Text.{Text, cond, empty}
 use Rattle.limits.specs.Limits.{work-size}
 use Rattle.iri.specs.Iri.{has-scheme}
-use Rattle.scope.specs.Code.{environment-in, Usable}
+use Rattle.environment.specs.Code.{environment-in, Usable}
 use Rattle.table.specs.Layout.{row-size, term-size, row-room, term-room}
 use Rattle.table.specs.Tables.{or-zero, store-size}
 use Rattle.terms.specs.Keeps.{KeepsRows}
-use Rattle.index.specs.Holds.{Holds}
+use Rattle.term_tree.specs.Holds.{Holds}
 use Rattle.machine.specs.Memory.{Memory, Write}
 use Rattle.machine.specs.Step.{Room, _when_, first-refusal}
 use Rattle.machine.specs.Demand.{Fits}

@@ -3,7 +3,7 @@ use mathlib.Core.Path.{_≡_}
 use mathlib.Core.List.{List}
 use Prim.Native.Nat.{ℕ, _+_, _≤_, _<_}
 use lib.ListN.{getD}
-use Rattle.scope.specs.Code.{own-word}
+use Rattle.environment.specs.Code.{own-word}
 use Rattle.terms.specs.declared.Counts.{Counts}
 
 -- How far the tables are filled; where numbers of IRIs are kept; the node that was written last.

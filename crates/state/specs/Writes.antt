@@ -6,7 +6,7 @@ use lib.Dec.{eqb}
 use lib.ListN.{length, take, drop}
 use Rattle.text.specs.Text.{Text, cond}
 use Rattle.limits.specs.Limits.{document-limit, iri-limit, work-size}
-use Rattle.form.specs.Form.{undo, bad, joined}
+use Rattle.spelling.specs.Form.{undo, bad, joined}
 use Rattle.dataset.specs.Terms.{iri, blank, tagged, label, bracket}
 use Rattle.machine.specs.Memory.{Write, return, _>>=_, _>>_, term, new-term, typed}
 use Rattle.machine.specs.Frame.{Place, top, object-of, element-of, Cells, no-cell, cells}

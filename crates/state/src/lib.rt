@@ -2,8 +2,8 @@
 // say how far the tables are filled, which token stands at the cursor, and where the next node belongs.
 ghost use mathlib.Core.Path.{_≡_};
 ghost use Rattle.state.specs.Words.{counts-of};
-use form::Form;
-use scope::Layout;
+use environment::Layout;
+use spelling::Form;
 use terms::Counts;
 
 pub struct Words {}

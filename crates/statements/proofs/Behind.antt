@@ -16,9 +16,9 @@ use Rattle.grammar.specs.Productions.{Mode}
 use Rattle.machine.specs.Frame.{Ending, full-stop, Place, top, subject-before, object-of, element-of, Frame, label-or-subject, verb, verb-or-end, object, Open, statement}
 use Rattle.machine.specs.Rules.{Rule, _⇒_, find-rule, end-rules, verb-rules, frame-rules}
 use Rattle.state.specs.Words.{kind-word, at-word, list-word, x-word}
-use Rattle.reading.specs.Reading.{code-among, Held, here, Ready, Turns, on-top}
-use Rattle.reading.proofs.Tests.{kinds-of, among-any, among-code}
-use Rattle.reading.proofs.Turning.{turns-comes, turns-then}
+use Rattle.simulation.specs.Simulation.{code-among, Held, here, Ready, Turns, on-top}
+use Rattle.simulation.proofs.Tests.{kinds-of, among-any, among-code}
+use Rattle.simulation.proofs.Turning.{turns-comes, turns-then}
 use Rattle.nodes.specs.Nodes.{Ends, verb-kinds}
 use Rattle.nodes.proofs.Predicates.{verbs-verb, verbs-or-end, verbs-label, no-verb}
 use Rattle.nesting.specs.Nesting.{Listed}

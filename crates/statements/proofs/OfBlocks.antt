@@ -19,10 +19,10 @@ use Rattle.machine.specs.Memory.{Write, return, _>>=_, enter}
 use Rattle.machine.specs.Frame.{Ending, brace, Place, subject-before, Frame, triples-or-end, Open, statement}
 use Rattle.machine.specs.Rules.{find-rule, subject-rules, end-rules, frame-rules, rules}
 use Rattle.state.specs.Words.{kind-word, at-word, depth-word, graph-word, x-word}
-use Rattle.reading.specs.Reading.{Held, held, here, Ready, Turns, refusal-here}
-use Rattle.reading.proofs.Tests.{kinds-of, among-any, among-code, no-rule}
-use Rattle.reading.proofs.Frames.{found-above, none-above}
-use Rattle.reading.proofs.Turning.{turns-here, turns-then, turns-stop, turns-none}
+use Rattle.simulation.specs.Simulation.{Held, held, here, Ready, Turns, refusal-here}
+use Rattle.simulation.proofs.Tests.{kinds-of, among-any, among-code, no-rule}
+use Rattle.simulation.proofs.Frames.{found-above, none-above}
+use Rattle.simulation.proofs.Turning.{turns-here, turns-then, turns-stop, turns-none}
 use Rattle.nodes.specs.Nodes.{Passed, Ends}
 use Rattle.nesting.proofs.Aiming.{less-left}
 use Rattle.subjects.specs.Subjects.{subject-kinds, SubjectAt, Subject, Predicates}

@@ -10,9 +10,9 @@ use Rattle.grammar.specs.Productions.{Mode, trig, turtle}
 use Rattle.machine.specs.Frame.{statement}
 use Rattle.machine.specs.Read.{mode-of}
 use Rattle.state.specs.Words.{kind-word, at-word}
-use Rattle.reading.specs.Reading.{code-among, Held, Ready, Turns}
-use Rattle.reading.proofs.Turning.{turns-here, turns-then}
-use Rattle.reading.proofs.Steps.{goes-ended}
+use Rattle.simulation.specs.Simulation.{code-among, Held, Ready, Turns}
+use Rattle.simulation.proofs.Turning.{turns-here, turns-then}
+use Rattle.simulation.proofs.Steps.{goes-ended}
 use Rattle.nesting.proofs.Aiming.{less-left}
 use Rattle.statements.specs.Statements.{Graph, Statement, Plain, ReadsAll}
 use Rattle.directives.specs.Directives.{directive-kinds}

@@ -12,10 +12,10 @@ use Rattle.grammar.specs.Productions.{Mode, trig}
 use Rattle.machine.specs.Frame.{graph-body, label-or-subject, statement}
 use Rattle.machine.specs.Rules.{rules}
 use Rattle.state.specs.Words.{kind-word, depth-word}
-use Rattle.reading.specs.Reading.{Held, held, Ready, refusal-here}
-use Rattle.reading.proofs.Tests.{among-code}
-use Rattle.reading.proofs.Turning.{turns-then, turns-none}
-use Rattle.reading.proofs.Steps.{here-some}
+use Rattle.simulation.specs.Simulation.{Held, held, Ready, refusal-here}
+use Rattle.simulation.proofs.Tests.{among-code}
+use Rattle.simulation.proofs.Turning.{turns-then, turns-none}
+use Rattle.simulation.proofs.Steps.{here-some}
 use Rattle.nodes.specs.Nodes.{Passed}
 use Rattle.statements.specs.Statements.{Block, GraphAt, Graph}
 use Rattle.statements.proofs.OfMarks.{open-mark, mark-enters, mark-ready}

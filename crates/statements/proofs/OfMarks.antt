@@ -8,7 +8,7 @@ use native.Mathlib.Omega.{arith}
 use lib.Dec.{T}
 use lib.ListN.{length, getD}
 use denote.Ref.{RefT}
-use Rattle.scope.specs.Code.{words-size}
+use Rattle.environment.specs.Code.{words-size}
 use Rattle.text.specs.Text.{Text}
 use Rattle.text.proofs.Booleans.{imp, imp-use, all}
 use Rattle.token.specs.Kind.{Kind, kinds, kind-of-code, among, close-bracket, close-paren}
@@ -22,10 +22,10 @@ use Rattle.machine.specs.Refusals.{new-depth}
 use Rattle.machine.specs.Step.{awaited-by}
 use Rattle.state.specs.Words.{kind-word, depth-word, graph-word}
 use Rattle.state.specs.Cursor.{Cursor, TokenHere}
-use Rattle.reading.specs.Reading.{Held, held, here, Ready, Turns}
-use Rattle.reading.proofs.Frames.{ready-does}
-use Rattle.reading.proofs.Turning.{turns-does}
-use Rattle.reading.proofs.Steps.{tied-here}
+use Rattle.simulation.specs.Simulation.{Held, held, here, Ready, Turns}
+use Rattle.simulation.proofs.Frames.{ready-does}
+use Rattle.simulation.proofs.Turning.{turns-does}
+use Rattle.simulation.proofs.Steps.{tied-here}
 use Rattle.nodes.specs.Nodes.{Passed}
 use Rattle.nodes.proofs.Passing.{Quiet, passed-does, passed-same}
 use Rattle.nesting.proofs.Aiming.{pass-call}

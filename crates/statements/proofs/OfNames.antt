@@ -9,7 +9,7 @@ use borrow.Author.Tests.{ne-eqb}
 use lib.Dec.{T, eqb}
 use lib.ListN.{length, getD}
 use denote.Ref.{RefT}
-use Rattle.scope.specs.Code.{words-size}
+use Rattle.environment.specs.Code.{words-size}
 use Rattle.text.specs.Text.{Text}
 use Rattle.text.proofs.Compare.{contrary}
 use Rattle.text.proofs.Booleans.{imp, imp-use, all, is-true}
@@ -25,11 +25,11 @@ use Rattle.machine.specs.Refusals.{new-depth}
 use Rattle.state.specs.Words.{node-word, kind-word, at-word, depth-word, graph-word}
 use Rattle.state.specs.Writes.{placed}
 use Rattle.state.specs.Cursor.{Cursor, TokenHere}
-use Rattle.reading.specs.Reading.{code-among, Held, held, here, Ready, Reads, on-top, Turns, refusal-here}
-use Rattle.reading.proofs.Tests.{kinds-of, among-any, among-code, no-rule}
-use Rattle.reading.proofs.Frames.{reads-does, reads-none}
-use Rattle.reading.proofs.Turning.{turns-comes, turns-then, turns-stop}
-use Rattle.reading.proofs.Steps.{here-some}
+use Rattle.simulation.specs.Simulation.{code-among, Held, held, here, Ready, Reads, on-top, Turns, refusal-here}
+use Rattle.simulation.proofs.Tests.{kinds-of, among-any, among-code, no-rule}
+use Rattle.simulation.proofs.Frames.{reads-does, reads-none}
+use Rattle.simulation.proofs.Turning.{turns-comes, turns-then, turns-stop}
+use Rattle.simulation.proofs.Steps.{here-some}
 use Rattle.nodes.specs.Nodes.{term-rules, term-kinds, spot-of, Spotted, Numbers, PutsTerm, Aimed, Passed}
 use Rattle.nodes.proofs.Slots.{found-made, found-front, term-rule}
 use Rattle.nodes.proofs.Predicates.{alone}

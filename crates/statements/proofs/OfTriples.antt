@@ -20,10 +20,10 @@ use Rattle.machine.specs.Frame.{full-stop, Place, top, subject-before, label-or
 use Rattle.machine.specs.Rules.{find-rule, subject-rules, document-rules, end-rules, above, rules}
 use Rattle.machine.specs.Read.{mode-of}
 use Rattle.state.specs.Words.{kind-word, depth-word, graph-word, list-word, x-word}
-use Rattle.reading.specs.Reading.{code-among, Held, held, here, Ready, Turns, refusal-here}
-use Rattle.reading.proofs.Tests.{kinds-of, among-any, among-code, no-rule}
-use Rattle.reading.proofs.Turning.{turns-then, turns-stop, turns-none}
-use Rattle.reading.proofs.Steps.{here-some}
+use Rattle.simulation.specs.Simulation.{code-among, Held, held, here, Ready, Turns, refusal-here}
+use Rattle.simulation.proofs.Tests.{kinds-of, among-any, among-code, no-rule}
+use Rattle.simulation.proofs.Turning.{turns-then, turns-stop, turns-none}
+use Rattle.simulation.proofs.Steps.{here-some}
 use Rattle.nodes.specs.Nodes.{Passed}
 use Rattle.subjects.specs.Subjects.{subject-kinds, after-subject, SubjectAt, Subject, Predicates}
 use Rattle.statements.specs.Statements.{Graph, Statement, Plain, graph-label-test}

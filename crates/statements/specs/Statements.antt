@@ -18,7 +18,7 @@ use Rattle.machine.specs.Step.{awaited-by, Outcome, accepted, refused, at-end}
 use Rattle.state.specs.Words.{kind-word, at-word, list-word, x-word}
 use Rattle.state.specs.Cursor.{TokenHere}
 use Rattle.state.specs.Represents.{Tables}
-use Rattle.reading.specs.Reading.{code-among, Held, here, Holding, goes, Same, Turns}
+use Rattle.simulation.specs.Simulation.{code-among, Held, here, Holding, goes, Same, Turns}
 use Rattle.directives.specs.Directives.{directive-kinds}
 use Rattle.nodes.specs.Nodes.{Verbs, Ends, verb-kinds}
 

@@ -10,13 +10,13 @@ ghost use Rattle.grammar.specs.Productions.{trig};
 ghost use Rattle.machine.specs.Read.{mode-of};
 ghost use Rattle.state.specs.Words.{kind-word, at-word, depth-word, x-word};
 ghost use Rattle.state.specs.Writes.{placed, opened-at};
-ghost use Rattle.reading.specs.Reading.{code-among, held, Ready, Does};
+ghost use Rattle.simulation.specs.Simulation.{code-among, held, Ready, Does};
 ghost use Rattle.nodes.specs.Nodes.{spot-of, Spotted, Numbers, PutsTerm, term-kinds, verb-kinds};
 ghost use Rattle.token.specs.Kind.{kw-a};
 ghost use Rattle.directives.specs.Directives.{directive-kinds};
 ghost use Rattle.subjects.specs.Subjects.{label-kinds, Subject, Predicates};
 ghost use Rattle.statements.specs.Statements.{Block, Graph, Statement, Plain, graph-label-test, ReadsAll};
-use scope::Layout;
+use environment::Layout;
 use state::Words;
 
 fn is_directive(kind: usize) -> bool
@@ -61,7 +61,7 @@ fn block(
             return 0;
         }
         if st[Words::KIND] != 19 {
-            return reading::unexpected(*doc, st);
+            return simulation::unexpected(*doc, st);
         }
         nodes::pass(doc, st);
     }
@@ -81,7 +81,7 @@ fn graph(
     ensures { λ r. ⌜ Graph (now (now (doc .entry))) (held (now (work .entry)) (now (rows .entry)) (now (terms .entry)) (now (store .entry)) (now (st .entry))) (held (now (work .exit)) (now (rows .exit)) (now (terms .exit)) (now (store .exit)) (now (st .exit))) n r ⌝ }
 {
     if st[Words::KIND] != 26 {
-        return reading::unexpected(*doc, st);
+        return simulation::unexpected(*doc, st);
     }
     nodes::enter(doc, st, n);
     block(doc, work, rows, terms, store, st)
@@ -110,15 +110,15 @@ fn named_graph(
         return graph(doc, work, rows, terms, store, st, n);
     }
     if st[Words::KIND] != 22 {
-        return reading::unexpected(*doc, st);
+        return simulation::unexpected(*doc, st);
     }
-    let d = leaves::put_bracket(doc, work, rows, terms, store, st);
+    let d = simple_terms::put_bracket(doc, work, rows, terms, store, st);
     if d != 0 {
         return d;
     }
     let g = st[Words::NODE];
     if st[Words::KIND] != 23 {
-        return reading::unexpected(*doc, st);
+        return simulation::unexpected(*doc, st);
     }
     nodes::leave(doc, st);
     graph(doc, work, rows, terms, store, st, g)
@@ -150,7 +150,7 @@ fn triples(
         return d;
     }
     if st[Words::KIND] != 19 {
-        return reading::unexpected(*doc, st);
+        return simulation::unexpected(*doc, st);
     }
     nodes::pass(doc, st);
     0

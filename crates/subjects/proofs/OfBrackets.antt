@@ -20,11 +20,11 @@ use Rattle.machine.specs.Refusals.{new-depth}
 use Rattle.state.specs.Words.{node-word, kind-word, at-word, depth-word, graph-word, list-word, x-word}
 use Rattle.state.specs.Cursor.{Cursor, TokenHere}
 use Rattle.state.specs.Writes.{placed}
-use Rattle.reading.specs.Reading.{code-among, Held, held, here, Ready, Reads, on-top, Turns, refusal-here}
-use Rattle.reading.proofs.Tests.{among-code}
-use Rattle.reading.proofs.Steps.{tied-here, here-some}
-use Rattle.reading.proofs.Frames.{ready-does, reads-none}
-use Rattle.reading.proofs.Turning.{turns-comes, turns-then, turns-stop, turns-does}
+use Rattle.simulation.specs.Simulation.{code-among, Held, held, here, Ready, Reads, on-top, Turns, refusal-here}
+use Rattle.simulation.proofs.Tests.{among-code}
+use Rattle.simulation.proofs.Steps.{tied-here, here-some}
+use Rattle.simulation.proofs.Frames.{ready-does, reads-none}
+use Rattle.simulation.proofs.Turning.{turns-comes, turns-then, turns-stop, turns-does}
 use Rattle.nodes.specs.Nodes.{Aimed, Passed, Spotted, Numbers, spot-of, verb-kinds, Verbs}
 use Rattle.nodes.proofs.Predicates.{alone, no-verb, verbs-bracket}
 use Rattle.nesting.specs.Nesting.{Listed, Properties}

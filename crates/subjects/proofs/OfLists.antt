@@ -15,15 +15,15 @@ use Rattle.machine.specs.Rules.{after-node, list-place}
 use Rattle.state.specs.Words.{terms-word, node-word, kind-word, at-word, depth-word, x-word, y-word, opened-word}
 use Rattle.state.specs.Cursor.{TokenHere}
 use Rattle.state.specs.Writes.{opened-at}
-use Rattle.reading.specs.Reading.{Held, held, here, Ready, Reads, on-top, Turns, Does}
-use Rattle.reading.proofs.Steps.{tied-here}
-use Rattle.reading.proofs.Frames.{ready-does}
-use Rattle.reading.proofs.Turning.{turns-comes, turns-then, turns-stop, turns-does}
+use Rattle.simulation.specs.Simulation.{Held, held, here, Ready, Reads, on-top, Turns, Does}
+use Rattle.simulation.proofs.Steps.{tied-here}
+use Rattle.simulation.proofs.Frames.{ready-does}
+use Rattle.simulation.proofs.Turning.{turns-comes, turns-then, turns-stop, turns-does}
 use Rattle.nodes.specs.Nodes.{Aimed, Spotted, spot-of, Belongs}
 use Rattle.nodes.proofs.Slots.{begin-plain}
 use Rattle.nesting.specs.Nesting.{Lists, list-node}
 use Rattle.nesting.proofs.Skipping.{token-there}
-use Rattle.reading.proofs.Numbers.{next-small}
+use Rattle.simulation.proofs.Numbers.{next-small}
 use Rattle.nesting.proofs.Aiming.{ready-aimed, spotted, place-small, ready-words}
 use Rattle.subjects.specs.Subjects.{SubjectAt, Outer, after-subject, Subject}
 use Rattle.subjects.proofs.Rules.{subject-aimed, node-nil, list-outer, deeper-list}

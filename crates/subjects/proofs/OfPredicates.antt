@@ -7,10 +7,10 @@ use Prim.Native.Nat.{ℕ, _≤_, _<_}
 use lib.ListN.{getD}
 use Rattle.text.specs.Text.{Text}
 use Rattle.text.proofs.Compare.{contrary}
-use Rattle.reading.specs.Reading.{code-among, Held, here, Ready, on-top, refusal-here}
-use Rattle.reading.proofs.Compose.{comes-here}
-use Rattle.reading.proofs.Steps.{here-some}
-use Rattle.reading.proofs.Frames.{reads-none}
+use Rattle.simulation.specs.Simulation.{code-among, Held, here, Ready, on-top, refusal-here}
+use Rattle.simulation.proofs.Compose.{comes-here}
+use Rattle.simulation.proofs.Steps.{here-some}
+use Rattle.simulation.proofs.Frames.{reads-none}
 use Rattle.state.specs.Words.{kind-word, list-word, x-word}
 use Rattle.nodes.specs.Nodes.{verb-kinds}
 use Rattle.nesting.specs.Nesting.{Listed, Properties}

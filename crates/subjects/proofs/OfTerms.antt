@@ -18,11 +18,11 @@ use Rattle.machine.specs.Rules.{after-node}
 use Rattle.state.specs.Words.{node-word, kind-word, at-word, list-word, x-word}
 use Rattle.state.specs.Cursor.{Cursor, TokenHere}
 use Rattle.state.specs.Writes.{placed}
-use Rattle.reading.specs.Reading.{code-among, Held, held, here, Ready, Turns, refusal-here}
-use Rattle.reading.proofs.Tests.{among-code}
-use Rattle.reading.proofs.Steps.{tied-here, here-some}
-use Rattle.reading.proofs.Frames.{ready-does}
-use Rattle.reading.proofs.Turning.{turns-comes, turns-then, turns-stop, turns-does, turns-none-but}
+use Rattle.simulation.specs.Simulation.{code-among, Held, held, here, Ready, Turns, refusal-here}
+use Rattle.simulation.proofs.Tests.{among-code}
+use Rattle.simulation.proofs.Steps.{tied-here, here-some}
+use Rattle.simulation.proofs.Frames.{ready-does}
+use Rattle.simulation.proofs.Turning.{turns-comes, turns-then, turns-stop, turns-does, turns-none-but}
 use Rattle.nodes.specs.Nodes.{Aimed, Spotted, PutsTerm, term-kinds, spot-of}
 use Rattle.nodes.proofs.Slots.{term-rule}
 use Rattle.nodes.proofs.Predicates.{alone}

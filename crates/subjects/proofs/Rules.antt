@@ -15,12 +15,12 @@ use Rattle.machine.specs.Memory.{Memory, Write, return, _>>=_, term, typed, iri
 use Rattle.dataset.specs.Terms.{iri, rdf-type, xsd-integer, xsd-decimal, xsd-double, xsd-boolean}
 use Rattle.machine.specs.Frame.{Place, top, subject-before, object-of, element-of, Frame, bracket, list, no-cell, Open, statement}
 use Rattle.machine.specs.Rules.{Rule, _⇒_, find-rule, after-node, after-properties, list-place, label-term, bracket-term, subject-rules, above, rules}
-use Rattle.reading.proofs.Tests.{kinds-of, among-any, among-code}
-use Rattle.reading.proofs.Frames.{found-above}
+use Rattle.simulation.proofs.Tests.{kinds-of, among-any, among-code}
+use Rattle.simulation.proofs.Frames.{found-above}
 use Rattle.nodes.specs.Nodes.{term-rules, term-kinds}
 use Rattle.nodes.proofs.Slots.{found-made, found-front}
 use Rattle.grammar.specs.Productions.{Mode}
-use Rattle.reading.specs.Reading.{Held, held, here}
+use Rattle.simulation.specs.Simulation.{Held, held, here}
 use Rattle.machine.specs.Refusals.{new-depth}
 use Rattle.state.specs.Words.{kind-word, depth-word, at-word, len-word, list-word}
 use Rattle.nodes.proofs.Moving.{token-words}

@@ -16,7 +16,7 @@ use Rattle.machine.specs.Rules.{find-rule, after-node, after-properties, list-p
 use Rattle.machine.specs.Step.{awaited-by, refused, at-end}
 use Rattle.state.specs.Words.{kind-word, at-word, list-word, x-word}
 use Rattle.state.specs.Cursor.{TokenHere}
-use Rattle.reading.specs.Reading.{code-among, Held, here, Turns}
+use Rattle.simulation.specs.Simulation.{code-among, Held, here, Turns}
 use Rattle.nodes.specs.Nodes.{Verbs, Ends, verb-kinds}
 use Rattle.nesting.specs.Nesting.{Listed}
 

@@ -8,12 +8,12 @@ ghost use Rattle.dataset.specs.Terms.{blank, bracket};
 ghost use Rattle.machine.specs.Memory.{new-term};
 ghost use Rattle.state.specs.Words.{kind-word, at-word, depth-word, x-word};
 ghost use Rattle.state.specs.Writes.{placed, opened-at};
-ghost use Rattle.reading.specs.Reading.{code-among, held, Ready, Does};
+ghost use Rattle.simulation.specs.Simulation.{code-among, held, Ready, Does};
 ghost use Rattle.nodes.specs.Nodes.{spot-of, Spotted, Numbers, PutsTerm, term-kinds, verb-kinds};
 ghost use Rattle.token.specs.Kind.{kw-a};
 ghost use Rattle.nesting.specs.Nesting.{Lists, Properties};
 ghost use Rattle.subjects.specs.Subjects.{label-kinds, Subject, Predicates};
-use scope::Layout;
+use environment::Layout;
 use state::Words;
 
 // Whether a token of this kind is a graph's label, or a subject, by itself.
@@ -64,7 +64,7 @@ fn bracket_subject(
     ensures { λ r. ⌜ Subject (now (now (doc .entry))) (held (now (work .entry)) (now (rows .entry)) (now (terms .entry)) (now (store .entry)) (now (st .entry))) (held (now (work .exit)) (now (rows .exit)) (now (terms .exit)) (now (store .exit)) (now (st .exit))) r ⌝ }
 {
     nodes::aim(st, 0, 0, 0, 0, 0);
-    let c = leaves::put_bracket(doc, work, rows, terms, store, st);
+    let c = simple_terms::put_bracket(doc, work, rows, terms, store, st);
     if c != 0 {
         return c;
     }
@@ -75,14 +75,14 @@ fn bracket_subject(
         return 0;
     }
     if !nodes::is_verb(st[Words::KIND]) {
-        return reading::unexpected(*doc, st);
+        return simulation::unexpected(*doc, st);
     }
     let d = nesting::properties(doc, work, rows, terms, store, st, n);
     if d != 0 {
         return d;
     }
     if st[Words::KIND] != 23 {
-        return reading::unexpected(*doc, st);
+        return simulation::unexpected(*doc, st);
     }
     nodes::leave(doc, st);
     nodes::aim(st, 2, n, 0, 0, 0);
@@ -103,7 +103,7 @@ fn list_subject(
 {
     let at = st[Words::AT];
     nodes::aim(st, 0, 0, 0, 0, 0);
-    let c = leaves::put_paren(doc, work, rows, terms, store, st);
+    let c = simple_terms::put_paren(doc, work, rows, terms, store, st);
     if c != 0 {
         return c;
     }
@@ -144,7 +144,7 @@ pub fn subject(
     if kind == 24 {
         return list_subject(doc, work, rows, terms, store, st);
     }
-    reading::unexpected(*doc, st)
+    simulation::unexpected(*doc, st)
 }
 
 // What comes behind a subject.
@@ -166,5 +166,5 @@ pub fn predicates(
     if st[Words::LIST] == 2 {
         return 0;
     }
-    reading::unexpected(*doc, st)
+    simulation::unexpected(*doc, st)
 }

@@ -5,12 +5,12 @@ ghost use mathlib.Core.List.{[], _++_};
 ghost use Prim.Native.Nat.{ℕ, suc, _+_, _*_, _-_, _≤_, _<_};
 ghost use lib.ListN.{length, getD};
 ghost use Rattle.text.specs.Slice.{over-at};
-ghost use Rattle.form.specs.Form.{joined, bad};
-ghost use Rattle.form.specs.declared.Form.the-variants.{Plain};
+ghost use Rattle.spelling.specs.Form.{joined, bad};
+ghost use Rattle.spelling.specs.declared.Form.the-variants.{Plain};
 ghost use Rattle.table.specs.Layout.{entry-at, entry-words};
 ghost use Rattle.terms.specs.Code.{same-rest, matches, first, Inside, Readable, fourth, next-entry, next-counts};
 ghost use Rattle.terms.specs.Keeps.{Small, TermFits, Added, iri-sort, blank-sort, BlankAdded, RowAdded};
-use form::Form;
+use spelling::Form;
 
 // How many terms there are, how many bytes of the store they use, and how many of them are blank nodes.
 pub struct Counts {
@@ -70,7 +70,7 @@ pub fn is_term(
     }
     let start = wide(terms[at + 1]);
     let end = start + wide(terms[at + 2]);
-    if form::same_joined(front, form, back, &store[start..end]) {
+    if spelling::same_joined(front, form, back, &store[start..end]) {
         return same_rest(terms, store, i, sort, tag);
     }
     false
@@ -87,7 +87,7 @@ pub fn is_iri(terms: &[u32], store: &[u8], i: usize, front: &[u8], back: &[u8]) 
     }
     let start = wide(terms[at + 1]);
     let end = start + wide(terms[at + 2]);
-    form::same_plain(front, back, &store[start..end])
+    spelling::same_plain(front, back, &store[start..end])
 }
 
 // The first number of such a term behind the first `from` terms, or 0.
@@ -176,7 +176,7 @@ fn write_bytes(
     requires { ⌜ (used + (length (joined (now front) form (now back)) + length (now tag)) ≤ length (now store)) × (bad form (now back) ≡ false) ⌝ }
     ensures { λ r. ⌜ (r ≡ length (joined (now (front .entry)) form (now (back .entry)))) × (now (store .exit) ≡ over-at used (joined (now (front .entry)) form (now (back .entry)) ++ now (tag .entry)) (now (store .entry))) ⌝ }
 {
-    let size = form::write_joined(front, form, back, &mut store[used..]);
+    let size = spelling::write_joined(front, form, back, &mut store[used..]);
     let end = used + size;
     text::copy(tag, &mut store[end..]);
     size

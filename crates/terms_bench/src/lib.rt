@@ -4,10 +4,10 @@ ghost use Prim.Native.Nat.{_≤_, _<_};
 ghost use lib.ListN.{length, drop};
 ghost use Rattle.limits.specs.Limits.{work-size};
 ghost use Rattle.terms.specs.Keeps.{TermFits, iri-sort};
-ghost use Rattle.index.specs.Holds.{Searchable};
+ghost use Rattle.term_tree.specs.Holds.{Searchable};
 ghost use Rattle.terms_bench.specs.Iris.{counts};
-use form::Form;
 use limits::Limits;
+use spelling::Form;
 use terms::Counts;
 use terms::Sort;
 
@@ -34,7 +34,7 @@ pub extern "C" fn share_iri(
         datatype: 0,
     };
     let n = Limits::work_size();
-    let found = index::find(
+    let found = term_tree::find(
         &work[n..],
         &terms[0..],
         &store[0..],
@@ -59,6 +59,6 @@ pub extern "C" fn share_iri(
         text,
         &text[..0],
     );
-    index::enter(work, count, slot);
+    term_tree::enter(work, count, slot);
     count + 1
 }

@@ -1,8 +1,8 @@
 // Which tables the writer takes, whatever the lent slices hold.
+pub mod entries;
 pub mod fields;
 pub mod rows;
 pub mod tags;
-pub mod terms;
 
 ghost use mathlib.Core.Path.{_≡_};
 ghost use Rattle.table.specs.Usable.{counts-fit, usable};
@@ -43,7 +43,7 @@ pub fn is_usable(
     if !fit_counts(rows, row_count, terms, term_count, store, store_count) {
         return false;
     }
-    if !terms::all_good(terms, wide(term_count), store, wide(store_count)) {
+    if !entries::all_good(terms, wide(term_count), store, wide(store_count)) {
         return false;
     }
     rows::all_good(rows, wide(row_count), terms, wide(term_count))

@@ -1,7 +1,7 @@
 // The writer: the long form of tables, and the answers 17 and 18.
 pub mod bytes;
+pub mod forms;
 pub mod lines;
-pub mod terms;
 
 ghost use mathlib.Core.Path.{_≡_};
 ghost use Rattle.table.specs.LongForm.{write};

@@ -11,7 +11,7 @@ ghost use Rattle.writer.specs.Drawn.{Writable, drawn, part-form, Writabl
 use crate::bytes::put;
 use crate::bytes::put_three;
 use crate::bytes::put_two;
-use crate::terms::put_term;
+use crate::forms::put_term;
 use usable::fields::word;
 
 // A term and a blank.

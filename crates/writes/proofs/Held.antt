@@ -10,8 +10,8 @@ use Rattle.text.specs.Text.{Text}
 use Rattle.text.proofs.Compare.{by}
 use Rattle.text.proofs.Over.{over-at-length}
 use Rattle.limits.specs.Limits.{work-size}
-use Rattle.scope.specs.Code.{environment-in}
-use Rattle.scope.proofs.Directives.{in-force-words, in-force-front}
+use Rattle.environment.specs.Code.{environment-in}
+use Rattle.environment.proofs.Directives.{in-force-words, in-force-front}
 use Rattle.dataset.specs.Terms.{Term, iri, blank, literal, tagged}
 use Rattle.table.specs.Layout.{Row, row-words, entry-words}
 use Rattle.table.specs.Tables.{is-blank, term-bytes, store-size}
@@ -22,7 +22,7 @@ use Rattle.terms.specs.Keeps.{blank-count, Means, TermFits, Added, KeepsRows, R
 use Rattle.terms.specs.Code.{next-entry, next-counts}
 use Rattle.terms.proofs.Slices.{past-over-at}
 use Rattle.terms.proofs.Growth.{five-words}
-use Rattle.index.specs.Holds.{Holds}
+use Rattle.term_tree.specs.Holds.{Holds}
 use Rattle.machine.specs.Memory.{Memory, new-term, row}
 use Rattle.machine.specs.Demand.{Fits}
 use Rattle.state.specs.Words.{rows-word, terms-word, used-word, blanks-word, graph-word, counts-of, kind-word}

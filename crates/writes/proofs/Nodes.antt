@@ -8,11 +8,11 @@ use lib.ListN.{length, take, drop, set}
 use lib.Dec.{eqb}
 use Rattle.text.specs.Text.{Text, cond}
 use Rattle.text.proofs.Compare.{by, contrary}
-use Rattle.scope.specs.Code.{cell}
-use Rattle.scope.proofs.Cells.{front-cell, most-small}
+use Rattle.environment.specs.Code.{cell}
+use Rattle.environment.proofs.Cells.{front-cell, most-small}
 use Rattle.machine.proofs.Extends.{adds-new-term, adds-term}
 use Rattle.limits.specs.Limits.{work-size}
-use Rattle.form.specs.Form.{undo, joined}
+use Rattle.spelling.specs.Form.{undo, joined}
 use Rattle.dataset.specs.Terms.{iri, blank, literal, tagged, label, bracket}
 use Rattle.machine.specs.Memory.{Write, return, _>>=_, term, new-term, typed}
 use Rattle.machine.specs.Frame.{Place, element-of, Cells, no-cell, cells}

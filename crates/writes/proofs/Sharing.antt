@@ -6,12 +6,12 @@ use Prim.Native.Nat.{ℕ, _+_, _-_, _*_, _/_, _≤_, _<_}
 use native.Mathlib.Omega.{arith}
 use lib.ListN.{length, getD, take, drop, set, length-set}
 use lib.Seq.{getD-set-same, getD-set-other}
-use Rattle.scope.specs.Code.{words-size}
-use Rattle.index.specs.Keys.{type-of}
-use Rattle.index.specs.Tree.{Links, Vacant}
+use Rattle.environment.specs.Code.{words-size}
+use Rattle.term_tree.specs.Keys.{type-of}
+use Rattle.term_tree.specs.Tree.{Links, Vacant}
 use Rattle.text.specs.Text.{Text}
 use Rattle.limits.specs.Limits.{work-size}
-use Rattle.scope.proofs.Directives.{whole}
+use Rattle.environment.proofs.Directives.{whole}
 use Rattle.dataset.specs.Terms.{Term, Blank, label, iri, blank, literal, tagged}
 use Rattle.table.specs.Tables.{number, or-zero}
 use Rattle.table.proofs.Finding.{number-last, number-within, zero-none, positive-some}
@@ -22,8 +22,8 @@ use Rattle.terms.specs.Code.{Readable, next-entry}
 use Rattle.text.proofs.Over.{over-at-length}
 use Rattle.table.specs.Layout.{entry-words}
 use Rattle.terms.proofs.Kept.{bytes-room}
-use Rattle.index.specs.Holds.{Finds, Numbers, Searchable}
-use Rattle.index.proofs.Indexes.{searchable, holds-blank, holds-added, end-part}
+use Rattle.term_tree.specs.Holds.{Finds, Numbers, Searchable}
+use Rattle.term_tree.proofs.Indexes.{searchable, holds-blank, holds-added, end-part}
 use Rattle.machine.specs.Memory.{Memory, Write, term, term-by, new-term, typed}
 use Rattle.machine.specs.Demand.{Fits}
 use Rattle.machine.proofs.Extends.{adds-term}

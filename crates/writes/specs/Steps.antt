@@ -6,14 +6,14 @@ use Prim.Native.Nat.{ℕ, _≤_, _<_}
 use lib.ListN.{length, getD, take, drop}
 use Rattle.text.specs.Text.{Text}
 use Rattle.limits.specs.Limits.{work-size}
-use Rattle.form.specs.Form.{bad}
-use Rattle.form.specs.declared.Form.{Form}
+use Rattle.spelling.specs.Form.{bad}
+use Rattle.spelling.specs.declared.Form.{Form}
 use Rattle.dataset.specs.Terms.{Blank, Term, blank}
 use Rattle.table.specs.Tables.{label-of}
 use Rattle.terms.specs.declared.Counts.{Counts}
 use Rattle.terms.specs.declared.Sort.{Sort}
 use Rattle.terms.specs.Keeps.{findable, Typed, Means, Added}
-use Rattle.index.specs.Tree.{Links}
+use Rattle.term_tree.specs.Tree.{Links}
 use Rattle.machine.specs.Memory.{Memory, Write, done, term, new-term, row}
 use Rattle.state.specs.Words.{rows-word, terms-word, node-word, counts-of}
 use Rattle.machine.specs.Rules.{hold, new-cell}

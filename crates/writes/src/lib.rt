@@ -6,12 +6,12 @@ ghost use mathlib.Core.List.{List};
 ghost use Prim.Native.Nat.{ℕ, _+_, _-_, _<_};
 ghost use lib.ListN.{length, getD, take, drop};
 ghost use Rattle.text.specs.Text.{cond};
-ghost use Rattle.scope.specs.Code.{words-size, Usable};
-ghost use Rattle.form.specs.Form.{undo, bad, joined};
+ghost use Rattle.environment.specs.Code.{words-size, Usable};
+ghost use Rattle.spelling.specs.Form.{undo, bad, joined};
 ghost use Rattle.dataset.specs.Terms.{iri, blank, label, tagged, rdf-first, rdf-rest, rdf-nil};
 ghost use Rattle.limits.specs.Limits.{work-size};
 ghost use Rattle.terms.specs.Keeps.{TermFits};
-ghost use Rattle.index.specs.Tree.{InSlots};
+ghost use Rattle.term_tree.specs.Tree.{InSlots};
 ghost use Rattle.machine.specs.Memory.{done, term, typed};
 ghost use Rattle.machine.specs.Frame.{no-cell, cells};
 ghost use Rattle.machine.specs.Rules.{hold, new-cell, end-list};
@@ -20,9 +20,9 @@ ghost use Rattle.state.specs.Represents.{lent-tables, Wrote};
 ghost use Rattle.state.specs.Writes.{place-of, cells-of, node-write, placed, opened-at, closed, SpotFits, NodeFits};
 ghost use Rattle.writes.specs.Ready.{Ready, Writes, put-at};
 ghost use Rattle.writes.specs.Steps.{CountsSet, Number, Part, ShareReady, Shares, TermAdded, TermReady, TermWrites, FreshReady, FreshWrites, RowReady, RowWrites, NumberWrites, HoldReady, PutReady, Below};
-use form::Form;
+use environment::Layout;
 use limits::Limits;
-use scope::Layout;
+use spelling::Form;
 use state::Node;
 use state::Spot;
 use state::Words;
@@ -64,7 +64,7 @@ fn add(
     let c = state::counts(st);
     let count = c.terms;
     let d = terms::add(terms, store, c, sort, &work[start..end], form, back, tag);
-    index::enter(work, count, slot);
+    term_tree::enter(work, count, slot);
     set_counts(st, d);
     count + 1
 }
@@ -87,7 +87,7 @@ fn share(
 {
     let n = Limits::work_size();
     let c = state::counts(st);
-    let found = index::find(
+    let found = term_tree::find(
         &work[n..],
         &terms[0..],
         &store[0..],
@@ -145,7 +145,7 @@ fn share_iri(
     let word = Words::KEPT + kept_at(start, back);
     let kept = st[word];
     let count = st[Words::TERMS];
-    if index::is_number(
+    if term_tree::is_number(
         kept,
         &terms[0..],
         &store[0..],

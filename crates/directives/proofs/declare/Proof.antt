@@ -4,7 +4,7 @@ use Rattle.directives.proofs.declare.Statement.{statement}
 use Rattle.directives.proofs.declare.Tie as tie
 use Rattle.directives.proofs.declare.Reads as reads
 use Rattle.directives.proofs.declare.Lts as lts
-use Rattle.address.proofs.declare_namespace.Reads as declare-namespace-reads
+use Rattle.token_iri.proofs.declare_namespace.Reads as declare-namespace-reads
 
 -- src/lib.rt:75:14
 element-copy-out-at : tie.Need-element-copy-out-at

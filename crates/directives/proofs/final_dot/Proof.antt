@@ -6,7 +6,7 @@ use Rattle.directives.proofs.final_dot.Tie as tie
 use Rattle.directives.proofs.final_dot.Reads as reads
 use Rattle.directives.proofs.final_dot.Lts as lts
 use Rattle.nodes.proofs.pass.Reads as pass-reads
-use Rattle.reading.proofs.unexpected.Reads as unexpected-reads
+use Rattle.simulation.proofs.unexpected.Reads as unexpected-reads
 
 -- src/lib.rt:23:8
 element-copy-out-if1 : tie.Need-element-copy-out-if1

@@ -4,7 +4,7 @@ use Rattle.directives.proofs.prefix_length.Statement.{statement}
 use Rattle.directives.proofs.prefix_length.Tie as tie
 use Rattle.directives.proofs.prefix_length.Reads as reads
 use Rattle.directives.proofs.prefix_length.Lts as lts
-use Rattle.address.proofs.colon.Reads as colon-reads
+use Rattle.token_iri.proofs.colon.Reads as colon-reads
 
 -- src/lib.rt:111:14
 element-copy-out-at : tie.Need-element-copy-out-at

@@ -9,7 +9,7 @@ use Rattle.directives.proofs.prefix_part.Lts as lts
 use Rattle.directives.proofs.namespace_part.Reads as namespace-part-reads
 use Rattle.directives.proofs.prefix_length.Reads as prefix-length-reads
 use Rattle.nodes.proofs.pass.Reads as pass-reads
-use Rattle.reading.proofs.unexpected.Reads as unexpected-reads
+use Rattle.simulation.proofs.unexpected.Reads as unexpected-reads
 
 -- src/lib.rt:126:8
 element-copy-out-if1 : tie.Need-element-copy-out-if1

@@ -4,7 +4,7 @@ use Rattle.directives.proofs.set_base.Statement.{statement}
 use Rattle.directives.proofs.set_base.Tie as tie
 use Rattle.directives.proofs.set_base.Reads as reads
 use Rattle.directives.proofs.set_base.Lts as lts
-use Rattle.address.proofs.declare_base.Reads as declare-base-reads
+use Rattle.token_iri.proofs.declare_base.Reads as declare-base-reads
 
 -- src/lib.rt:35:14
 element-copy-out-at : tie.Need-element-copy-out-at

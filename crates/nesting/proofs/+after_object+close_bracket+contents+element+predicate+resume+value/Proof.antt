@@ -3,7 +3,7 @@ use native.Mathlib.Omega.{arith}
 use borrow.Author.Needs.{needs}
 use Rattle.state.specs.Words.{at-word, kind-word}
 use Rattle.machine.specs.Frame.{bracket-end}
-use Rattle.reading.proofs.Numbers.{next-small}
+use Rattle.simulation.proofs.Numbers.{next-small}
 use Rattle.nesting.proofs.Aiming.{ready-words, unexpected-call, pass-call, leave-call, negated, affirmed}
 use Rattle.nesting.proofs.Levels.{mark-call, mark-before, some-level}
 use Rattle.nesting.proofs.OfBrackets.{closing-none, left-call, closing-resumes, contents-end, contents-call, contents-predicate}
@@ -38,9 +38,9 @@ use Rattle.nesting.proofs.+after_object+close_bracket+contents+element+
 use Rattle.nesting.proofs.value.Reads as value
 use Rattle.nesting.proofs.value.Kinds as value-kinds
 use Rattle.nesting.proofs.+after_object+close_bracket+contents+element+predicate+resume+value.Lts-value as value-lts
-use Rattle.leaves.proofs.close_list.Reads as close-list-reads
-use Rattle.leaves.proofs.put_bracket.Reads as put-bracket-reads
-use Rattle.leaves.proofs.put_paren.Reads as put-paren-reads
+use Rattle.simple_terms.proofs.close_list.Reads as close-list-reads
+use Rattle.simple_terms.proofs.put_bracket.Reads as put-bracket-reads
+use Rattle.simple_terms.proofs.put_paren.Reads as put-paren-reads
 use Rattle.nesting.proofs.enter_list.Reads as enter-list-reads
 use Rattle.nesting.proofs.is_leaf.Reads as is-leaf-reads
 use Rattle.nesting.proofs.leaf.Reads as leaf-reads
@@ -52,7 +52,7 @@ use Rattle.nodes.proofs.aim.Reads as aim-reads
 use Rattle.nodes.proofs.is_verb.Reads as is-verb-reads
 use Rattle.nodes.proofs.leave.Reads as leave-reads
 use Rattle.nodes.proofs.pass.Reads as pass-reads
-use Rattle.reading.proofs.unexpected.Reads as unexpected-reads
+use Rattle.simulation.proofs.unexpected.Reads as unexpected-reads
 use Rattle.nesting.proofs.+after_object+close_bracket+contents+element+predicate+resume+value.{
   statement,
 }

@@ -3,7 +3,7 @@ use native.Mathlib.Omega.{arith}
 use borrow.Author.Needs.{needs}
 use lib.ListN.{length, getD}
 use Rattle.state.specs.Words.{at-word}
-use Rattle.reading.specs.Reading.{held}
+use Rattle.simulation.specs.Simulation.{held}
 use Rattle.nesting.proofs.OfElements.{ElementsInv, elements-start, elements-small, elements-call, elements-close-call, elements-close, elements-stop, elements-again, elements-less}
 use Rattle.nesting.proofs.Aiming.{ready-words}
 use Rattle.nesting.proofs.elements.Statement.{statement}
@@ -12,7 +12,7 @@ use Rattle.nesting.proofs.elements.Reads as reads
 use Rattle.nesting.proofs.elements.Lts as lts
 use Rattle.nesting.proofs.node.Reads as node-reads
 use Rattle.nodes.proofs.aim.Reads as aim-reads
-use Rattle.leaves.proofs.close_list.Reads as close-list-reads
+use Rattle.simple_terms.proofs.close_list.Reads as close-list-reads
 
 abbrev Inv-loop : tie.InvT-loop
 Inv-loop doc work₀ rows₀ terms₀ store₀ st₀ x y opened last₀ work rows terms store st last = ElementsInv (doc .now) (held work₀ rows₀ terms₀ store₀ st₀) (held work rows terms store st) x y opened last

@@ -5,8 +5,8 @@ use Rattle.nesting.proofs.leaf.Statement.{statement}
 use Rattle.nesting.proofs.leaf.Tie as tie
 use Rattle.nesting.proofs.leaf.Reads as reads
 use Rattle.nesting.proofs.leaf.Lts as lts
-use Rattle.leaves.proofs.put_term.Reads as put-term-reads
-use Rattle.literals.proofs.put_string.Reads as put-string-reads
+use Rattle.simple_terms.proofs.put_term.Reads as put-term-reads
+use Rattle.rdf_literals.proofs.put_string.Reads as put-string-reads
 use Rattle.nodes.proofs.is_string.Reads as is-string-reads
 
 -- src/lib.rt:47:25

@@ -3,7 +3,7 @@ use native.Mathlib.Omega.{arith}
 use borrow.Author.Needs.{needs}
 use lib.ListN.{length, getD}
 use Rattle.state.specs.Words.{at-word}
-use Rattle.reading.specs.Reading.{held}
+use Rattle.simulation.specs.Simulation.{held}
 use Rattle.nesting.proofs.OfObjects.{ObjectsInv, objects-start, objects-ready, objects-stop, objects-end, objects-again, objects-less, objects-more-ready}
 use Rattle.nesting.proofs.Aiming.{ready-words, pass-call}
 use Rattle.nesting.proofs.objects.Statement.{statement}

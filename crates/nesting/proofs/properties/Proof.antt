@@ -3,7 +3,7 @@ use Prim.Native.Nat.{_-_}
 use borrow.Author.Needs.{needs}
 use lib.ListN.{length, getD}
 use Rattle.state.specs.Words.{at-word}
-use Rattle.reading.specs.Reading.{held}
+use Rattle.simulation.specs.Simulation.{held}
 use Rattle.nesting.proofs.OfProperties.{PropertiesInv, properties-start, properties-stop, objects-call, properties-stop-2, properties-end, skips-call, properties-end-2, properties-again, properties-less}
 use Rattle.nesting.proofs.OfVerbs.{verb-call}
 use Rattle.nesting.proofs.Aiming.{ready-words, negated, affirmed}

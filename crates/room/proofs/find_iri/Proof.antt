@@ -1,10 +1,10 @@
 use lib.ListN.{take, drop}
 use Prim.Native.Nat.{_-_}
-use Rattle.form.specs.Form.{joined}
+use Rattle.spelling.specs.Form.{joined}
 use Rattle.dataset.specs.Terms.{iri}
 use mathlib.Core.Path.{refl}
 use Rattle.terms.specs.Keeps.{Means}
-use Rattle.index.proofs.Indexes.{searchable}
+use Rattle.term_tree.proofs.Indexes.{searchable}
 use borrow.Author.Needs.{needs}
 use Rattle.room.proofs.find_iri.Statement.{statement}
 use Rattle.room.proofs.find_iri.Tie as tie

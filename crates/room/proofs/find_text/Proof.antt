@@ -1,6 +1,6 @@
-use Rattle.form.specs.Form.{joined}
+use Rattle.spelling.specs.Form.{joined}
 use Rattle.limits.specs.Limits.{work-size}
-use Rattle.index.proofs.Indexes.{searchable, end-part}
+use Rattle.term_tree.proofs.Indexes.{searchable, end-part}
 use borrow.Author.Needs.{needs}
 use Rattle.room.proofs.find_text.Statement.{statement}
 use Rattle.room.proofs.find_text.Tie as tie

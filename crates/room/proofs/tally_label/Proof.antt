@@ -1,6 +1,6 @@
 use mathlib.Core.List.{[]}
 use lib.ListN.{length, length-append}
-use Rattle.form.specs.Form.{undo}
+use Rattle.spelling.specs.Form.{undo}
 use Rattle.terms.specs.Keeps.{Means}
 use Rattle.dataset.specs.Terms.{blank, label}
 use mathlib.Core.Path.{refl, sym, _∙_}

@@ -1,6 +1,6 @@
 use Prim.Native.Nat.{_+_}
 use lib.ListN.{length, length-append}
-use Rattle.form.specs.Form.{undo}
+use Rattle.spelling.specs.Form.{undo}
 use Rattle.terms.specs.Keeps.{Means}
 use Rattle.dataset.specs.Terms.{tagged}
 use mathlib.Core.Path.{refl}

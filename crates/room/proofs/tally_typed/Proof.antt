@@ -1,4 +1,4 @@
-use Rattle.form.specs.Form.{undo}
+use Rattle.spelling.specs.Form.{undo}
 use Rattle.dataset.specs.Terms.{literal}
 use mathlib.Core.Path.{ap, _∙_}
 use Rattle.state.specs.Writes.{node-iri}

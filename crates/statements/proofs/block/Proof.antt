@@ -2,7 +2,7 @@ use Prim.Native.Nat.{_-_}
 use lib.ListN.{length, getD}
 use borrow.Author.Needs.{needs}
 use Rattle.state.specs.Words.{at-word}
-use Rattle.reading.specs.Reading.{held}
+use Rattle.simulation.specs.Simulation.{held}
 use Rattle.nesting.proofs.Aiming.{ready-words, unexpected-call}
 use Rattle.statements.proofs.OfMarks.{mark-call, dot-mark, close-mark}
 use Rattle.statements.proofs.OfBlocks.{BlockInv, block-start, block-close, block-stop, block-subject, block-behind-stop, block-behind-ready, block-unexpected, block-end, block-again, block-less}
@@ -12,7 +12,7 @@ use Rattle.statements.proofs.block.Reads as reads
 use Rattle.statements.proofs.block.Lts as lts
 use Rattle.nodes.proofs.enter.Reads as enter-reads
 use Rattle.nodes.proofs.pass.Reads as pass-reads
-use Rattle.reading.proofs.unexpected.Reads as unexpected-reads
+use Rattle.simulation.proofs.unexpected.Reads as unexpected-reads
 use Rattle.subjects.proofs.predicates.Reads as predicates-reads
 use Rattle.subjects.proofs.subject.Reads as subject-reads
 

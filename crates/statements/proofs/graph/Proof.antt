@@ -7,7 +7,7 @@ use Rattle.statements.proofs.graph.Tie as tie
 use Rattle.statements.proofs.graph.Reads as reads
 use Rattle.statements.proofs.graph.Lts as lts
 use Rattle.nodes.proofs.enter.Reads as enter-reads
-use Rattle.reading.proofs.unexpected.Reads as unexpected-reads
+use Rattle.simulation.proofs.unexpected.Reads as unexpected-reads
 use Rattle.statements.proofs.block.Reads as block-reads
 
 -- src/lib.rt:152:8

@@ -9,9 +9,9 @@ use Rattle.statements.proofs.named_graph.Lts as lts
 use Rattle.nodes.proofs.aim.Reads as aim-reads
 use Rattle.nodes.proofs.leave.Reads as leave-reads
 use Rattle.nodes.proofs.pass.Reads as pass-reads
-use Rattle.reading.proofs.unexpected.Reads as unexpected-reads
+use Rattle.simulation.proofs.unexpected.Reads as unexpected-reads
 use Rattle.statements.proofs.graph.Reads as graph-reads
-use Rattle.leaves.proofs.put_bracket.Reads as put-bracket-reads
+use Rattle.simple_terms.proofs.put_bracket.Reads as put-bracket-reads
 use Rattle.nesting.proofs.leaf.Reads as leaf-reads
 use Rattle.subjects.proofs.is_label.Reads as is-label-reads
 

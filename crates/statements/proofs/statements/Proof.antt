@@ -2,7 +2,7 @@ use Prim.Native.Nat.{_-_}
 use lib.ListN.{length, getD}
 use borrow.Author.Needs.{needs}
 use Rattle.state.specs.Words.{at-word}
-use Rattle.reading.specs.Reading.{held}
+use Rattle.simulation.specs.Simulation.{held}
 use Rattle.machine.specs.Read.{mode-of}
 use Rattle.statements.proofs.OfDocuments.{SomeInv, some-start, some-end, some-stop, some-again, some-less}
 use Rattle.statements.proofs.statements.Statement.{statement}

@@ -7,7 +7,7 @@ use Rattle.statements.proofs.triples.Tie as tie
 use Rattle.statements.proofs.triples.Reads as reads
 use Rattle.statements.proofs.triples.Lts as lts
 use Rattle.nodes.proofs.pass.Reads as pass-reads
-use Rattle.reading.proofs.unexpected.Reads as unexpected-reads
+use Rattle.simulation.proofs.unexpected.Reads as unexpected-reads
 use Rattle.statements.proofs.graph.Reads as graph-reads
 use Rattle.statements.proofs.is_graph_label.Reads as is-graph-label-reads
 use Rattle.subjects.proofs.predicates.Reads as predicates-reads

@@ -1,6 +1,6 @@
 use mathlib.Core.Path.{refl, sym, _∙_}
 use native.Mathlib.Omega.{arith}
-use Rattle.reading.specs.Reading.{held}
+use Rattle.simulation.specs.Simulation.{held}
 use Rattle.nesting.proofs.Aiming.{ready-words, unexpected-call, leave-call, negated, affirmed}
 use Rattle.subjects.proofs.OfTerms.{term-asked, term-stop, term-ready, term-done, subject-none}
 use Rattle.subjects.proofs.OfBrackets.{bracket-asked, bracket-refused, bracket-opened, bracket-deep, bracket-empty, bracket-unexpected, properties-refused, properties-ready, properties-unexpected, properties-closed}
@@ -14,9 +14,9 @@ use Rattle.subjects.proofs.bracket_subject.Lts as lts
 use Rattle.nodes.proofs.aim.Reads as aim-reads
 use Rattle.nodes.proofs.is_verb.Reads as is-verb-reads
 use Rattle.nodes.proofs.leave.Reads as leave-reads
-use Rattle.reading.proofs.unexpected.Reads as unexpected-reads
+use Rattle.simulation.proofs.unexpected.Reads as unexpected-reads
 use Rattle.nesting.proofs.properties.Reads as properties-reads
-use Rattle.leaves.proofs.put_bracket.Reads as put-bracket-reads
+use Rattle.simple_terms.proofs.put_bracket.Reads as put-bracket-reads
 
 -- src/lib.rt:137:5
 aim-requires : tie.Need-aim-requires

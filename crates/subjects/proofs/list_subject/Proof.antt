@@ -1,6 +1,6 @@
 use mathlib.Core.Path.{refl, sym, _∙_}
 use native.Mathlib.Omega.{arith}
-use Rattle.reading.specs.Reading.{held}
+use Rattle.simulation.specs.Simulation.{held}
 use Rattle.nesting.proofs.Aiming.{ready-words, unexpected-call, leave-call, negated, affirmed}
 use Rattle.subjects.proofs.OfTerms.{term-asked, term-stop, term-ready, term-done, subject-none}
 use Rattle.subjects.proofs.OfBrackets.{bracket-asked, bracket-refused, bracket-opened, bracket-deep, bracket-empty, bracket-unexpected, properties-refused, properties-ready, properties-unexpected, properties-closed}
@@ -13,7 +13,7 @@ use Rattle.subjects.proofs.list_subject.Reads as reads
 use Rattle.subjects.proofs.list_subject.Lts as lts
 use Rattle.nodes.proofs.aim.Reads as aim-reads
 use Rattle.nesting.proofs.elements.Reads as elements-reads
-use Rattle.leaves.proofs.put_paren.Reads as put-paren-reads
+use Rattle.simple_terms.proofs.put_paren.Reads as put-paren-reads
 
 -- src/lib.rt:175:14
 element-copy-out-at : tie.Need-element-copy-out-at

@@ -1,6 +1,6 @@
 use mathlib.Core.Path.{refl, sym, _∙_}
 use native.Mathlib.Omega.{arith}
-use Rattle.reading.specs.Reading.{held}
+use Rattle.simulation.specs.Simulation.{held}
 use Rattle.nesting.proofs.Aiming.{ready-words, unexpected-call, leave-call, negated, affirmed}
 use Rattle.subjects.proofs.OfTerms.{term-asked, term-stop, term-ready, term-done, subject-none}
 use Rattle.subjects.proofs.OfBrackets.{bracket-asked, bracket-refused, bracket-opened, bracket-deep, bracket-empty, bracket-unexpected, properties-refused, properties-ready, properties-unexpected, properties-closed}
@@ -11,7 +11,7 @@ use Rattle.subjects.proofs.subject.Statement.{statement}
 use Rattle.subjects.proofs.subject.Tie as tie
 use Rattle.subjects.proofs.subject.Reads as reads
 use Rattle.subjects.proofs.subject.Lts as lts
-use Rattle.reading.proofs.unexpected.Reads as unexpected-reads
+use Rattle.simulation.proofs.unexpected.Reads as unexpected-reads
 use Rattle.subjects.proofs.bracket_subject.Reads as bracket-subject-reads
 use Rattle.subjects.proofs.is_label.Reads as is-label-reads
 use Rattle.subjects.proofs.list_subject.Reads as list-subject-reads

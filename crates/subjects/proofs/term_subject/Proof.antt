@@ -1,6 +1,6 @@
 use mathlib.Core.Path.{refl, sym, _∙_}
 use native.Mathlib.Omega.{arith}
-use Rattle.reading.specs.Reading.{held}
+use Rattle.simulation.specs.Simulation.{held}
 use Rattle.nesting.proofs.Aiming.{ready-words, unexpected-call, leave-call, negated, affirmed}
 use Rattle.subjects.proofs.OfTerms.{term-asked, term-stop, term-ready, term-done, subject-none}
 use Rattle.subjects.proofs.OfBrackets.{bracket-asked, bracket-refused, bracket-opened, bracket-deep, bracket-empty, bracket-unexpected, properties-refused, properties-ready, properties-unexpected, properties-closed}

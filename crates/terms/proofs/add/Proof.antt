@@ -1,5 +1,5 @@
 use Rattle.terms.proofs.Growth.{added}
-use Rattle.form.specs.Form.{joined}
+use Rattle.spelling.specs.Form.{joined}
 use borrow.Author.Needs.{needs}
 use Rattle.terms.proofs.add.Statement.{statement}
 use Rattle.terms.proofs.add.Tie as tie

@@ -2,7 +2,7 @@
 use Prim.Native.Nat.{suc, _≤_, _-_}
 use mathlib.Core.Path.{_≡_, refl, sym, _∙_}
 use native.Mathlib.Omega.{arith}
-use Rattle.form.specs.Form.{joined}
+use Rattle.spelling.specs.Form.{joined}
 use Rattle.table.specs.Layout.{entry-at}
 use Rattle.terms.specs.Code.{matches, first}
 use Rattle.terms.proofs.Tests.{first-here, first-further, first-none}

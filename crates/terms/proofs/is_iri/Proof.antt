@@ -3,8 +3,8 @@ use mathlib.Core.Path.{sym, _∙_}
 use mathlib.Core.List.{[]}
 use native.Mathlib.Omega.{arith}
 use Rattle.table.specs.Layout.{entry-at}
-use Rattle.form.specs.Form.{joined}
-use Rattle.form.specs.declared.Form.the-variants.{Plain}
+use Rattle.spelling.specs.Form.{joined}
+use Rattle.spelling.specs.declared.Form.the-variants.{Plain}
 use Rattle.terms.specs.Keeps.{iri-sort}
 use Rattle.terms.proofs.Tests.{other-kind, text-alone}
 use borrow.Author.Needs.{needs}

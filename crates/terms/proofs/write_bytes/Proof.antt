@@ -1,7 +1,7 @@
 use mathlib.Core.Path.{_∙_}
 use native.Mathlib.Omega.{arith}
 use Rattle.terms.proofs.Slices.{part-over, over-behind}
-use Rattle.form.specs.Form.{joined}
+use Rattle.spelling.specs.Form.{joined}
 use borrow.Author.Needs.{needs}
 use Rattle.terms.proofs.write_bytes.Statement.{statement}
 use Rattle.terms.proofs.write_bytes.Tie as tie

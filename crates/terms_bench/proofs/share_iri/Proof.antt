@@ -1,9 +1,9 @@
 use mathlib.Core.Path.{refl}
 use native.Mathlib.Omega.{arith}
 use Rattle.limits.specs.Limits.{work-size}
-use Rattle.form.specs.Form.{joined, undo, bad}
-use Rattle.scope.proofs.Directives.{whole}
-use Rattle.index.proofs.Indexes.{end-part}
+use Rattle.spelling.specs.Form.{joined, undo, bad}
+use Rattle.environment.proofs.Directives.{whole}
+use Rattle.term_tree.proofs.Indexes.{end-part}
 use borrow.Author.Needs.{needs}
 use Rattle.terms_bench.proofs.share_iri.Statement.{statement}
 use Rattle.terms_bench.proofs.share_iri.Tie as tie

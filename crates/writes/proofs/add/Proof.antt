@@ -1,6 +1,6 @@
 use Prim.Native.Nat.{_-_, _+_}
 use lib.ListN.{take, drop}
-use Rattle.form.specs.Form.{joined}
+use Rattle.spelling.specs.Form.{joined}
 use Rattle.writes.proofs.Sharing.{term-added}
 use native.Mathlib.Omega.{arith}
 use Rattle.terms.specs.declared.Counts.{Counts}

@@ -1,11 +1,11 @@
 use Rattle.limits.specs.Limits.{work-size}
-use Rattle.index.proofs.Indexes.{end-part}
+use Rattle.term_tree.proofs.Indexes.{end-part}
 use mathlib.Core.List.{[]}
 use Rattle.state.specs.Words.{counts-of}
 use native.Mathlib.Omega.{arith}
 use Prim.Native.Nat.{_-_}
 use lib.ListN.{take, drop}
-use Rattle.form.specs.Form.{joined}
+use Rattle.spelling.specs.Form.{joined}
 use Rattle.writes.proofs.Sharing.{finds-whole, searchable-whole, ready-searchable, shares-found, number-found, room-absent, shares-added, number-added}
 use borrow.Author.Needs.{needs}
 use Rattle.writes.proofs.share.Statement.{statement}

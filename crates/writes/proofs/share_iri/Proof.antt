@@ -6,7 +6,7 @@ use Rattle.dataset.specs.Terms.{iri}
 use native.Mathlib.Omega.{arith}
 use Prim.Native.Nat.{_+_, _-_}
 use lib.ListN.{take, drop}
-use Rattle.form.specs.Form.{joined}
+use Rattle.spelling.specs.Form.{joined}
 use Rattle.state.specs.Words.{kept-word}
 use Rattle.writes.proofs.Sharing.{readable-whole, numbers-whole, ready-searchable, share-ready, share-writes, shares-kept, writes-kept, iri-asked}
 use borrow.Author.Needs.{needs}

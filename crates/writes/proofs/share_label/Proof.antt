@@ -3,7 +3,7 @@ use Rattle.terms.specs.Keeps.{blank-sort}
 use mathlib.Core.List.{[]}
 use Rattle.dataset.specs.Terms.{blank, label}
 use native.Mathlib.Omega.{arith}
-use Rattle.form.specs.Form.{joined, undo, bad}
+use Rattle.spelling.specs.Form.{joined, undo, bad}
 use Rattle.writes.proofs.Sharing.{share-ready, share-writes, label-asked}
 use borrow.Author.Needs.{needs}
 use Rattle.writes.proofs.share_label.Statement.{statement}

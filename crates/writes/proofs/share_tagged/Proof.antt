@@ -1,6 +1,6 @@
 use Rattle.dataset.specs.Terms.{tagged}
 use native.Mathlib.Omega.{arith}
-use Rattle.form.specs.Form.{joined, undo}
+use Rattle.spelling.specs.Form.{joined, undo}
 use Rattle.writes.proofs.Sharing.{share-ready, share-writes, tagged-sort, tagged-asked}
 use borrow.Author.Needs.{needs}
 use Rattle.writes.proofs.share_tagged.Statement.{statement}

@@ -2,7 +2,7 @@ use mathlib.Core.List.{[]}
 use Prim.Native.Nat.{_-_}
 use lib.ListN.{take, drop}
 use native.Mathlib.Omega.{arith}
-use Rattle.form.specs.Form.{joined, undo}
+use Rattle.spelling.specs.Form.{joined, undo}
 use Rattle.writes.proofs.Sharing.{datatype-ready, literal-ready, literal-writes}
 use borrow.Author.Needs.{needs}
 use Rattle.writes.proofs.share_typed.Statement.{statement}

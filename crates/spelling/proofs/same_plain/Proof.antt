@@ -1,0 +1,52 @@
+use mathlib.Core.Path.{sym, _∙_}
+use native.Mathlib.Omega.{arith}
+use lib.Seq.{length-take-le}
+use Rattle.spelling.specs.Form.{undo}
+use Rattle.spelling.specs.declared.Form.the-variants.{Plain}
+use Rattle.spelling.proofs.Forms.{joined-short, joined-not, joined-same}
+use borrow.Author.Needs.{needs}
+use Rattle.spelling.proofs.same_plain.Statement.{statement}
+use Rattle.spelling.proofs.same_plain.Tie as tie
+
+returns : tie.Need-returns
+returns c = joined-short (c .before .before .before .before .args .front .now) Plain (c .before .before .before .before .args .back .now) (c .before .before .before .before .args .t .now) (omega arith)
+
+sub-same : tie.Need-sub-same
+sub-same c = search needs
+
+part-same-start : tie.Need-part-same-start
+part-same-start c = search needs
+
+part-same-end : tie.Need-part-same-end
+part-same-end c = search needs
+
+same-requires : tie.Need-same-requires
+same-requires c κs = search needs
+
+slice-aggregate-same : tie.Need-slice-aggregate-same
+slice-aggregate-same c = sym (length-take-le _ (c .before .before .before .before .before .before .before .before .args .t .now) (omega arith))
+
+same-requires-2 : tie.Need-same-requires-2
+same-requires-2 c κs = search needs
+
+returns-2 : tie.Need-returns-2
+unfolding undo
+returns-2 c = joined-same (c .before .before .before .before .before .before .before .before .before .args .front .now) Plain (c .before .before .before .before .before .before .before .before .before .args .back .now) (c .before .before .before .before .before .before .before .before .before .args .t .now) _ (sym (c .before .before .before .same .ensures) ∙ c .before .before .if2 .taken) (c .same2 .ensures)
+
+returns-3 : tie.Need-returns-3
+unfolding undo
+returns-3 c = joined-not (c .before .before .before .before .before .before .before .args .front .now) Plain (c .before .before .before .before .before .before .before .args .back .now) (c .before .before .before .before .before .before .before .args .t .now) (sym (c .before .same .ensures) ∙ c .if2 .left)
+
+pub same-plain-spec : {M : Type 1} → statement M
+same-plain-spec =
+    tie.close
+    (tie.spec
+    returns
+    sub-same
+    part-same-start
+    part-same-end
+    same-requires
+    slice-aggregate-same
+    same-requires-2
+    returns-2
+    returns-3)

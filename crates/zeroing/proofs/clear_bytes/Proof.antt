@@ -1,0 +1,52 @@
+-- The invariant: the elements that were passed are zero.
+use Prim.Native.Nat.{_≤_, _-_}
+use mathlib.Core.Path.{_≡_}
+use native.Mathlib.Omega.{arith}
+use lib.ListN.{length, take, replicate}
+use Rattle.text.specs.Slice.{over}
+use Rattle.text.proofs.Over.{over-start}
+use Rattle.zeroing.proofs.Zeros.{cleared-next, cleared-size, cleared-whole}
+use borrow.Author.Needs.{needs}
+use Rattle.zeroing.proofs.clear_bytes.Statement.{statement}
+use Rattle.zeroing.proofs.clear_bytes.Tie as tie
+
+abbrev Inv-loop : tie.InvT-loop
+Inv-loop s₀ cleared₀ s cleared = (cleared ≤ length s₀) × (s ≡ over (take cleared (replicate (length s₀) 0)) s₀)
+
+abbrev μ-loop : tie.MeasureT-loop
+μ-loop s₀ cleared₀ s cleared = length s₀ - cleared
+
+loop-holds : tie.Need-loop-holds Inv-loop μ-loop
+loop-holds c = (omega arith, over-start (c .args .s .now))
+
+slice-write-s : tie.Need-slice-write-s Inv-loop μ-loop
+slice-write-s c = omega (arith, cleared-size (c .before .before .args .s .now) (c .before .loop .s) (c .before .loop .cleared) (c .before .loop .inv .1))
+
+add-cleared : tie.Need-add-cleared Inv-loop μ-loop
+add-cleared c = search needs
+
+loop-less : tie.Need-loop-less Inv-loop μ-loop
+loop-less c = omega (arith, cleared-size (c .before .before .args .s .now) (c .before .loop .s) (c .before .loop .cleared) (c .before .loop .inv .1))
+
+loop-again : tie.Need-loop-again Inv-loop μ-loop
+loop-again c = (omega (arith, cleared-size (c .before .before .args .s .now) (c .before .loop .s) (c .before .loop .cleared) (c .before .loop .inv .1)), cleared-next (c .before .before .args .s .now) (c .before .loop .s) (c .before .loop .cleared) (omega (arith, cleared-size (c .before .before .args .s .now) (c .before .loop .s) (c .before .loop .cleared) (c .before .loop .inv .1))) (c .before .loop .inv .1))
+
+same-length : tie.Need-same-length Inv-loop μ-loop
+same-length c = cleared-size (c .before .before .args .s .now) (c .before .loop .s) (c .before .loop .cleared) (c .before .loop .inv .1)
+
+returns : tie.Need-returns Inv-loop μ-loop
+returns c = cleared-whole (c .before .before .args .s .now) (c .before .loop .s) (c .before .loop .cleared) (omega (arith, cleared-size (c .before .before .args .s .now) (c .before .loop .s) (c .before .loop .cleared) (c .before .loop .inv .1))) (c .before .loop .inv .1)
+
+pub clear-bytes-spec : {M : Type 1} → statement M
+clear-bytes-spec =
+    tie.close
+    (tie.spec
+    Inv-loop
+    μ-loop
+    loop-holds
+    slice-write-s
+    add-cleared
+    loop-less
+    loop-again
+    same-length
+    returns)
