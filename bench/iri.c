@@ -1,22 +1,20 @@
-// Stack on a painted stack, and time, of the escape, IRI and scope routines. See bench/iri.sh.
+// Stack on a painted stack, and time, of the escape and IRI routines. See bench/iri.sh.
+#define _GNU_SOURCE
 #include <stdbool.h>
-#include <stdint.h>
 #include <stdio.h>
-#include <string.h>
 #include <time.h>
-#include <ucontext.h>
+
+#include "painted.h"
 
 bool bench_bad_escape(const uint8_t *, size_t);
 bool bench_same(const uint8_t *, size_t, const uint8_t *, size_t);
 size_t bench_write(const uint8_t *, size_t, uint8_t *, size_t);
 bool bench_scheme(const uint8_t *, size_t);
 size_t bench_resolve(const uint8_t *, size_t, uint8_t *, size_t, size_t);
-uint8_t bench_declare(uint8_t *, size_t, size_t *, const uint8_t *, size_t, const uint8_t *, size_t);
-size_t bench_look_up(const uint8_t *, size_t, const size_t *, const uint8_t *, size_t);
 
-enum { MEGABYTE = 1 << 20, IRI = 1024, WORK = 35840 };
-static uint8_t text[MEGABYTE], other[MEGABYTE], buffer[IRI], work[WORK], namespace[IRI], stack[65536];
-static size_t lens[66], result;
+enum { MEGABYTE = 1 << 20, IRI = 1024 };
+static uint8_t text[MEGABYTE], other[MEGABYTE], buffer[IRI];
+static size_t result;
 static const uint8_t base[] = "http://a/b/c/d;p?q";
 
 static void nothing(void) {}
@@ -29,29 +27,6 @@ static void resolve(void) {
     for (size_t i = 0; i < n; i++) buffer[IRI - n + i] = i & 1 ? '/' : '.';
     result = bench_resolve(base, sizeof base - 1, buffer, IRI, n);
 }
-static void declare(void) {
-    memset(lens, 0, sizeof lens);
-    uint8_t prefix[2] = {'p'};
-    for (int i = 0; i < 32; i++) {
-        prefix[1] = '0' + i;
-        result = bench_declare(work, WORK, lens, prefix, 2, namespace, IRI);
-    }
-}
-static void look_up(void) { result = bench_look_up(work, WORK, lens, (const uint8_t *)"pO", 2); }
-
-static size_t used(void (*f)(void)) {
-    static ucontext_t here, there;
-    memset(stack, 0xA5, sizeof stack);
-    getcontext(&there);
-    there.uc_stack.ss_sp = stack;
-    there.uc_stack.ss_size = sizeof stack;
-    there.uc_link = &here;
-    makecontext(&there, f, 0);
-    swapcontext(&here, &there);
-    size_t k = 0;
-    while (stack[k] == 0xA5) k++;
-    return sizeof stack - k;
-}
 
 static double seconds(void) {
     struct timespec t;
@@ -60,7 +35,7 @@ static double seconds(void) {
 }
 
 static void measure(const char *name, void (*f)(void), int times) {
-    size_t bytes = used(f) - used(nothing);
+    size_t bytes = stack_of(f) - stack_of(nothing);
     double start = seconds();
     for (int i = 0; i < times; i++) f();
     printf("%-20s %5zu bytes of stack, %9.2f us, result %zu\n", name, bytes, (seconds() - start) * 1e6 / times, result);
@@ -69,7 +44,6 @@ static void measure(const char *name, void (*f)(void), int times) {
 int main(void) {
     memset(text, 'a', MEGABYTE);
     memset(other, 'a', MEGABYTE);
-    memset(namespace, 'n', IRI);
     measure("bad escape, 1 MiB", bad_escape, 20);
     measure("same text, 1 MiB", same, 20);
     measure("write text, 1 MiB", write_text, 20);
@@ -79,7 +53,5 @@ int main(void) {
     for (size_t i = 0; i + 6 <= MEGABYTE; i += 6) memcpy(text + i, "\\u00E9", 6);
     measure("all escapes, 1 MiB", write_text, 20);
     measure("resolve ././. 1,011", resolve, 2000);
-    measure("declare 32", declare, 2000);
-    measure("look up the last", look_up, 20000);
     return 0;
 }

@@ -1,9 +1,9 @@
 // Times of cutting into tokens and of the UTF-8 check on a text, beside memchr on the same bytes; and the stack that cutting takes.
-#include <stdint.h>
+#define _GNU_SOURCE
 #include <stdio.h>
-#include <string.h>
 #include <time.h>
-#include <ucontext.h>
+
+#include "painted.h"
 
 extern size_t bench_tokens(const uint8_t *text, size_t length);
 extern size_t bench_utf8(const uint8_t *text, size_t length);
@@ -11,17 +11,16 @@ extern size_t bench_utf8(const uint8_t *text, size_t length);
 typedef size_t (*pass)(const uint8_t *, size_t);
 
 static uint8_t text[1 << 21];
-static uint8_t stack[1 << 16];
+static size_t length;
+static volatile size_t result;
 
 static size_t scan(const uint8_t *t, size_t n) {
     const uint8_t *hit = memchr(t, 0xFF, n);
     return hit ? (size_t)(hit - t) : n;
 }
 
-static size_t nothing(const uint8_t *t, size_t n) {
-    (void)t;
-    return n;
-}
+static void nothing(void) {}
+static void cut(void) { result = bench_tokens(text, length); }
 
 static double seconds(void) {
     struct timespec t;
@@ -42,29 +41,6 @@ static double time_of(pass f, size_t n, int runs, size_t *answer) {
     return best;
 }
 
-static ucontext_t outside, inside;
-static pass painted;
-static size_t painted_length;
-static volatile size_t painted_answer;
-
-static void enter(void) { painted_answer = painted(text, painted_length); }
-
-// How many bytes of a painted stack are no longer as they were.
-static size_t stack_of(pass f, size_t n) {
-    painted = f;
-    painted_length = n;
-    memset(stack, 0xA5, sizeof stack);
-    getcontext(&inside);
-    inside.uc_stack.ss_sp = stack;
-    inside.uc_stack.ss_size = sizeof stack;
-    inside.uc_link = &outside;
-    makecontext(&inside, enter, 0);
-    swapcontext(&outside, &inside);
-    size_t i = 0;
-    while (i < sizeof stack && stack[i] == 0xA5) i++;
-    return sizeof stack - i;
-}
-
 int main(int count, char **names) {
     for (int i = 1; i < count; i++) {
         FILE *file = fopen(names[i], "rb");
@@ -74,7 +50,8 @@ int main(int count, char **names) {
         double t = time_of(bench_tokens, n, 25, &tokens);
         double u = time_of(bench_utf8, n, 25, &valid);
         double m = time_of(scan, n, 25, &found);
-        size_t used = stack_of(bench_tokens, n) - stack_of(nothing, n);
+        length = n;
+        size_t used = stack_of(cut) - stack_of(nothing);
         const char *base = strrchr(names[i], '/');
         printf("%-16s %8zu bytes %8zu tokens  cutting %6.0f MB/s  UTF-8 %6.0f MB/s%s  memchr %6.0f MB/s  stack %zu\n", base ? base + 1 : names[i], n, tokens,
                n / t / 1e6, n / u / 1e6, valid == n ? "" : " (bad)", n / m / 1e6, used);

@@ -1,16 +1,10 @@
 // The high-water mark of a call on a painted stack: no nesting, 64 lists, 64 brackets, both in turn.
 #define _GNU_SOURCE
-#include <stdint.h>
 #include <stdio.h>
-#include <string.h>
-#include <ucontext.h>
 
+#include "painted.h"
 #include "sycamoot.h"
 
-enum { STACK = 1 << 20, PAINT = 0xA5 };
-
-static uint8_t stack[STACK] __attribute__((aligned(16)));
-static ucontext_t back, there;
 static uint8_t document[65536], work[SYCAMOOT_WORK_BYTES + 65536];
 static uint32_t rows[65536], terms[65536];
 static uint8_t store[1 << 20];
@@ -22,21 +16,6 @@ static void call(void)
     const char *base = "x://a/b/c/";
     answer = sycamoot_read(document, length, (const uint8_t *)base, strlen(base), SYCAMOOT_TRIG, work, sizeof work, rows,
                            sizeof rows / 4, terms, sizeof terms / 4, store, sizeof store);
-}
-
-static size_t high_water(void)
-{
-    memset(stack, PAINT, STACK);
-    getcontext(&there);
-    there.uc_stack.ss_sp = stack;
-    there.uc_stack.ss_size = STACK;
-    there.uc_link = &back;
-    makecontext(&there, call, 0);
-    swapcontext(&back, &there);
-    size_t i = 0;
-    while (i < STACK && stack[i] == PAINT)
-        i++;
-    return STACK - i;
 }
 
 // `depth` openings of a list (0), a bracket (1) or both in turn (2), around terms of every kind.
@@ -51,7 +30,7 @@ static size_t nested(int kind, int depth)
         p += sprintf(p, kind == 0 || (kind == 2 && i % 2) ? "<../../r%d> 'x'@en ) " : ", <../../r%d>, \"y\"^^<d> ] ", i);
     p += sprintf(p, " .");
     length = p - (char *)document;
-    return high_water();
+    return stack_of(call);
 }
 
 int main(void)

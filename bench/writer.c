@@ -1,10 +1,10 @@
 // Writes about 1 MB of long form from tables of four kinds: IRIs, plain literals, literals to be escaped, a mix with graphs.
-#include <stdint.h>
+#define _GNU_SOURCE
 #include <stdio.h>
 #include <stdlib.h>
-#include <string.h>
 #include <time.h>
-#include <ucontext.h>
+
+#include "painted.h"
 
 size_t bench_write(const uint32_t *rows, size_t row_words, uint32_t row_count, const uint32_t *terms, size_t term_words, uint32_t term_count,
                    const uint8_t *store, size_t store_size, uint32_t store_count, uint8_t *out, size_t out_size);
@@ -12,7 +12,7 @@ size_t bench_write(const uint32_t *rows, size_t row_words, uint32_t row_count, c
 enum { ROOM = 1 << 20, TERMS = 1 << 16, ROWS = 1 << 16, STORE = 1 << 22 };
 
 static uint32_t rows[5 * ROWS], terms[5 * TERMS], row_count, term_count, used;
-static uint8_t store[STORE], out[ROOM], stack[1 << 16];
+static uint8_t store[STORE], out[ROOM];
 
 static uint32_t add(uint32_t kind, const char *text, uint32_t fourth, uint32_t fifth) {
     uint32_t *t = terms + 5 * term_count++, size = strlen(text);
@@ -36,7 +36,7 @@ static void add_row(uint32_t graph, uint32_t subject, uint32_t predicate, uint32
 
 static size_t write_all(void) { return bench_write(rows, 5 * ROWS, row_count, terms, 5 * TERMS, term_count, store, STORE, used, out, ROOM); }
 
-static size_t nothing(void) { return 0; }
+static void nothing(void) {}
 
 // Rows of a kind until the long form is nearly as long as the output.
 static void fill(int kind) {
@@ -78,26 +78,8 @@ static double seconds(void) {
     return t.tv_sec + t.tv_nsec * 1e-9;
 }
 
-static ucontext_t outside, inside;
-static size_t (*painted)(void);
 static volatile size_t answer;
-
-static void enter(void) { answer = painted(); }
-
-// How many bytes of a painted stack are no longer as they were.
-static size_t stack_of(size_t (*f)(void)) {
-    painted = f;
-    memset(stack, 0xA5, sizeof stack);
-    getcontext(&inside);
-    inside.uc_stack.ss_sp = stack;
-    inside.uc_stack.ss_size = sizeof stack;
-    inside.uc_link = &outside;
-    makecontext(&inside, enter, 0);
-    swapcontext(&outside, &inside);
-    size_t i = 0;
-    while (i < sizeof stack && stack[i] == 0xA5) i++;
-    return sizeof stack - i;
-}
+static void write_once(void) { answer = write_all(); }
 
 int main(void) {
     const char *names[] = {"IRIs", "literals", "escapes", "mixed, in a graph"};
@@ -111,7 +93,7 @@ int main(void) {
             double took = seconds() - start;
             if (took < best) best = took;
         }
-        printf("%-18s %8zu bytes %6u rows %6.0f MB/s  stack %zu\n", names[kind], n, row_count, n / best / 1e6, stack_of(write_all) - stack_of(nothing));
+        printf("%-18s %8zu bytes %6u rows %6.0f MB/s  stack %zu\n", names[kind], n, row_count, n / best / 1e6, stack_of(write_once) - stack_of(nothing));
     }
     return 0;
 }

@@ -2,30 +2,12 @@
 //!
 //! Without the feature `library` the independent reader stands in, so that this package can be tried without the archive.
 
-#[repr(C)]
-#[derive(Clone, Copy, PartialEq, Eq, Debug)]
-pub struct Answer {
-    pub position: u64,
-    pub number: u32,
-    pub rows: u32,
-    pub terms: u32,
-    pub store: u32,
-}
+// What include/sycamoot.h declares is written down once.
+#[cfg_attr(not(feature = "library"), allow(dead_code))]
+#[path = "../../rust/src/library.rs"]
+mod interface;
 
-#[repr(C)]
-#[derive(Clone, Copy, PartialEq, Eq, Debug)]
-pub struct Text {
-    pub start: u64,
-    pub length: u64,
-    pub number: u32,
-}
-
-#[repr(C)]
-#[derive(Clone, Copy, PartialEq, Eq, Debug)]
-pub struct Written {
-    pub position: u64,
-    pub number: u32,
-}
+pub use interface::{Answer, Text, Written};
 
 #[cfg(feature = "library")]
 pub use compiled::{read, term_text, write};
@@ -34,51 +16,10 @@ pub use stand_in::{read, term_text, write};
 
 #[cfg(feature = "library")]
 mod compiled {
+    use super::interface::{sycamoot_read, sycamoot_term_text, sycamoot_write};
     use super::{Answer, Text, Written};
     use crate::reader::long_form::Given;
     use crate::reader::read::Lent;
-
-    extern "C" {
-        fn sycamoot_read(
-            document: *const u8,
-            document_length: usize,
-            base: *const u8,
-            base_length: usize,
-            mode: u32,
-            work: *mut u8,
-            work_length: usize,
-            rows: *mut u32,
-            row_words: usize,
-            terms: *mut u32,
-            term_words: usize,
-            store: *mut u8,
-            store_length: usize,
-        ) -> Answer;
-
-        fn sycamoot_term_text(
-            terms: *const u32,
-            term_words: usize,
-            term_count: u32,
-            store: *const u8,
-            store_length: usize,
-            store_count: u32,
-            term: u32,
-        ) -> Text;
-
-        fn sycamoot_write(
-            rows: *const u32,
-            row_words: usize,
-            row_count: u32,
-            terms: *const u32,
-            term_words: usize,
-            term_count: u32,
-            store: *const u8,
-            store_length: usize,
-            store_count: u32,
-            out: *mut u8,
-            out_length: usize,
-        ) -> Written;
-    }
 
     pub fn read(document: &[u8], base: &[u8], mode: u32, lent: Lent) -> Answer {
         // SAFETY: each pointer and length are one live slice's, and the lent slices are borrowed by this call alone.
