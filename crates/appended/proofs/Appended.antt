@@ -9,6 +9,7 @@ use Rattle.machine.specs.Read.{Lent, Answer, success, mode-of, read}
 use Rattle.machine.proofs.Demands.{zero-meets, meets-answer}
 use Rattle.machine.proofs.Extends.{Extends}
 use Rattle.machine.proofs.Joined.{joined-tables}
+use Rattle.table.specs.Usable.{for-long-form}
 use Rattle.readback.specs.ReadBack.{slices-after}
 use Rattle.readback.proofs.RoundTrip.{made, made-kept}
 use Rattle.appended.specs.Appended.{with-text-added, Begins}
@@ -30,4 +31,4 @@ appended doc more mode base lent lent′ e f rows rows′ terms terms′ store s
     (y .derivation .1 ∙ both-tokens doc more mode base lent x (more-utf8 doc more (y .utf8)) ∙ ap (λ (l : List Token). l ++ added doc more) (sym (x .derivation .1))) in
     subst (λ (a : Answer). Begins (slices-after a rows terms store) (slices-after (read whole mode base lent′) rows′ terms′ store′)) (sym (meets-answer doc mode base lent x))
     (subst (λ (a : Answer). Begins (slices-after (success (length doc) (made doc mode base lent x)) rows terms store) (slices-after a rows′ terms′ store′)) (sym (meets-answer whole mode base lent′ y))
-    (begins (length doc) (length whole) (made doc mode base lent x) (made whole mode base lent′ y) (made-kept doc mode base lent x .terms) longer rows rows′ terms terms′ store store′))
+    (begins for-long-form (length doc) (length whole) (made doc mode base lent x) (made whole mode base lent′ y) (made-kept doc mode base lent x .terms) longer rows rows′ terms terms′ store store′))

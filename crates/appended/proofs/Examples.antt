@@ -7,7 +7,7 @@ use Rattle.text.specs.Text.{Text, ascii}
 use Rattle.limits.specs.Limits.{work-size}
 use Rattle.token.specs.Tokens.{lexemes}
 use Rattle.table.specs.LongForm.{long-form}
-use Rattle.machine.specs.Read.{Lent, Answer, read, computing}
+use Rattle.machine.specs.Read.{Lent, lends, Answer, read, computing}
 use Rattle.readback.specs.ReadBack.{slices-after}
 use Rattle.appended.specs.Appended.{with-text-added, IsBeginning, Begins}
 use Rattle.appended.specs.Parts.{moved, MeetsBehind}
@@ -15,10 +15,10 @@ use Rattle.appended.proofs.Parts.{told-from-parts}
 use Rattle.appended.proofs.Appended.{appended}
 
 abbrev lent : Lent
-lent = record { work = work-size; rows = 1000; terms = 1000; store = 10000 }
+lent = lends work-size 1000 1000 10000
 
 abbrev little : Lent
-little = record { work = work-size; rows = 10; terms = 20; store = 100 }
+little = lends work-size 10 20 100
 
 -- A document, with and without text added, in mode 0 and with no base.
 abbrev answered : Text → Answer

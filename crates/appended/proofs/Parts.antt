@@ -2,7 +2,7 @@
 use mathlib.Core.Path.{_≡_, refl, sym, ap, ap₂, _∙_, subst}
 use mathlib.Core.Logic.{_↔_}
 use mathlib.Core.List.{List, [], _∷_, _++_, map}
-use Prim.Native.Nat.{ℕ, suc, _+_}
+use Prim.Native.Nat.{ℕ, suc}
 use native.Mathlib.Nat.{zero-add}
 use native.Mathlib.Omega.{arith}
 use lib.Dec.{T}
@@ -15,10 +15,11 @@ use Rattle.grammar.proofs.Grammar.{kinds-of, accepted as accepted-iff, one-deri
 use Rattle.grammar.proofs.Modes.{grammar}
 use Rattle.environment.specs.Environment.{Environment}
 use Rattle.dataset.specs.Constructors.{reference, prefix, local, resolved-reference, joined-name, iri-of, Awaited, nothing, prefix-name, new-base, namespace-of, InForce, awaiting, directive-token, after-token, in-force}
-use Rattle.machine.specs.Refusals.{no-character, undeclared, no-base, too-long, one-prefix-more, too-deep, new-depth}
+use Rattle.machine.specs.Refusals.{no-character, undeclared, no-base, too-long, too-deep, new-depth, escape-tests, force-tests}
 use Rattle.machine.specs.Read.{Lent, mode-of, room-of, read}
 use Rattle.machine.specs.Construction.{tables}
 use Rattle.machine.specs.Demand.{document-tokens, depth-after, Fair, Fits, Meets}
+use Rattle.machine.proofs.Firsts.{Passes}
 use Rattle.machine.proofs.Demands.{Met, after-append, depth-append, fair-head, fair-tail, fair-none, fair-more, zero-meets, accepted-iff-meets}
 use Rattle.machine.proofs.Joined.{joined-derives, fair-parts, fair-joined}
 use Rattle.readback.proofs.Texts.{Utf8, utf8-append, utf8-cons, utf8-cut}
@@ -65,14 +66,8 @@ module _ (base : Text) (j k : ℕ) where
   met-moved : (xs ys : List Token) (t : Token) → Alike xs ys → Met base xs (moved-token j t) → Met base ys (moved-token k t)
   unfolding no-character undeclared no-base too-long too-deep reference prefix local joined-name
   met-moved xs ys t e m =
-      record {
-        characters = m .characters;
-        declared = ap (λ (f : InForce). undeclared f t) (sym (e .force)) ∙ m .declared;
-        based = ap (λ (f : InForce). no-base f t) (sym (e .force)) ∙ m .based;
-        lengths = ap (λ (f : InForce). too-long f t) (sym (e .force)) ∙ m .lengths;
-        prefixes = ap one-prefix-more (sym (e .force)) ∙ m .prefixes;
-        depth = ap (λ (d : ℕ). too-deep d t) (sym (e .depth)) ∙ m .depth;
-      }
+      subst (λ (f : InForce). Passes (escape-tests t ++ force-tests f (depth-after ys) t)) (e .force)
+      (subst (λ (d : ℕ). Passes (escape-tests t ++ force-tests (in-force base xs) d t)) (e .depth) m)
 
   alike-next : (xs ys : List Token) (t : Token) → Alike xs ys → Alike (xs ++ moved-token j t ∷ []) (ys ++ moved-token k t ∷ [])
   unfolding in-force new-depth

@@ -16,25 +16,26 @@ use Rattle.machine.specs.Memory.{Memory}
 use Rattle.machine.specs.Read.{written, contents, success}
 use Rattle.machine.proofs.Extends.{Extends}
 use Rattle.readback.specs.ReadBack.{slices-after}
+use Rattle.table.specs.Usable.{Takes}
 use Rattle.readback.proofs.Kept.{Fine, AllFine}
 use Rattle.readback.proofs.Laid.{fine-at}
 use Rattle.appended.specs.Appended.{IsBeginning, Begins}
 
 -- A datatype is numbered before its literal, so that its number stays.
-fine-typed : (ts : List Term) (n : ℕ) (t : Term) → Fine ts n t → Typed ts t
+fine-typed : (v : Takes) (ts : List Term) (n : ℕ) (t : Term) → Fine v ts n t → Typed ts t
 unfolding Typed
-fine-typed ts n (iri s) f = tt
-fine-typed ts n (blank b) f = tt
-fine-typed ts n (literal s d) f = (f .1 .place, f .1 .found)
-fine-typed ts n (tagged s g) f = tt
+fine-typed v ts n (iri s) f = tt
+fine-typed v ts n (blank b) f = tt
+fine-typed v ts n (literal s d) f = (f .1 .place, f .1 .found)
+fine-typed v ts n (tagged s g) f = tt
 
-pub terms-begin : (ts us : List Term) → AllFine ts 1 ts → (rest : List ℕ) × (terms-words (ts ++ us) ≡ terms-words ts ++ rest)
+pub terms-begin : (v : Takes) (ts us : List Term) → AllFine v ts 1 ts → (rest : List ℕ) × (terms-words (ts ++ us) ≡ terms-words ts ++ rest)
 unfolding terms-words
-terms-begin ts us f =
+terms-begin v ts us f =
     let rest = words-from (ts ++ us) (0 + store-size ts) (0 + blank-count ts) us in (
       rest,
       words-append (ts ++ us) 0 0 ts us
-          ∙ ap (λ (l : List ℕ). l ++ rest) (words-more ts us 0 0 ts (λ i h. fine-typed ts (1 + i) (getD ts i (iri [])) (fine-at ts 1 ts i f h))),
+          ∙ ap (λ (l : List ℕ). l ++ rest) (words-more ts us 0 0 ts (λ i h. fine-typed v ts (1 + i) (getD ts i (iri [])) (fine-at v ts 1 ts i f h))),
     )
 
 -- What was written begins what the other call has written, whatever the slices held before.
@@ -45,11 +46,11 @@ written-begins a b rest old old′ n m l k e = (
   take-at b (drop (length b) old′) m k ∙ e ∙ ap (λ (x : List ℕ). x ++ rest) (sym (take-at a (drop (length a) old) n l)),
 )
 
-pub begins : (n n′ : ℕ) (m m′ : Memory) → AllFine (m .terms) 1 (m .terms) → Extends m m′ → (rows rows′ terms terms′ : List ℕ) (store store′ : Text)
+pub begins : (v : Takes) (n n′ : ℕ) (m m′ : Memory) → AllFine v (m .terms) 1 (m .terms) → Extends m m′ → (rows rows′ terms terms′ : List ℕ) (store store′ : Text)
     → Begins (slices-after (success n m) rows terms store) (slices-after (success n′ m′) rows′ terms′ store′)
 unfolding terms-words
-begins n n′ m m′ f x rows rows′ terms terms′ store store′ =
-    let (more-terms, p) = terms-begin (m .terms) (x .new-terms) f in
+begins v n n′ m m′ f x rows rows′ terms terms′ store store′ =
+    let (more-terms, p) = terms-begin v (m .terms) (x .new-terms) f in
     record {
       rows =
           written-begins (rows-words (m .rows)) (rows-words (m′ .rows)) (rows-words (x .new-rows)) rows rows′ (row-size * length (m .rows)) (row-size * length (m′ .rows)) (rows-length (m .rows))

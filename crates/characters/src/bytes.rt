@@ -2,12 +2,7 @@
 ghost use mathlib.Core.Path.{_≡_};
 ghost use Rattle.token.specs.Regular.{in-ranges};
 ghost use Rattle.characters.specs.Bytes.{digit, letter, letter-or-digit, hex, sign, exponent, name, local, local-first, label-first, reserved, iri, echar};
-
-fn wide(b: u8) -> usize
-    ensures { λ r. ⌜ r ≡ b ⌝ }
-{
-    b as usize
-}
+use text::wide;
 
 // [0-9]
 pub fn is_digit(b: u8) -> bool

@@ -29,12 +29,12 @@ not-both true false = refl
 not-both false f = refl
 
 module _ (b : Text) (h : length b ≡ 0 → ⊥) where
-  pub long-base : 1024 < length b → true ≡ bad-base b
-  long-base l = sym (some-lent b h ∙ rw (lt-ltb 1024 (length b) l))
+  pub long-base : iri-limit < length b → true ≡ bad-base b
+  long-base l = sym (some-lent b h ∙ rw (lt-ltb iri-limit (length b) l))
 
-  module _ (l : length b ≤ 1024) where
+  module _ (l : length b ≤ iri-limit) where
     pub base-not-utf8 : is-none (first-bad b) ≡ false → true ≡ bad-base b
-    base-not-utf8 e = sym (some-lent b h ∙ rw (le-ltb 1024 (length b) l, e))
+    base-not-utf8 e = sym (some-lent b h ∙ rw (le-ltb iri-limit (length b) l, e))
 
     pub base-left : is-none (first-bad b) ≡ true → (r : Bool) → r ≡ (has-scheme b && not (some-byte forbidden b)) → not r ≡ bad-base b
-    base-left e r s = ap not s ∙ (not-both (has-scheme b) (some-byte forbidden b) ∙ sym (some-lent b h ∙ rw (le-ltb 1024 (length b) l, e)))
+    base-left e r s = ap not s ∙ (not-both (has-scheme b) (some-byte forbidden b) ∙ sym (some-lent b h ∙ rw (le-ltb iri-limit (length b) l, e)))

@@ -3,7 +3,7 @@ use mathlib.Core.Path.{_≡_, refl, sym, ap, _∙_, subst}
 use mathlib.Core.Logic.{_⊎_, inl, inr, ⊎-elim}
 use mathlib.Core.List.{List, [], _∷_, _++_, append-assoc}
 use mathlib.Core.Option.{Option, none, some}
-use Prim.Native.Nat.{ℕ, suc, _+_, _≤_, _<_}
+use Prim.Native.Nat.{ℕ, suc, _≤_, _<_}
 use native.Mathlib.Omega.{arith}
 use lib.ListN.{length, length-append}
 use Rattle.text.specs.Text.{Text}
@@ -32,11 +32,6 @@ ext-end q at (cells h l) u m =
     let a = term (iri rdf-rest) m in
     let b = term (iri rdf-nil) (a .1) in
     extends-both (adds-term (iri rdf-rest) .extends m) (extends-both (adds-term (iri rdf-nil) .extends (a .1)) (adds-row l (a .0) (b .0) u .extends (b .1)))
-
-pub ext-ended : (e : Ending) (m : Memory) → Extends m (ended e m)
-ext-ended full-stop m = extends-same m m refl refl
-ext-ended brace m = extends-same m (enter 0 m .1) refl refl
-ext-ended bracket-end m = extends-same m m refl refl
 
 -- ---- Shapes
 
@@ -215,16 +210,6 @@ module _ (v L : ℕ) where
         ext = extends-both (adds-new-term (blank (cell v)) .extends m) x;
         rows = λ f. inr (record { graph = r .1 .graph; subject = l; predicate = r .0; object = suc (length (m .terms)); position = v }, [], (let e = f .enough in omega arith), ap (λ (z : List Row). z ++ record { graph = r .1 .graph; subject = l; predicate = r .0; object = suc (length (m .terms)); position = v } ∷ []) (term-rows (iri rdf-rest) m₁));
         terms = λ f. inr (term-on m m₁ M (blank (cell v), [], inr refl, refl) x);
-      }
-
-  wrote-element : (c : ℕ) (m : Memory) → Wrote m (hold (element-of c) (named m .0) v (named m .1) .1)
-  wrote-element c m =
-      let M = hold (element-of c) (named m .0) v (named m .1) .1 in
-      let x = ext-hold (element-of c) (named m .0) v (named m .1) in
-      record {
-        ext = extends-both (ext-named m) x;
-        rows = λ f. row-after m (named m .1) M (named-rows m) (inr (element-row c (named m .0) v (named m .1) (named-far m f)));
-        terms = λ f. inr (term-on m (named m .1) M (named-new m f) x);
       }
 
   abbrev pub listed : Place → ℕ → Cells → Memory → ℕ × Memory

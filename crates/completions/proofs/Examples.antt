@@ -12,7 +12,7 @@ use Rattle.token.specs.Tokens.{lexemes, place-of}
 use Rattle.grammar.specs.Productions.{trig}
 use Rattle.dataset.specs.Terms.{iri, literal, xsd-string}
 use Rattle.table.specs.Layout.{row-size}
-use Rattle.machine.specs.Read.{Lent, Answer, computing}
+use Rattle.machine.specs.Read.{Lent, lends, Answer, computing}
 use Rattle.machine.specs.Demand.{document-tokens}
 use Rattle.machine.proofs.Demands.{obey, after-rules}
 use Rattle.machine.proofs.Link.{follow, finished, machine-verdict}
@@ -51,7 +51,7 @@ abbrev list-alone : Text
 list-alone = ascii "(1) ."
 
 abbrev lent : ℕ → Lent
-lent rows = record { work = work-size; rows = rows * row-size; terms = 100; store = 1000 }
+lent rows = lends work-size (rows * row-size) 100 1000
 
 -- At the dot, where there is room for the list's two rows,
 at-the-dot : (i : ℕ) × FailsFirst list-alone 0 [] (lent 2) i × (4 ≡ place-of 5 (lexemes list-alone) i)

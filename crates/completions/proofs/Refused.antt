@@ -16,7 +16,6 @@ use Rattle.utf8.specs.Utf8.{first-bad}
 use Rattle.token.specs.Kind.{strings}
 use Rattle.token.specs.Tokens.{Token, has-kind, Lexeme, token, unreadable, lexemes, tokens-of, readable, place-of}
 use Rattle.grammar.specs.Productions.{Mode, GrammarFailsAt}
-use Rattle.grammar.proofs.Grammar.{refused as refused-iff}
 use Rattle.grammar.proofs.Recogniser.{at-end as end-verdict, later}
 use Rattle.dataset.specs.Terms.{Term}
 use Rattle.dataset.specs.Constructors.{after-token, in-force}
@@ -31,12 +30,12 @@ use Rattle.machine.specs.Call.{Lent, Room, room-of, mode-of, Test, _when_, firs
 use Rattle.machine.specs.Step.{State, in-force-now, obeyed, tests, answer, step, tied-to, Outcome, accepted, refused, at-end, onward, run}
 use Rattle.machine.specs.Read.{Answer, start-state, refusal, reported, read, read-checked, read-utf8, read-tokens}
 use Rattle.machine.specs.Demand.{document-tokens, depth-after}
-use Rattle.machine.proofs.Judge.{tied-same, number-of, refusal-number}
+use Rattle.machine.proofs.Firsts.{number-of, refusal-number, no-rule}
+use Rattle.machine.proofs.Judge.{tied-same}
 use Rattle.machine.proofs.Link.{follow, finished, machine-verdict}
-use Rattle.machine.proofs.Grammatical.{machine-grammar}
 use Rattle.machine.proofs.Made.{some-same}
 use Rattle.machine.proofs.Extends.{in-force-rule}
-use Rattle.machine.proofs.Demands.{zero-meets, meets-answer, passed, after-append, depth-append, Tracks, start-tracks, obey, after-rules}
+use Rattle.machine.proofs.Demands.{zero-meets, meets-answer, after-append, depth-append, Tracks, start-tracks, obey, after-rules, run-of, read-run, verdict-fails, fails-verdict}
 use Rattle.completions.specs.Written.{tag-first, Written}
 use Rattle.completions.specs.FailsFirst.{grammar-refusal, FailsFirst}
 use Rattle.completions.specs.Answered.{Answered, unusable, not-utf8, refused as refused-there, accepted as accepted-there}
@@ -198,13 +197,6 @@ module _ (doc : Text) (mode : ℕ) (base : Text) (lent : Lent) where
   placed : (i : ℕ) (s : State) → Behind i s → (us : List Lexeme) → drop i ls ≡ us → place-of (length doc) us 0 ≡ place i
   placed i s b us p = sym (left i s b .place (length doc) ∙ ap (λ l. place-of (length doc) l 0) p)
 
-  -- Where the grammar fails, and where it does not.
-  verdict-fails : (i : ℕ) → machine-verdict (mode-of mode) (statement []) (start-memory base) ts ≡ some i → GrammarFailsAt (mode-of mode) ts i
-  verdict-fails i v = refused-iff (mode-of mode) ts i .0 (sym (machine-grammar (mode-of mode) (start-memory base) ts) ∙ v)
-
-  fails-verdict : (i : ℕ) → GrammarFailsAt (mode-of mode) ts i → machine-verdict (mode-of mode) (statement []) (start-memory base) ts ≡ some i
-  fails-verdict i f = machine-grammar (mode-of mode) (start-memory base) ts ∙ refused-iff (mode-of mode) ts i .1 f
-
   -- ---- Where there is no token
 
   no-token : (i : ℕ) {P : Token → Type 0} → length ts ≤ i → ¬ (At ts i P)
@@ -265,7 +257,7 @@ module _ (doc : Text) (mode : ℕ) (base : Text) (lent : Lent) where
     decides-none q =
         skip (λ x. not-over (x .0))
         (at-test (no-character t) no-character refl
-        (stop (verdict-fails i (verdict ∙ ap (λ r. moved i (follow r (s .memory) (λ o m. machine-verdict (mode-of mode) o m (tokens-of us)))) q ∙ moved-some i))))
+        (stop (verdict-fails doc mode base lent i (verdict ∙ ap (λ r. moved i (follow r (s .memory) (λ o m. machine-verdict (mode-of mode) o m (tokens-of us)))) q ∙ moved-some i))))
 
     module _ (w : Write Open) (q : rule-at (mode-of mode) t us s ≡ some w) where
       abbrev s′ : State
@@ -320,7 +312,7 @@ module _ (doc : Text) (mode : ℕ) (base : Text) (lent : Lent) where
           (test (λ x. contrary (sym x))
           (λ x g.
           moved-later (mode-of mode) i (machine-verdict (mode-of mode) (s′ .open-now) (s′ .memory) (tokens-of us))
-          (ap (λ r. moved i (follow r (s .memory) (λ o m. machine-verdict (mode-of mode) o m (tokens-of us)))) (sym q) ∙ sym verdict ∙ fails-verdict i g))
+          (ap (λ r. moved i (follow r (s .memory) (λ o m. machine-verdict (mode-of mode) o m (tokens-of us)))) (sym q) ∙ sym verdict ∙ fails-verdict doc mode base lent i g))
           (at-test (undeclared (in-force-now s) t) (undeclared (in-force base (take i ts))) (ap (λ x. undeclared x t) f)
           (at-test (no-base (in-force-now s) t) (no-base (in-force base (take i ts))) (ap (λ x. no-base x t) f)
           (at-test (too-long (in-force-now s) t) (too-long (in-force base (take i ts))) (ap (λ x. too-long x t) f)
@@ -360,7 +352,7 @@ module _ (doc : Text) (mode : ℕ) (base : Text) (lent : Lent) where
 
       fails : (o : Open) → s .open-now ≡ o → finished o ≡ false → Right (refused 8 (length doc))
       fails o q f =
-          (i, c, end-fails i over cuts (verdict-fails i (verdict-end o q ∙ ap (λ x. moved i (end-verdict x)) f ∙ moved-some i)), placed i s b [] p)
+          (i, c, end-fails i over cuts (verdict-fails doc mode base lent i (verdict-end o q ∙ ap (λ x. moved i (end-verdict x)) f ∙ moved-some i)), placed i s b [] p)
 
       go : (o : Open) → s .open-now ≡ o → Right (at-end o (length doc) (s .memory))
       go (directive d) q = fails (directive d) q refl
@@ -370,7 +362,7 @@ module _ (doc : Text) (mode : ℕ) (base : Text) (lent : Lent) where
           by (ltb j i) (λ h. absurd (c j k (ltb-true j i h) x))
           (λ h.
           let l = ltb-false j i h in
-          end-fine j (omega (arith, over)) cuts (λ f. not-none (sym (verdict-end (statement []) q ∙ moved-none i) ∙ fails-verdict j f)) .says k x)
+          end-fine j (omega (arith, over)) cuts (λ f. not-none (sym (verdict-end (statement []) q ∙ moved-none i) ∙ fails-verdict doc mode base lent j f)) .says k x)
 
   -- Where no token can be read.
   unread : (i : ℕ) → i ≡ length ts → readable ls ≡ false → First (refusals doc mode base lent i) 6
@@ -400,30 +392,21 @@ module _ (doc : Text) (mode : ℕ) (base : Text) (lent : Lent) where
           → ((j : ℕ) (x : State) → Behind j x → drop j ls ≡ us → Clear j → Right (run (mode-of mode) room (length doc) us x))
           → Right (onward (λ x. run (mode-of mode) room (length doc) us x) (answer (first-refusal (tests room s t r (obeyed r t s))) (t .start) (obeyed r t s)))
       go none q k =
-          let vs = tests room s t none s in
-          goes (first-refusal vs) s (decides-none i s b t us p q .says) (λ e. contrary (passed 8 true (drop 2 vs) (passed 7 (no-character t) (drop 1 vs) e .1) .0))
+          goes (first-refusal (tests room s t none s)) s (decides-none i s b t us p q .says) (λ e. no-rule room s t e)
       go (some w) q k =
           let x = obeyed (some w) t s in
           let d = decides-some i s b t us p w q .says in
           goes (first-refusal (tests room s t (some w) x)) x d
           (λ e. k (suc i) x (next i s b t us p w q) (drop-next i ls (token t) us p) (clear-next (subst (Says (refusals doc mode base lent i)) e d)))
 
-  abbrev run-of : Outcome
-  run-of = run (mode-of mode) room (length doc) ls (start-state base)
-
-  right-run : Right run-of
+  right-run : Right (run-of doc mode base lent)
   right-run = right ls 0 (start-state base) behind-none refl (λ j k h. absurd (omega arith))
 
   -- ---- The answer
 
-  -- Where 1 to 5 do not apply, the answer is the run's.
-  read-run : first-refusal (first-checks doc mode base lent) ≡ none → first-bad doc ≡ none → read doc mode base lent ≡ reported (length doc) run-of
-  unfolding read read-checked read-utf8 read-tokens
-  read-run u v = ap (λ o. read-checked o doc mode base lent) u ∙ ap (λ o. read-utf8 o doc mode base lent) v
-
   -- A refusal is answered where it stands,
   pub refused-answer : (i n : ℕ) → Refused doc mode base lent i n → read doc mode base lent ≡ refusal n (place i)
-  refused-answer i n x = read-run (x .usable) (x .utf8) ∙ ap (λ o. reported (length doc) o) (go run-of right-run)
+  refused-answer i n x = read-run doc mode base lent (x .usable) (x .utf8) ∙ ap (λ o. reported (length doc) o) (go (run-of doc mode base lent) right-run)
     where
       go : (o : Outcome) → Right o → o ≡ refused n (place i)
       go (accepted m) f = absurd (f i n (x .here))
@@ -453,7 +436,7 @@ module _ (doc : Text) (mode : ℕ) (base : Text) (lent : Lent) where
       decoded : first-refusal (first-checks doc mode base lent) ≡ none → (o : Option ℕ) → first-bad doc ≡ o → 6 ≤ read-utf8 o doc mode base lent .number
           → RefusedAt (read-utf8 o doc mode base lent .number) (read-utf8 o doc mode base lent .position)
       decoded u (some q) v h = absurd (omega arith)
-      decoded u none v h = ran u v run-of right-run h
+      decoded u none v h = ran u v (run-of doc mode base lent) right-run h
 
       checked : (o : Option ℕ) → first-refusal (first-checks doc mode base lent) ≡ o → 6 ≤ read-checked o doc mode base lent .number
           → RefusedAt (read-checked o doc mode base lent .number) (read-checked o doc mode base lent .position)
@@ -470,7 +453,7 @@ module _ (doc : Text) (mode : ℕ) (base : Text) (lent : Lent) where
   eight-fails i (inr (g, inr (h, inr (k, x)))) = absurd (first-number (ltb 8) (drop 3 (refusals doc mode base lent i)) 8 tt x)
 
   one-failure : (i j : ℕ) → GrammarFailsAt (mode-of mode) ts i → GrammarFailsAt (mode-of mode) ts j → i ≡ j
-  one-failure i j f g = some-same (sym (fails-verdict i f) ∙ fails-verdict j g)
+  one-failure i j f g = some-same (sym (fails-verdict doc mode base lent i f) ∙ fails-verdict doc mode base lent j g)
 
   -- 8 stands just where the grammar fails first.
   pub eight-stands : (i : ℕ) → FailsFirst doc mode base lent i ↔ Refused doc mode base lent i grammar-refusal
@@ -494,13 +477,13 @@ module _ (doc : Text) (mode : ℕ) (base : Text) (lent : Lent) where
   unfolding read read-checked read-utf8 read-tokens
   answered = checked (first-refusal (first-checks doc mode base lent)) refl (λ e x. accepted-there (zero-meets doc mode base lent e) (x ∙ meets-answer doc mode base lent (zero-meets doc mode base lent e)))
     where
-      ran : first-refusal (first-checks doc mode base lent) ≡ none → first-bad doc ≡ none → (o : Outcome) → run-of ≡ o → Right o → IfZero (reported (length doc) o) → Answered doc mode base lent (reported (length doc) o)
-      ran u v (accepted m) r f g = let e = read-run u v ∙ ap (λ o. reported (length doc) o) r in g (ap (λ (a : Answer). a .number) e) (sym e)
+      ran : first-refusal (first-checks doc mode base lent) ≡ none → first-bad doc ≡ none → (o : Outcome) → (run-of doc mode base lent) ≡ o → Right o → IfZero (reported (length doc) o) → Answered doc mode base lent (reported (length doc) o)
+      ran u v (accepted m) r f g = let e = read-run doc mode base lent u v ∙ ap (λ o. reported (length doc) o) r in g (ap (λ (a : Answer). a .number) e) (sym e)
       ran u v (refused c p) r (i, e, f, q) g = refused-there i c (record { usable = u; utf8 = v; earlier = e; here = f }) (ap (refusal c) q)
 
       decoded : first-refusal (first-checks doc mode base lent) ≡ none → (o : Option ℕ) → first-bad doc ≡ o → IfZero (read-utf8 o doc mode base lent) → Answered doc mode base lent (read-utf8 o doc mode base lent)
       decoded u (some p) v g = not-utf8 p u v refl
-      decoded u none v g = ran u v run-of refl right-run g
+      decoded u none v g = ran u v (run-of doc mode base lent) refl right-run g
 
       checked : (o : Option ℕ) → first-refusal (first-checks doc mode base lent) ≡ o → IfZero (read-checked o doc mode base lent) → Answered doc mode base lent (read-checked o doc mode base lent)
       checked (some n) u g = unusable n u refl

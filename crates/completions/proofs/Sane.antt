@@ -20,7 +20,7 @@ use Rattle.table.specs.Layout.{Row}
 use Rattle.table.specs.Tables.{number}
 use Rattle.table.proofs.Numbers.{not-none}
 use Rattle.table.proofs.Finding.{number-within}
-use Rattle.machine.specs.Memory.{Memory, Write, return, _>>=_, _>>_, term, term-by, new-term, typed, typed-by, iri-term, row}
+use Rattle.machine.specs.Memory.{Memory, Write, return, _>>=_, term, term-by, new-term, typed, typed-by, iri-term, row}
 use Rattle.machine.specs.Frame.{Ending, full-stop, brace, bracket-end, Place, top, subject-before, object-of, element-of, Cells, no-cell, cells, Frame, graph-label, closing-label, graph-body, label-or-subject, triples-or-end, verb, verb-or-end, object, after-object, after-semicolon, bracket, list, suffix, datatype, Directive, prefix-name, namespace-of, new-base, last-dot, Open, directive, statement}
 use Rattle.machine.specs.Rules.{Rule, _⇒_, find-rule, hold, new-cell, extended, end-list, after-node, after-properties, Opening, end-rules, verb-rules, subject-rules, simple, string, object-rules, frame-rules, directive-rules, above, statement-rules, rules}
 use Rattle.machine.specs.Step.{State, obeyed, tied-to}

@@ -1,7 +1,6 @@
 -- What the cursor's words hold once they are put.
 use mathlib.Core.Path.{_≡_, refl, ap, sym, subst, _∙_}
-use mathlib.Core.Logic.{_⊎_, inl, inr, ⊎-elim}
-use mathlib.Core.Bool.{Bool, true, false}
+use mathlib.Core.Logic.{⊎-elim}
 use mathlib.Core.List.{List, [], _∷_}
 use mathlib.Core.Option.{none}
 use Prim.Native.Nat.{ℕ, _+_, _-_, _≤_, _<_}
@@ -9,27 +8,28 @@ use native.Mathlib.Omega.{arith}
 use lib.Dec.{eqb, ltb}
 use lib.ListN.{length, getD, set, take, drop, length-set, length-drop}
 use lib.Seq.{getD-set-same, getD-set-other, take-all}
-use borrow.Author.Tests.{eq-eqb, ne-eqb, lt-ltb, le-ltb, ltb-true, ltb-false, eqb-true, eqb-false}
+use borrow.Author.Tests.{ne-eqb, lt-ltb, le-ltb, ltb-true, ltb-false, eqb-true, eqb-false}
+use Rattle.token.specs.Kind.{last-kind, end-kind, unreadable-kind}
 use Rattle.environment.specs.Code.{words-size}
-use Rattle.text.specs.Text.{Text, cond}
+use Rattle.text.specs.Text.{Text}
 use Rattle.text.proofs.Compare.{by}
 use Rattle.utf8.specs.Utf8.{first-bad}
 use Rattle.automaton.specs.declared.Next.{Next}
 use Rattle.lexer.specs.Rest.{rest}
 use Rattle.lexer.specs.Blanks.{BlanksAt}
 use Rattle.limits.specs.Limits.{document-limit}
-use Rattle.lexer.proofs.Cutting.{Cut, read-token, read-nothing, read-end}
+use Rattle.lexer.proofs.Cutting.{read-token, read-nothing, read-end}
 use Rattle.lexer_words.specs.Ahead.{Clear, NextAt}
-use Rattle.token.specs.Tokens.{Lexeme, token, unreadable}
-use Rattle.state.specs.Words.{kind-word, at-word, len-word, clear-word}
-use Rattle.state.specs.Cursor.{ahead, token-of, Cursor, TokenHere, StaysBeside, Sought, end-kind, unreadable-kind, remaining}
+use Rattle.token.specs.Tokens.{token, unreadable}
+use Rattle.state.specs.Words.{kind-word, at-word, len-word, clear-word, kind-in, at-in, len-in}
+use Rattle.state.specs.Cursor.{ahead, token-of, StaysBeside, Sought}
 use Rattle.cursor.specs.Code.{put-token, kind-there}
 
 -- The words after they are put.
 pub record Put (st st' : List ℕ) (kind at len clear : ℕ) : Type 0 where
-  pub kind-is : getD st' kind-word 0 ≡ kind
-  pub at-is : getD st' at-word 0 ≡ at
-  pub len-is : getD st' len-word 0 ≡ len
+  pub kind-is : kind-in st' ≡ kind
+  pub at-is : at-in st' ≡ at
+  pub len-is : len-in st' ≡ len
   pub clear-is : getD st' clear-word 0 ≡ clear
   pub beside : StaysBeside st st'
   pub words : length st' ≡ length st
@@ -73,11 +73,11 @@ module _ (st : List ℕ) (kind at len clear : ℕ) (n : length st ≡ words-size
   }
 
 -- The tokens ahead, by what the cursor holds.
-pub ahead-token : (doc : Text) (kind at len : ℕ) → (kind ≡ 0 → ⊥) → kind ≤ 30 → ahead doc kind at len ≡ token (token-of doc kind at len) ∷ rest doc (at + len)
+pub ahead-token : (doc : Text) (kind at len : ℕ) → (kind ≡ end-kind → ⊥) → kind ≤ last-kind → ahead doc kind at len ≡ token (token-of doc kind at len) ∷ rest doc (at + len)
 unfolding ahead
-ahead-token doc kind at len z h = rw (ne-eqb kind 0 z, ne-eqb kind 31 (λ e. omega arith))
+ahead-token doc kind at len z h = rw (ne-eqb kind 0 z, ne-eqb kind unreadable-kind (λ e. omega arith))
 
-pub ahead-none : (doc : Text) (at len : ℕ) → ahead doc 31 at len ≡ unreadable at ∷ []
+pub ahead-none : (doc : Text) (at len : ℕ) → ahead doc unreadable-kind at len ≡ unreadable at ∷ []
 unfolding ahead
 ahead-none doc at len = refl
 
@@ -89,11 +89,11 @@ pub there-some : (k at n : ℕ) → (k ≡ 0 → ⊥) → kind-there k at n ≡ 
 unfolding kind-there
 there-some k at n z = rw (ne-eqb k 0 z)
 
-pub there-none : (at n : ℕ) → at < n → kind-there 0 at n ≡ 31
+pub there-none : (at n : ℕ) → at < n → kind-there 0 at n ≡ unreadable-kind
 unfolding kind-there
 there-none at n h = rw (lt-ltb at n h)
 
-pub there-end : (at n : ℕ) → n ≤ at → kind-there 0 at n ≡ 0
+pub there-end : (at n : ℕ) → n ≤ at → kind-there 0 at n ≡ end-kind
 unfolding kind-there
 there-end at n h = rw (le-ltb at n h)
 
@@ -126,7 +126,7 @@ module _ (doc : Text) (at b clear : ℕ) (r : Next) (size : length doc ≤ docum
 
   sought-none : r .kind ≡ 0 → at + b < length doc → Sought doc at st st'
   sought-none z l =
-      let k : getD st' kind-word 0 ≡ 31 = p .kind-is ∙ (ap (λ (x : ℕ). kind-there x (at + b) (length doc)) z ∙ there-none (at + b) (length doc) l) in
+      let k : kind-in st' ≡ unreadable-kind = p .kind-is ∙ (ap (λ (x : ℕ). kind-there x (at + b) (length doc)) z ∙ there-none (at + b) (length doc) l) in
       record {
         cursor = record {
           size = size;
@@ -134,7 +134,7 @@ module _ (doc : Text) (at b clear : ℕ) (r : Next) (size : length doc ≤ docum
           at-end = λ e. absurd (omega (arith, sym k ∙ e));
           token = λ y x. absurd (x k);
         };
-        tokens = rw (k, p .at-is) (read-nothing doc at b clear r v c g m l z ∙ sym (ahead-none doc (at + b) (getD st' len-word 0)));
+        tokens = rw (k, p .at-is) (read-nothing doc at b clear r v c g m l z ∙ sym (ahead-none doc (at + b) (len-in st')));
         later = rw (p .at-is) (omega arith);
         beside = p .beside;
         words = p .words;
@@ -142,7 +142,7 @@ module _ (doc : Text) (at b clear : ℕ) (r : Next) (size : length doc ≤ docum
 
   sought-end : r .kind ≡ 0 → length doc ≤ at + b → Sought doc at st st'
   sought-end z l =
-      let k : getD st' kind-word 0 ≡ 0 = p .kind-is ∙ (ap (λ (x : ℕ). kind-there x (at + b) (length doc)) z ∙ there-end (at + b) (length doc) l) in
+      let k : kind-in st' ≡ end-kind = p .kind-is ∙ (ap (λ (x : ℕ). kind-there x (at + b) (length doc)) z ∙ there-end (at + b) (length doc) l) in
       record {
         cursor = record {
           size = size;
@@ -150,7 +150,7 @@ module _ (doc : Text) (at b clear : ℕ) (r : Next) (size : length doc ≤ docum
           at-end = λ e. p .at-is ∙ omega arith;
           token = λ y x. absurd (y k);
         };
-        tokens = rw (k, p .at-is) (read-end doc at b clear r v c g m l ∙ sym (ahead-end doc (at + b) (getD st' len-word 0)));
+        tokens = rw (k, p .at-is) (read-end doc at b clear r v c g m l ∙ sym (ahead-end doc (at + b) (len-in st')));
         later = rw (p .at-is) (omega arith);
         beside = p .beside;
         words = p .words;

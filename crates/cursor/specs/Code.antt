@@ -4,8 +4,8 @@ use Prim.Native.Nat.{ℕ}
 use lib.Dec.{eqb, ltb}
 use lib.ListN.{set}
 use Rattle.text.specs.Text.{cond}
+use Rattle.token.specs.Kind.{end-kind, unreadable-kind}
 use Rattle.state.specs.Words.{kind-word, at-word, len-word, clear-word}
-use Rattle.state.specs.Cursor.{end-kind, unreadable-kind}
 
 unfoldable pub put-token : List ℕ → ℕ → ℕ → ℕ → ℕ → List ℕ
 put-token st kind at len clear = set (set (set (set st kind-word kind) at-word at) len-word len) clear-word clear

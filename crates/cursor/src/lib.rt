@@ -7,19 +7,14 @@ ghost use Rattle.limits.specs.Limits.{document-limit};
 ghost use Rattle.utf8.specs.Utf8.{first-bad};
 ghost use Rattle.lexer_words.specs.Ahead.{Clear};
 ghost use Rattle.environment.specs.Code.{words-size};
-ghost use Rattle.state.specs.Words.{at-word, len-word};
+ghost use Rattle.state.specs.Words.{at-in, len-in};
 ghost use Rattle.state.specs.Cursor.{Cursor, TokenHere, Sought};
 ghost use Rattle.cursor.specs.Code.{put-token, kind-there};
 use automaton::Next;
 use environment::Layout;
 use lexer_words::names::minus;
 use state::Words;
-
-fn wide(b: u8) -> usize
-    ensures { λ r. ⌜ r ≡ b ⌝ }
-{
-    b as usize
-}
+use token::Kind;
 
 fn put(st: &mut [usize; Layout::WORDS], kind: usize, at: usize, len: usize, clear: usize)
     ensures { λ _. ⌜ now (st .exit) ≡ put-token (now (st .entry)) kind at len clear ⌝ }
@@ -31,16 +26,16 @@ fn put(st: &mut [usize; Layout::WORDS], kind: usize, at: usize, len: usize, clea
 }
 
 // The kind at a place that is not the end, or is.
-fn kind_there(kind: u8, at: usize, size: usize) -> usize
+fn kind_there(kind: usize, at: usize, size: usize) -> usize
     ensures { λ r. ⌜ r ≡ kind-there kind at size ⌝ }
 {
-    if kind != 0 {
-        return wide(kind);
+    if kind != Kind::NONE {
+        return kind;
     }
     if at < size {
-        return Words::UNREADABLE;
+        return Kind::UNREADABLE;
     }
-    Words::END
+    Kind::END
 }
 
 // Goes to the first token from a place on. No prefixed name begins within the `zeroing` bytes behind that place.
@@ -58,7 +53,7 @@ pub fn seek(doc: &[u8], st: &mut [usize; Layout::WORDS], at: usize, clear: usize
 // Goes behind the token at the cursor.
 pub fn advance(doc: &[u8], st: &mut [usize; Layout::WORDS])
     requires { ⌜ (Cursor (now doc) (now st) × TokenHere (now doc) (now st)) × (length (now st) ≡ words-size) ⌝ }
-    ensures { λ _. ⌜ Sought (now (doc .entry)) (getD (now (st .entry)) at-word 0 + getD (now (st .entry)) len-word 0) (now (st .entry)) (now (st .exit)) ⌝ }
+    ensures { λ _. ⌜ Sought (now (doc .entry)) (at-in (now (st .entry)) + len-in (now (st .entry))) (now (st .entry)) (now (st .exit)) ⌝ }
 {
     let at = st[Words::AT] + st[Words::LEN];
     let clear = st[Words::CLEAR];

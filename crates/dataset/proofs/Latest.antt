@@ -1,9 +1,8 @@
 -- Each name stands under the latest directive before it: what a derivation's parts are constructed under is what the tokens before them put in force,
 -- and no token of a part that is no directive changes it.
 use mathlib.Core.Path.{_≡_, refl, sym, ap, ap₂, _∙_, subst}
-use mathlib.Core.List.{List, [], _∷_, _++_, append-nil, append-assoc}
+use mathlib.Core.List.{List, [], _∷_, _++_}
 use mathlib.Core.Bool.{Bool, true, false, not, _&&_, _||_}
-use Prim.Native.Nat.{ℕ}
 use lib.Dec.{T, eqb}
 use Rattle.text.specs.Text.{Text, cond}
 use Rattle.text.proofs.Booleans.{all, and-0, and-1}
@@ -12,7 +11,7 @@ use Rattle.token.specs.Kind.{Kind, kind-code, among, at-prefix, at-base, PREFIX
 use Rattle.token.specs.Tokens.{Token}
 use Rattle.grammar.specs.Ebnf.{Expr, tok, nt, _⨾_, _∣_, star, opt, Tree, leaves, leaf, node, both, left, right, done, more, absent, present}
 use Rattle.grammar.specs.Meaning.{Parts, meaning}
-use Rattle.grammar.specs.Productions.{Nonterminal, Mode, trig, turtle, production, root, kind-of, Derivation, trigDoc, block, turtleDoc, statement, directive, prefixID, base as base-nt, sparqlPrefix, sparqlBase, triples}
+use Rattle.grammar.specs.Productions.{Nonterminal, Mode, trig, turtle, production, root, kind-of, Derivation, trigDoc, block, turtleDoc, statement, directive, prefixID, base as base-nt, sparqlPrefix, sparqlBase}
 use Rattle.grammar.proofs.Nonterminals.{nonterminals, nonterminal-code, each-nonterminal}
 use Rattle.environment.specs.Environment.{Environment, declare, set-base, start-environment}
 use Rattle.dataset.specs.Terms.{Quad}

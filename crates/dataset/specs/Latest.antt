@@ -1,15 +1,14 @@
 -- "each name under the latest directive before it": the same statements, each part of a document under what the tokens before it put in force.
 use mathlib.Core.List.{List, [], _++_}
-use mathlib.Core.Option.{none}
 use Rattle.text.specs.Text.{Text}
 use Rattle.token.specs.Tokens.{Token}
-use Rattle.grammar.specs.Ebnf.{Expr, nt, _∣_, star, Tree, leaves, node, both, left, right, done, more}
-use Rattle.grammar.specs.Meaning.{Parts, meaning}
-use Rattle.grammar.specs.Productions.{Mode, trig, turtle, production, root, kind-of, Derivation, trigDoc, block, turtleDoc, statement, directive}
+use Rattle.grammar.specs.Ebnf.{nt, _∣_, star, Tree, leaves, node, left, right, done, more}
+use Rattle.grammar.specs.Meaning.{meaning}
+use Rattle.grammar.specs.Productions.{Mode, trig, turtle, production, root, kind-of, Derivation, block, statement, directive}
 use Rattle.environment.specs.Environment.{Environment}
 use Rattle.dataset.specs.Terms.{Quad}
 use Rattle.dataset.specs.Constructors.{in-force}
-use Rattle.dataset.specs.Statements.{Value, action, in-graph}
+use Rattle.dataset.specs.Statements.{Value, action}
 
 -- The environment after some tokens, where `base` was lent.
 abbrev pub environment-after : Text → List Token → Environment

@@ -10,6 +10,7 @@ use libc::STDOUT_FILENO;
 use phrases::Phrases;
 use phrases::say;
 use reader::Reading;
+use token::Kind;
 
 // What the arguments said so far: a mode, or 2 for the name's ending; whether a file was named.
 struct Said {
@@ -76,7 +77,7 @@ fn may_end(
 
 // Notes whether a token of this kind is allowed, where it is one of those that are told.
 fn try_kind(
-    kind: u8,
+    kind: usize,
     page: &mut [u8],
     at: usize,
     mode: u8,
@@ -84,15 +85,14 @@ fn try_kind(
     rows: &mut [u32],
     terms: &mut [u32],
     store: &mut [u8],
-    found: &mut [bool; 32],
+    found: &mut [bool; Phrases::FOUND],
 ) {
     if !phrases::is_told(kind) {
         return;
     }
     let yes = diagnosis::is_allowed(page, at, kind, mode, work, rows, terms, store);
-    let k = kind as usize;
-    if k < 32 {
-        found[k] = yes;
+    if kind < Phrases::FOUND {
+        found[kind] = yes;
     }
 }
 
@@ -104,10 +104,10 @@ fn try_kinds(
     rows: &mut [u32],
     terms: &mut [u32],
     store: &mut [u8],
-    found: &mut [bool; 32],
+    found: &mut [bool; Phrases::FOUND],
 ) {
-    let mut kind: u8 = 1;
-    while kind <= 30 {
+    let mut kind: usize = Kind::IRIREF;
+    while kind <= Kind::LAST {
         try_kind(kind, page, at, mode, work, rows, terms, store, found);
         kind += 1;
     }
@@ -124,7 +124,7 @@ fn print_expected(
     terms: &mut [u32],
     store: &mut [u8],
 ) {
-    let mut found = [false; 32];
+    let mut found = [false; Phrases::FOUND];
     let end = may_end(page, at, mode, work, rows, terms, store);
     try_kinds(page, at, mode, work, rows, terms, store, &mut found);
     found[Phrases::END] = end;

@@ -1,51 +1,54 @@
 // The phrases that are printed, from one table with a line for each, which main lends to whoever prints.
 use libc::STDOUT_FILENO;
+use token::Kind;
 
 pub struct Phrases {}
 
 impl Phrases {
-    // The lines 1 to 30 name the kinds of token, by their numbers.
-    pub const PREFIX: usize = 2;
+    // The lines 1 to Kind::LAST name the kinds of token, by their numbers.
+    pub const PREFIX: usize = Kind::PNAME_NS;
 
-    pub const NAME: usize = 3;
+    pub const NAME: usize = Kind::PNAME_LN;
 
-    pub const END: usize = 31;
-    // The lines from here on say what the answers 1 to 16 mean.
-    pub const MEANINGS: usize = 31;
+    pub const END: usize = Kind::LAST + 1;
+    // So many of them may be found to be expected.
+    pub const FOUND: usize = Self::END + 1;
+    // The lines behind END say what the answers 1 to 16 mean.
+    pub const MEANINGS: usize = Self::END;
 
-    pub const MAY_NOT_END: usize = 48;
+    pub const MAY_NOT_END: usize = Self::MEANINGS + 17;
 
-    pub const COLON: usize = 49;
+    pub const COLON: usize = Self::MAY_NOT_END + 1;
 
-    pub const THEN: usize = 50;
+    pub const THEN: usize = Self::COLON + 1;
 
-    pub const REFUSED: usize = 51;
+    pub const REFUSED: usize = Self::THEN + 1;
 
-    pub const AT: usize = 52;
+    pub const AT: usize = Self::REFUSED + 1;
 
-    pub const STATEMENT: usize = 53;
+    pub const STATEMENT: usize = Self::AT + 1;
 
-    pub const STATEMENTS: usize = 54;
+    pub const STATEMENTS: usize = Self::STATEMENT + 1;
 
-    pub const UNREADABLE: usize = 55;
+    pub const UNREADABLE: usize = Self::STATEMENTS + 1;
 
-    pub const INDENT: usize = 56;
+    pub const INDENT: usize = Self::UNREADABLE + 1;
 
-    pub const EXPECTED: usize = 57;
+    pub const EXPECTED: usize = Self::INDENT + 1;
 
-    pub const COMMA: usize = 58;
+    pub const COMMA: usize = Self::EXPECTED + 1;
 
-    pub const OR: usize = 59;
+    pub const OR: usize = Self::COMMA + 1;
 
-    pub const CUT: usize = 60;
+    pub const CUT: usize = Self::OR + 1;
 
-    pub const BLANKS: usize = 61;
+    pub const BLANKS: usize = Self::CUT + 1;
 
-    pub const NO_STRING: usize = 62;
+    pub const NO_STRING: usize = Self::BLANKS + 1;
 
-    pub const NO_IRI: usize = 63;
+    pub const NO_IRI: usize = Self::NO_STRING + 1;
 
-    pub const NO_WORD: usize = 64;
+    pub const NO_WORD: usize = Self::NO_IRI + 1;
 }
 
 // Writes a part of a text.
@@ -109,17 +112,21 @@ pub fn meaning(document: &[u8], number: u8, at: usize) -> usize {
 }
 
 // Whether a kind has a phrase of its own. The productions NumericLiteral and String take their kinds alike, so that one stands for all.
-pub fn is_told(kind: u8) -> bool {
+pub fn is_told(kind: usize) -> bool {
     match kind {
-        9 | 10 | 12 | 29 | 30 => false,
+        Kind::DECIMAL
+        | Kind::DOUBLE
+        | Kind::STRING_LITERAL_SINGLE_QUOTE
+        | Kind::STRING_LITERAL_LONG_QUOTE
+        | Kind::STRING_LITERAL_LONG_SINGLE_QUOTE => false,
         _ => true,
     }
 }
 
-fn count(found: &[bool; 32]) -> usize {
+fn count(found: &[bool; Phrases::FOUND]) -> usize {
     let mut n: usize = 0;
     let mut k: usize = 0;
-    while k < 32 {
+    while k < Phrases::FOUND {
         if found[k] {
             n += 1;
         }
@@ -151,11 +158,11 @@ fn print_item(words: &[u8], k: usize, total: usize, left: usize) -> usize {
 }
 
 // The phrases of what was found, as a list with commas and 'or'.
-pub fn print_list(words: &[u8], found: &[bool; 32]) {
+pub fn print_list(words: &[u8], found: &[bool; Phrases::FOUND]) {
     let total = count(found);
     let mut left = total;
     let mut k: usize = 1;
-    while k < 32 {
+    while k < Phrases::FOUND {
         if found[k] {
             left = print_item(words, k, total, left);
         }

@@ -1,7 +1,7 @@
 -- Computed: each sample is one token of its kind; a trial.
 use mathlib.Core.Path.{_≡_, refl}
 use mathlib.Core.Bool.{Bool, true, false, _&&_}
-use mathlib.Core.List.{List, [], _∷_, _++_}
+use mathlib.Core.List.{List, [], _∷_}
 use Prim.Native.Nat.{ℕ}
 use native.Mathlib.Omega.{arith}
 use lib.Dec.{eqb}
@@ -9,7 +9,7 @@ use Rattle.text.specs.Text.{Text, ascii}
 use Rattle.text.proofs.Table.{_⇒_, Gives}
 use Rattle.token.specs.Kind.{Kind, kind-code, kinds, IRIREF, «STRING_LITERAL_QUOTE», comma}
 use Rattle.token.specs.Tokens.{Token, Lexeme, token, unreadable, lexemes, computing as token-computing}
-use Rattle.machine.specs.Read.{Lent, computing as read-computing}
+use Rattle.machine.specs.Read.{Lent, lends, computing as read-computing}
 use Rattle.diagnosis.specs.Samples.{samples, sample, with-sample, trial, allowed}
 use Rattle.diagnosis.proofs.Meaning.{as-lexemes, Probed}
 
@@ -30,7 +30,7 @@ each-sample = refl
 
 -- Behind an object.
 lent : Lent
-lent = record { work = 35840; rows = 50; terms = 50; store = 500 }
+lent = lends 35840 50 50 500
 
 behind-object : ℕ → Bool
 behind-object kind = allowed (trial (ascii "<x:s> <x:p> \"a\" ........") 16 kind 0 lent) 17

@@ -23,12 +23,12 @@ use Rattle.machine.specs.Frame.{statement}
 use Rattle.machine.specs.Memory.{start-memory}
 use Rattle.machine.specs.Read.{Lent, Answer, first-checks, mode-of, room-of, start-state, reported, read, read-checked, read-utf8, read-tokens}
 use Rattle.machine.proofs.Link.{machine-verdict}
-use Rattle.machine.proofs.Judge.{Judged, fine, eighth, other, Goes-before, judged, number-of, refusal-number}
+use Rattle.machine.proofs.Firsts.{number-of, refusal-number}
+use Rattle.machine.proofs.Judge.{Judged, fine, eighth, other, Goes-before, judged}
 use Rattle.machine.specs.Demand.{Meets}
 use Rattle.machine.proofs.Grammatical.{machine-grammar}
 use Rattle.machine.proofs.Demands.{zero-meets, meets-answer}
-use Rattle.diagnosis.specs.Samples.{with-sample, can-try, trial, allowed}
-use Rattle.diagnosis.proofs.Trials.{trial-reads}
+use Rattle.diagnosis.specs.Samples.{allowed}
 
 -- A text that is cut into these tokens and no more.
 unfoldable pub as-lexemes : List Token → List Lexeme
@@ -222,12 +222,3 @@ module _ (text : Text) (mode : ℕ) (base : Text) (lent : Lent) (place : ℕ) (b
       go : (read text mode base lent .number ≡ 0) ⊎ (8 ≤ read text mode base lent .number) → Says (read text mode base lent)
       go (inl e) = accepted-says e
       go (inr k) = checked (first-refusal (first-checks text mode base lent)) refl k (x .position)
-
--- The same of a trial.
-pub trial-begins : (page : Text) (at kind mode : ℕ) (lent : Lent) (before : List Token) (last : Token) → can-try page at kind ≡ true
-    → Probed (with-sample page at kind) (at + 1) before last → Reached (trial page at kind mode lent) (at + 1)
-    → (allowed (trial page at kind mode lent) (at + 1) ≡ true) ↔ BeginsGrammatical (mode-of mode) (before ++ last ∷ [])
-trial-begins page at kind mode lent before last can p x =
-    let e : trial page at kind mode lent ≡ read (with-sample page at kind) mode [] lent = trial-reads page at kind mode lent can in
-    subst (λ (a : Answer). (allowed a (at + 1) ≡ true) ↔ BeginsGrammatical (mode-of mode) (before ++ last ∷ [])) (sym e)
-    (allowed-begins (with-sample page at kind) mode [] lent (at + 1) before last p (subst (λ (a : Answer). Reached a (at + 1)) e x))

@@ -2,7 +2,7 @@
 use mathlib.Core.Path.{_≡_, refl, sym, ap, subst, _∙_}
 use mathlib.Core.Bool.{Bool, true, false}
 use mathlib.Core.List.{[], _++_}
-use Prim.Native.Nat.{ℕ, _+_, _*_, _-_, _<_, _≤_}
+use Prim.Native.Nat.{ℕ, suc, _+_, _*_, _-_, _<_, _≤_}
 use native.Mathlib.Omega.{arith}
 use lib.Dec.{leb}
 use lib.ListN.{length, take, drop, length-take, length-drop}
@@ -10,7 +10,8 @@ use borrow.Author.Tests.{lt-ltb, le-ltb, le-leb, lt-leb, eq-eqb, ne-eqb}
 use Rattle.text.specs.Text.{Text}
 use Rattle.text.specs.Slice.{over, over-at}
 use Rattle.text.proofs.Over.{over-part, over-at-front}
-use Rattle.machine.specs.Read.{Lent, Answer, read}
+use Rattle.token.specs.Kind.{last-kind}
+use Rattle.machine.specs.Read.{Answer, read}
 use Rattle.reader.specs.Reader.{LentSlices, lengths, Gives}
 use Rattle.reader.specs.declared.Reading.{Reading}
 use Rattle.diagnosis.specs.Samples.{samples, sample, with-sample, can-try, trial, allowed, page-after, Leaves, Takes, Tries}
@@ -47,20 +48,16 @@ module _ (text : Text) (place mode : ℕ) (old new : LentSlices) (x : Reading) (
 
 -- ---- The sample
 
-samples-size : length samples ≡ 248
+samples-size : length samples ≡ 8 * suc last-kind
 unfolding samples
 samples-size = refl
 
-sample-size : (kind : ℕ) → kind ≤ 30 → length (sample kind) ≡ 8
+sample-size : (kind : ℕ) → kind ≤ last-kind → length (sample kind) ≡ 8
 unfolding sample
 sample-size kind h =
     let z = samples-size in
     let n : length (drop (8 * kind) samples) ≡ length samples - 8 * kind = length-drop (8 * kind) samples in
     simp length-take (omega arith)
-
-pub trial-reads : (page : Text) (at kind mode : ℕ) (lent : Lent) → can-try page at kind ≡ true → trial page at kind mode lent ≡ read (with-sample page at kind) mode [] lent
-unfolding trial
-trial-reads page at kind mode lent e = simp e
 
 -- The sample was written over the part of the page from the place on, k bytes.
 pub sample-put : (at kind : ℕ) (x y : Text) (k : ℕ) → k ≡ length x - at → y ≡ over (take (8 * kind + 8 - 8 * kind) (drop (8 * kind) samples)) (take k (drop at x))
@@ -84,18 +81,18 @@ module _ (page : Text) (at kind mode : ℕ) (old : LentSlices) where
   pub no-kind : kind < 1 → Tries page at kind mode old page old false
   no-kind h = untried (simp (lt-leb 1 kind h))
 
-  pub past-kinds : 1 ≤ kind → 30 < kind → Tries page at kind mode old page old false
-  past-kinds k h = untried (simp (le-leb 1 kind k, lt-leb kind 30 h))
+  pub past-kinds : 1 ≤ kind → last-kind < kind → Tries page at kind mode old page old false
+  past-kinds k h = untried (simp (le-leb 1 kind k, lt-leb kind last-kind h))
 
-  pub no-room : 1 ≤ kind → kind ≤ 30 → length page < at + 8 → Tries page at kind mode old page old false
-  no-room k l h = untried (simp (le-leb 1 kind k, le-leb kind 30 l, lt-leb (at + 8) (length page) h))
+  pub no-room : 1 ≤ kind → kind ≤ last-kind → length page < at + 8 → Tries page at kind mode old page old false
+  no-room k l h = untried (simp (le-leb 1 kind k, le-leb kind last-kind l, lt-leb (at + 8) (length page) h))
 
   -- It is tried.
-  pub tried : (page′ : Text) (new : LentSlices) (r : Bool) → 1 ≤ kind → kind ≤ 30 → at + 8 ≤ length page → page′ ≡ over-at at (sample kind) page
+  pub tried : (page′ : Text) (new : LentSlices) (r : Bool) → 1 ≤ kind → kind ≤ last-kind → at + 8 ≤ length page → page′ ≡ over-at at (sample kind) page
       → Takes (take (at + 8) page′) (at + 1) mode old new r → Tries page at kind mode old page′ new r
   unfolding trial page-after
   tried page′ new r k l h e t =
-      let can : can-try page at kind ≡ true = simp (le-leb 1 kind k, le-leb kind 30 l, le-leb (at + 8) (length page) h) in
+      let can : can-try page at kind ≡ true = simp (le-leb 1 kind k, le-leb kind last-kind l, le-leb (at + 8) (length page) h) in
       let s : length (sample kind) ≡ 8 = sample-size kind l in
       let text : take (at + 8) page′ ≡ with-sample page at kind =
       ap (take (at + 8)) e ∙ ap (λ (n : ℕ). take (at + n) (over-at at (sample kind) page)) (sym s) ∙ over-at-front at (sample kind) page (omega arith) in

@@ -10,6 +10,7 @@ use lib.Dec.{eqb, leb, ltb}
 use lib.ListN.{length, take, drop}
 use Rattle.text.specs.Text.{Text, ascii, cond}
 use Rattle.text.specs.Slice.{over-at}
+use Rattle.token.specs.Kind.{last-kind}
 use Rattle.machine.specs.Read.{Lent, Answer, untouched, contents, read}
 use Rattle.reader.specs.Reader.{LentSlices, lengths}
 
@@ -30,7 +31,7 @@ with-sample page at kind = take at page ++ sample kind
 
 -- There is such a kind, and the page has room for its sample.
 abbrev pub can-try : Text → ℕ → ℕ → Bool
-can-try page at kind = leb 1 kind && leb kind 30 && leb (at + 8) (length page)
+can-try page at kind = leb 1 kind && leb kind last-kind && leb (at + 8) (length page)
 
 -- The answer for it; nothing is read where it cannot be tried.
 unfoldable pub trial : Text → ℕ → ℕ → ℕ → Lent → Answer

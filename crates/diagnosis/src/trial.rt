@@ -3,8 +3,10 @@ ghost use mathlib.Core.Path.{_≡_};
 ghost use Prim.Native.Nat.{_+_, _*_, _≤_};
 ghost use lib.ListN.{length, take, drop};
 ghost use Rattle.text.specs.Slice.{over-at};
+ghost use Rattle.token.specs.Kind.{last-kind};
 ghost use Rattle.reader.specs.Reader.{lent-slices};
 ghost use Rattle.diagnosis.specs.Samples.{sample, Takes, Tries};
+use token::Kind;
 
 // Eight bytes for each kind of token: LF, a sample, blanks.
 const SAMPLES: [u8; 248] =
@@ -12,7 +14,7 @@ const SAMPLES: [u8; 248] =
 
 // Puts the sample of a kind at a place.
 fn put_sample(page: &mut [u8], at: usize, kind: usize)
-    requires { ⌜ (kind ≤ 30) × (at ≤ length (now page)) ⌝ }
+    requires { ⌜ (kind ≤ last-kind) × (at ≤ length (now page)) ⌝ }
     ensures { λ _. ⌜ now (page .exit) ≡ over-at at (sample kind) (now (page .entry)) ⌝ }
 {
     let samples = SAMPLES;
@@ -48,7 +50,7 @@ fn is_taken(
 pub fn is_allowed(
     page: &mut [u8],
     at: usize,
-    kind: u8,
+    kind: usize,
     mode: u8,
     work: &mut [u8],
     rows: &mut [u32],
@@ -57,10 +59,10 @@ pub fn is_allowed(
 ) -> bool
     ensures { λ r. ⌜ Tries (now (page .entry)) at kind mode (lent-slices (now (work .entry)) (now (rows .entry)) (now (terms .entry)) (now (store .entry))) (now (page .exit)) (lent-slices (now (work .exit)) (now (rows .exit)) (now (terms .exit)) (now (store .exit))) r ⌝ }
 {
-    if kind < 1 {
+    if kind < Kind::IRIREF {
         return false;
     }
-    if 30 < kind {
+    if Kind::LAST < kind {
         return false;
     }
     if page.len() < 8 {
@@ -69,7 +71,7 @@ pub fn is_allowed(
     if page.len() - 8 < at {
         return false;
     }
-    put_sample(page, at, kind as usize);
+    put_sample(page, at, kind);
     let end = at + 8;
     is_taken(&page[..end], at + 1, mode, work, rows, terms, store)
 }

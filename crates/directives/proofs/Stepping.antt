@@ -5,10 +5,10 @@ use mathlib.Core.Bool.{Bool, false}
 use mathlib.Core.Option.{some}
 use Prim.Native.Nat.{ℕ, _+_}
 use native.Mathlib.Omega.{arith}
-use lib.ListN.{length, getD}
+use lib.ListN.{length}
 use denote.Ref.{RefT, at-last}
 use Rattle.text.specs.Text.{Text}
-use Rattle.token.specs.Kind.{kind-of-code, among, open-bracket, open-paren, close-bracket, close-paren}
+use Rattle.token.specs.Kind.{end-kind, unreadable-kind, kind-of-code, among, open-bracket, open-paren, close-bracket, close-paren}
 use Rattle.lexer.specs.Rest.{rest}
 use Rattle.grammar.specs.Productions.{Mode}
 use Rattle.environment.specs.Environment.{Environment}
@@ -19,7 +19,8 @@ use Rattle.machine.specs.Frame.{Open}
 use Rattle.machine.specs.Rules.{find-rule, rules}
 use Rattle.machine.specs.Refusals.{new-depth}
 use Rattle.machine.specs.Step.{State, first-refusal, tests}
-use Rattle.state.specs.Words.{kind-word, depth-word, graph-word, at-word, blanks-word, len-word, rows-word, terms-word, used-word}
+use Rattle.machine.proofs.Firsts.{fits-passes, passes-fits}
+use Rattle.state.specs.Words.{depth-word, graph-word, at-word, blanks-word, len-word, rows-word, terms-word, used-word, kind-in, depth-in, graph-in}
 use Rattle.state.specs.Cursor.{TokenHere}
 use Rattle.state.specs.Represents.{Tables, room-in, Represents}
 use Rattle.token_iri.specs.Addresses.{Leaves}
@@ -34,9 +35,9 @@ pub record Flat (k : ℕ) : Type 0 where
   pub opening : among (open-bracket ∷ open-paren ∷ []) (kind-of-code k) ≡ false
   pub closing : among (close-bracket ∷ close-paren ∷ []) (kind-of-code k) ≡ false
   pub low : k ≡ 0 → ⊥
-  pub high : k ≡ 31 → ⊥
+  pub high : k ≡ unreadable-kind → ⊥
 
-depth-flat : (doc : Text) (a : Held) (k : ℕ) → getD (a .st) kind-word 0 ≡ k → Flat k → getD (a .st) depth-word 0 ≡ new-depth (getD (a .st) depth-word 0) (here doc a)
+depth-flat : (doc : Text) (a : Held) (k : ℕ) → kind-in (a .st) ≡ k → Flat k → depth-in (a .st) ≡ new-depth (depth-in (a .st)) (here doc a)
 unfolding new-depth
 depth-flat doc a k e f = rw (e, f .opening, f .closing)
 
@@ -51,24 +52,24 @@ represents-in-force old m t work work' st st' e b l r =
       rows-held = rw (b .own rows-word (omega arith)) (r .rows-held);
       graph = b .own graph-word (omega arith) ∙ r .graph;
       graph-small = r .graph-small;
-      fits = record { rows = r .fits .rows; terms = r .fits .terms; store = r .fits .store };
+      fits = passes-fits (room-in t) (in-environment e m .1) (fits-passes (room-in t) m (r .fits));
       same-rows = rw (b .own rows-word (omega arith)) (r .same-rows);
       same-terms = rw (b .own terms-word (omega arith)) (r .same-terms);
       same-store = rw (b .own used-word (omega arith)) (r .same-store);
     }
 
 -- A token of the kind k, where o is open and p is open behind it.
-module _ (mode : Mode) (doc : Text) (o p : Open) (work rows terms store : RefT (List ℕ)) (st : List ℕ) (ready : Ready doc (held work rows terms store st)) (k : ℕ) (e : getD st kind-word 0 ≡ k) (flat : Flat k) where
+module _ (mode : Mode) (doc : Text) (o p : Open) (work rows terms store : RefT (List ℕ)) (st : List ℕ) (ready : Ready doc (held work rows terms store st)) (k : ℕ) (e : kind-in st ≡ k) (flat : Flat k) where
   abbrev a : Held
   a = held work rows terms store st
 
   abbrev before-it : Memory → State
-  before-it m = record { open-now = o; depth = getD st depth-word 0; memory = m }
+  before-it m = record { open-now = o; depth = depth-in st; memory = m }
 
   abbrev behind-it : Memory → State
-  behind-it m = record { open-now = p; depth = new-depth (getD st depth-word 0) (here doc a); memory = m }
+  behind-it m = record { open-now = p; depth = new-depth (depth-in st) (here doc a); memory = m }
 
-  nonzero : getD st kind-word 0 ≡ 0 → ⊥
+  nonzero : kind-in st ≡ end-kind → ⊥
   nonzero z = flat .low (sym e ∙ z)
 
   pub token-there : TokenHere doc st
@@ -82,7 +83,7 @@ module _ (mode : Mode) (doc : Text) (o p : Open) (work rows terms store : RefT (
     abbrev Refuses : ℕ → Type 0
     Refuses r = (old : Tables) (m : Memory) → Holding old m a → r ≡ or-zero (first-refusal (tests (room-in (tables-of a)) (before-it m) (here doc a) (some (return p)) (behind-it m)))
 
-    pub turns-passed : (st' : List ℕ) → Passed doc st st' (getD st depth-word 0) (getD st graph-word 0) → Refuses 0 → Turns mode doc o p a (held work rows terms store st') 0
+    pub turns-passed : (st' : List ℕ) → Passed doc st st' (depth-in st) (graph-in st) → Refuses 0 → Turns mode doc o p a (held work rows terms store st') 0
     turns-passed st' q refusal =
         turns-token mode doc o p a (held work rows terms store st') 0 token-there nonzero (return p)
         (record {
@@ -146,7 +147,7 @@ module _ (mode : Mode) (doc : Text) (o p : Open) (work rows terms store : RefT (
           holding = λ y. absurd (z y);
         })
 
-    pub turns-set : r ≡ 0 → (st'' : List ℕ) → Passed doc st' st'' (getD st' depth-word 0) (getD st' graph-word 0) → Turns mode doc o p a (after st'') 0
+    pub turns-set : r ≡ 0 → (st'' : List ℕ) → Passed doc st' st'' (depth-in st') (graph-in st') → Turns mode doc o p a (after st'') 0
     turns-set z st'' q =
         turns-token mode doc o p a (after st'') 0 token-there nonzero v
         (record {

@@ -2,7 +2,7 @@
 use mathlib.Core.Path.{_≡_}
 use mathlib.Core.List.{List, [], _∷_}
 use Prim.Native.Nat.{ℕ, _-_, _≤_, _<_}
-use lib.ListN.{length, getD, take, drop}
+use lib.ListN.{length, take, drop}
 use denote.Ref.{RefT}
 use Rattle.text.specs.Text.{Text, is, until}
 use Rattle.limits.specs.Limits.{prefix-limit}
@@ -10,7 +10,7 @@ use Rattle.token.specs.Kind.{Kind, at-prefix, at-base, PREFIX, BASE}
 use Rattle.grammar.specs.Productions.{Mode}
 use Rattle.environment.specs.Code.{environment-in, Usable}
 use Rattle.machine.specs.Frame.{Open, statement}
-use Rattle.state.specs.Words.{at-word, depth-word}
+use Rattle.state.specs.Words.{at-in, depth-in}
 use Rattle.state.specs.Cursor.{Cursor}
 use Rattle.token_iri.specs.Tests.{Sound}
 use Rattle.simulation.specs.Simulation.{Held, held, Ready, Turns}
@@ -39,10 +39,10 @@ pub record Prefixed (doc : Text) (at len n : ℕ) : Type 0 where
 -- What is open of a directive was read to its end. Rows and terms play no part.
 pub record Finishes (doc : Text) (o : Open) (work work' : RefT (List ℕ)) (st st' : List ℕ) (r : ℕ) : Type 0 where
   pub turns : (mode : Mode) (rows terms store : RefT (List ℕ)) → Ready doc (held work rows terms store st) → Turns mode doc o (statement []) (held work rows terms store st) (held work' rows terms store st') r
-  pub depth : r ≡ 0 → getD st' depth-word 0 ≡ getD st depth-word 0
+  pub depth : r ≡ 0 → depth-in st' ≡ depth-in st
 
 -- A directive was read.
 pub record Directs (doc : Text) (a b : Held) (r : ℕ) : Type 0 where
   pub turns : (mode : Mode) → Turns mode doc (statement []) (statement []) a b r
-  pub depth : r ≡ 0 → getD (b .st) depth-word 0 ≡ getD (a .st) depth-word 0
-  pub later : r ≡ 0 → getD (a .st) at-word 0 < getD (b .st) at-word 0
+  pub depth : r ≡ 0 → depth-in (b .st) ≡ depth-in (a .st)
+  pub later : r ≡ 0 → at-in (a .st) < at-in (b .st)

@@ -4,23 +4,26 @@ ghost use mathlib.Core.Path.{_≡_};
 ghost use mathlib.Core.Bool.{true};
 ghost use Prim.Native.Nat.{_-_};
 ghost use lib.ListN.{length, getD, take, drop};
+ghost use Rattle.token.specs.Kind.{kind-code, IRIREF};
 ghost use Rattle.machine.specs.Frame.{prefix-name, namespace-of, new-base, last-dot, directive};
 ghost use Rattle.environment.specs.Code.{words-size};
-ghost use Rattle.state.specs.Words.{kind-word, at-word, len-word};
+ghost use Rattle.state.specs.Words.{kind-in, at-in, len-in};
 ghost use Rattle.state.specs.Cursor.{Cursor};
 ghost use Rattle.token_iri.specs.Addresses.{DeclaresNamespace, DeclaresBase};
-ghost use Rattle.simulation.specs.Simulation.{code-among, held, Ready};
+ghost use Rattle.simulation.specs.Simulation.{code-among, Ready, at-call, at-entry, at-exit};
 ghost use Rattle.directives.specs.Directives.{directive-kinds, Able, Prefix, Prefixed, Finishes, Directs};
 use environment::Layout;
+use limits::Answer;
 use limits::Limits;
 use state::Words;
+use token::Kind;
 
 // The dot behind @prefix or @base.
 fn final_dot(doc: &&[u8], st: &mut [usize; Layout::WORDS]) -> u8
     requires { ⌜ Cursor (now (now doc)) (now st) × (length (now st) ≡ words-size) ⌝ }
     ensures { λ r. ⌜ ((work : _) → Finishes (now (now (doc .entry))) (directive last-dot) work work (now (st .entry)) (now (st .exit)) r) ⌝ }
 {
-    if st[Words::KIND] != 19 {
+    if st[Words::KIND] != Kind::DOT {
         return simulation::unexpected(*doc, st);
     }
     nodes::pass(doc, st);
@@ -29,8 +32,8 @@ fn final_dot(doc: &&[u8], st: &mut [usize; Layout::WORDS]) -> u8
 
 // The IRIREF at the cursor becomes the base.
 fn set_base(doc: &[u8], work: &mut [u8], st: &mut [usize; Layout::WORDS]) -> u8
-    requires { ⌜ Able (now doc) (now work) (now st) × (getD (now st) kind-word 0 ≡ 1) ⌝ }
-    ensures { λ r. ⌜ DeclaresBase (take (getD (now (st .entry)) len-word 0) (drop (getD (now (st .entry)) at-word 0) (now (doc .entry)))) (now (work .entry)) (now (work .exit)) (now (st .entry)) (now (st .exit)) r ⌝ }
+    requires { ⌜ Able (now doc) (now work) (now st) × (kind-in (now st) ≡ kind-code IRIREF) ⌝ }
+    ensures { λ r. ⌜ DeclaresBase (take (len-in (now (st .entry))) (drop (at-in (now (st .entry))) (now (doc .entry)))) (now (work .entry)) (now (work .exit)) (now (st .entry)) (now (st .exit)) r ⌝ }
 {
     let at = st[Words::AT];
     let end = at + st[Words::LEN];
@@ -42,7 +45,7 @@ fn base_part(doc: &&[u8], work: &mut &mut [u8], st: &mut [usize; Layout::WORDS],
     requires { ⌜ Able (now (now doc)) (now (now work)) (now st) ⌝ }
     ensures { λ r. ⌜ Finishes (now (now (doc .entry))) (directive (new-base dotted)) (now (work .entry)) (now (work .exit)) (now (st .entry)) (now (st .exit)) r ⌝ }
 {
-    if st[Words::KIND] != 1 {
+    if st[Words::KIND] != Kind::IRIREF {
         return simulation::unexpected(*doc, st);
     }
     let r = set_base(*doc, *work, st);
@@ -64,8 +67,8 @@ fn declare(
     from: usize,
     to: usize,
 ) -> u8
-    requires { ⌜ (Able (now doc) (now work) (now st) × (getD (now st) kind-word 0 ≡ 1)) × Prefix (now doc) from to ⌝ }
-    ensures { λ r. ⌜ DeclaresNamespace (take (getD (now (st .entry)) len-word 0) (drop (getD (now (st .entry)) at-word 0) (now (doc .entry)))) (take (to - from) (drop from (now (doc .entry)))) (now (work .entry)) (now (work .exit)) (now (st .entry)) (now (st .exit)) r ⌝ }
+    requires { ⌜ (Able (now doc) (now work) (now st) × (kind-in (now st) ≡ kind-code IRIREF)) × Prefix (now doc) from to ⌝ }
+    ensures { λ r. ⌜ DeclaresNamespace (take (len-in (now (st .entry))) (drop (at-in (now (st .entry))) (now (doc .entry)))) (take (to - from) (drop from (now (doc .entry)))) (now (work .entry)) (now (work .exit)) (now (st .entry)) (now (st .exit)) r ⌝ }
 {
     let at = st[Words::AT];
     let end = at + st[Words::LEN];
@@ -84,7 +87,7 @@ fn namespace_part(
     requires { ⌜ Able (now (now doc)) (now (now work)) (now st) × Prefix (now (now doc)) from to ⌝ }
     ensures { λ r. ⌜ Finishes (now (now (doc .entry))) (directive (namespace-of (take (to - from) (drop from (now (now (doc .entry))))) dotted)) (now (work .entry)) (now (work .exit)) (now (st .entry)) (now (st .exit)) r ⌝ }
 {
-    if st[Words::KIND] != 1 {
+    if st[Words::KIND] != Kind::IRIREF {
         return simulation::unexpected(*doc, st);
     }
     let r = declare(*doc, *work, st, from, to);
@@ -101,7 +104,7 @@ fn namespace_part(
 // How long the prefix of the PNAME_NS at the cursor is.
 fn prefix_length(doc: &[u8], st: &[usize; Layout::WORDS]) -> usize
     requires { ⌜ Cursor (now doc) (now st) × (length (now st) ≡ words-size) ⌝ }
-    ensures { λ r. ⌜ Prefixed (now (doc .entry)) (getD (now (st .entry)) at-word 0) (getD (now (st .entry)) len-word 0) r ⌝ }
+    ensures { λ r. ⌜ Prefixed (now (doc .entry)) (at-in (now (st .entry))) (len-in (now (st .entry))) r ⌝ }
 {
     let at = st[Words::AT];
     let end = at + st[Words::LEN];
@@ -118,13 +121,13 @@ fn prefix_part(
     requires { ⌜ Able (now (now doc)) (now (now work)) (now st) ⌝ }
     ensures { λ r. ⌜ Finishes (now (now (doc .entry))) (directive (prefix-name dotted)) (now (work .entry)) (now (work .exit)) (now (st .entry)) (now (st .exit)) r ⌝ }
 {
-    if st[Words::KIND] != 2 {
+    if st[Words::KIND] != Kind::PNAME_NS {
         return simulation::unexpected(*doc, st);
     }
     let at = st[Words::AT];
     let n = prefix_length(*doc, st);
     if Limits::PREFIX < n {
-        return 11;
+        return Answer::IRI_LENGTH;
     }
     nodes::pass(doc, st);
     namespace_part(doc, work, st, at, at + n, dotted)
@@ -139,18 +142,18 @@ pub fn directive(
     store: &mut &mut [u8],
     st: &mut [usize; Layout::WORDS],
 ) -> u8
-    requires { ⌜ Ready (now (now doc)) (held (now work) (now rows) (now terms) (now store) (now st)) × (code-among directive-kinds (getD (now st) kind-word 0) ≡ true) ⌝ }
-    ensures { λ r. ⌜ Directs (now (now (doc .entry))) (held (now (work .entry)) (now (rows .entry)) (now (terms .entry)) (now (store .entry)) (now (st .entry))) (held (now (work .exit)) (now (rows .exit)) (now (terms .exit)) (now (store .exit)) (now (st .exit))) r ⌝ }
+    requires { ⌜ Ready (now (now doc)) (at-call work rows terms store st) × (code-among directive-kinds (kind-in (now st)) ≡ true) ⌝ }
+    ensures { λ r. ⌜ Directs (now (now (doc .entry))) (at-entry work rows terms store st) (at-exit work rows terms store st) r ⌝ }
 {
     let kind = st[Words::KIND];
     nodes::pass(doc, st);
-    if kind == 5 {
+    if kind == Kind::AT_PREFIX {
         return prefix_part(doc, work, st, true);
     }
-    if kind == 16 {
+    if kind == Kind::PREFIX {
         return prefix_part(doc, work, st, false);
     }
-    if kind == 6 {
+    if kind == Kind::AT_BASE {
         return base_part(doc, work, st, true);
     }
     base_part(doc, work, st, false)

@@ -29,7 +29,7 @@ cell-size = prefix-limit + iri-limit
 abbrev pub base-place : ℕ
 base-place = prefixes-limit * cell-size
 
--- The array has the prefixes' lengths, the namespaces', the count and the base's length; the words behind them are the caller's own.
+-- The array has the prefixes' lengths, the namespaces', the count and the base's length; so many words behind them are the caller's own.
 abbrev pub count-word : ℕ
 count-word = prefixes-limit + prefixes-limit
 
@@ -39,8 +39,11 @@ base-word = suc count-word
 abbrev pub own-word : ℕ
 own-word = suc base-word
 
+abbrev pub own-words : ℕ
+own-words = 178
+
 abbrev pub words-size : ℕ
-words-size = own-word + 178
+words-size = own-word + own-words
 
 unfoldable pub binding : Text → List ℕ → ℕ → Binding
 binding work lens i = record {

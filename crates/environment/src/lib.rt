@@ -22,7 +22,9 @@ impl Layout {
 
     pub const OWN: usize = Self::COUNT + 2;
 
-    pub const WORDS: usize = Self::OWN + 178;
+    pub const OWN_WORDS: usize = 178;
+
+    pub const WORDS: usize = Self::OWN + Self::OWN_WORDS;
 
     // Nothing is declared, and there is no base.
     pub fn fresh() -> [usize; Layout::WORDS]
@@ -134,7 +136,7 @@ pub fn declare(
         return Declared::TooLong;
     }
     let n = at_most(lens[Layout::COUNT], Limits::PREFIXES);
-    let i = find(&work[0..], lens, prefix, n);
+    let i = find(work, lens, prefix, n);
     if Limits::PREFIXES <= i {
         return Declared::TooMany;
     }

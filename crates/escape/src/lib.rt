@@ -9,6 +9,7 @@ ghost use Rattle.text.specs.Slice.{over, over-at};
 ghost use Rattle.utf8.specs.Utf8.{width};
 ghost use Rattle.escape.specs.Escape.{hex-value, letter-value, no-character, bad-escape, unescape, unreserve};
 ghost use Rattle.escape.specs.Code.{step-outside, step-behind, step-name, step-digit, step-escape, step, four, bad, undone, low, Starts, Stretch, Written};
+use text::wide;
 
 // A place in an escaped text. left: 0 outside an escape, 9 behind a backslash, 1 to 8 where so many hex digits
 // are to come, 10 in a local name. n: how many bytes the piece that has just ended stands for; value: its
@@ -17,12 +18,6 @@ pub struct Scan {
     pub left: usize,
     pub value: usize,
     pub n: usize,
-}
-
-fn wide(b: u8) -> usize
-    ensures { λ r. ⌜ r ≡ b ⌝ }
-{
-    b as usize
 }
 
 fn hex_value(c: u8) -> usize

@@ -3,54 +3,37 @@
 use mathlib.Core.Path.{_≡_, refl, ap, _∙_, subst}
 use mathlib.Core.List.{List, [], _∷_, _++_}
 use Prim.Native.Nat.{ℕ}
-use Rattle.text.specs.Text.{Text}
 use Rattle.text.proofs.Table.{Example, _⇒_, Gives}
-use Rattle.machine.specs.Read.{Lent, Answer, zeroed, written, refusal, read, computing}
-use Rattle.reader.specs.Reader.{LentSlices, Gives as Leaves}
-use Rattle.reader.specs.declared.Reading.{Reading}
+use Rattle.machine.specs.Read.{Lent, Answer, filled, refusal, read, computing}
+use Rattle.reader.specs.Reader.{Gives as Leaves}
 use Rattle.examples.specs.Call.{utf8, S, Call, trig, turtle, with-rows, answered}
-use Rattle.examples.specs.Reader.{Answers, Each}
-
--- An accepted document with so many bytes: the counts, and what is written.
-abbrev accepted : ℕ → ℕ → ℕ → ℕ → List ℕ → List ℕ → Text → Answer
-accepted end r t s rows terms store =
-    record {
-      number = 0;
-      position = end;
-      row-count = r;
-      term-count = t;
-      store-count = s;
-      work = zeroed;
-      rows = written rows;
-      terms = written terms;
-      store = written store;
-    }
+use Rattle.examples.specs.Reader.{Each}
 
 -- One row, at the place `at`, of a document with so many bytes.
 abbrev integer-1 : ℕ → ℕ → Answer
 integer-1 end at =
-    accepted end 1 4 47
+    filled end 1 4 47
     (0 ∷ 1 ∷ 2 ∷ 4 ∷ at ∷ [])
     (1 ∷ 0 ∷ 3 ∷ 0 ∷ 0 ∷ 1 ∷ 3 ∷ 3 ∷ 0 ∷ 0 ∷ 1 ∷ 6 ∷ 40 ∷ 0 ∷ 0 ∷ 3 ∷ 46 ∷ 1 ∷ 3 ∷ 0 ∷ [])
     (utf8 "x:sx:phttp://www.w3.org/2001/XMLSchema#integer1")
 
 abbrev double-1e0 : ℕ → ℕ → Answer
 double-1e0 end at =
-    accepted end 1 4 49
+    filled end 1 4 49
     (0 ∷ 1 ∷ 2 ∷ 4 ∷ at ∷ [])
     (1 ∷ 0 ∷ 3 ∷ 0 ∷ 0 ∷ 1 ∷ 3 ∷ 3 ∷ 0 ∷ 0 ∷ 1 ∷ 6 ∷ 39 ∷ 0 ∷ 0 ∷ 3 ∷ 45 ∷ 4 ∷ 3 ∷ 0 ∷ [])
     (utf8 "x:sx:phttp://www.w3.org/2001/XMLSchema#double1.e0")
 
 abbrev string-D7FF : ℕ → ℕ → Answer
 string-D7FF end at =
-    accepted end 1 4 48
+    filled end 1 4 48
     (0 ∷ 1 ∷ 2 ∷ 4 ∷ at ∷ [])
     (1 ∷ 0 ∷ 3 ∷ 0 ∷ 0 ∷ 1 ∷ 3 ∷ 3 ∷ 0 ∷ 0 ∷ 1 ∷ 6 ∷ 39 ∷ 0 ∷ 0 ∷ 3 ∷ 45 ∷ 3 ∷ 3 ∷ 0 ∷ [])
     (utf8 "x:sx:phttp://www.w3.org/2001/XMLSchema#string\u{d7ff}")
 
 abbrev cases : List (Example Call Answer)
 cases =
-    trig [] ⇒ accepted 0 0 0 0 [] [] []
+    trig [] ⇒ filled 0 0 0 0 [] [] []
     ∷ trig (S "1.") ⇒ integer-1 14 12
     ∷ trig (S "1.e0.") ⇒ double-1e0 17 12
     ∷ trig (S "1") ⇒ refusal 8 13

@@ -3,7 +3,7 @@ use mathlib.Core.Path.{refl}
 use mathlib.Core.List.{List, [], _∷_, _++_}
 use Prim.Native.Nat.{ℕ}
 use Rattle.text.proofs.Table.{_⇒_, Gives}
-use Rattle.machine.specs.Read.{Lent, After, kept, zeroed, written, contents, computing}
+use Rattle.machine.specs.Read.{Lent, lends, After, kept, zeroed, written, contents, computing}
 use Rattle.examples.specs.Call.{utf8, lines, times, S, ample-words, ample-bytes, ample, call, trig, turtle, against, within, with-rows, with-store, _at_, verdict, accepts, short, object-text, afterwards, printed}
 
 -- ---- Lent memory
@@ -25,7 +25,7 @@ memory = refl
 
 -- The slices are ample, but for a work slice of so many bytes.
 abbrev with-work : ℕ → Lent
-with-work n = record { work = n; rows = ample-words; terms = ample-words; store = ample-bytes }
+with-work n = lends n ample-words ample-words ample-bytes
 
 abbrev all-kept : List After
 all-kept = kept ∷ kept ∷ kept ∷ kept ∷ []

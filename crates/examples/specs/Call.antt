@@ -9,7 +9,7 @@ use Rattle.limits.specs.Limits.{work-size}
 use Rattle.utf8.specs.Utf8.{encodes}
 use Rattle.table.specs.Layout.{Slices}
 use Rattle.table.specs.LongForm.{long-form, Written, write}
-use Rattle.machine.specs.Read.{Lent, After, kept, zeroed, written, Answer, read}
+use Rattle.machine.specs.Read.{Lent, lends, After, kept, zeroed, written, Answer, read}
 
 -- ---- Texts
 
@@ -38,12 +38,8 @@ ample-words = 100000
 abbrev pub ample-bytes : ℕ
 ample-bytes = 1000000
 
--- Slices of so many row words, term words and store bytes.
-abbrev pub lends : ℕ → ℕ → ℕ → Lent
-lends rows terms store = record { work = work-size; rows = rows; terms = terms; store = store }
-
 abbrev pub ample : Lent
-ample = lends ample-words ample-words ample-bytes
+ample = lends work-size ample-words ample-words ample-bytes
 
 -- A call of the reader: what is lent to it.
 pub record Call : Type 0 where
@@ -67,7 +63,7 @@ against base doc = call 0 base ample doc
 
 -- In mode 0, with slices of so many row words, term words and store bytes; with row words or store bytes alone that are not ample.
 abbrev pub within : ℕ → ℕ → ℕ → Text → Call
-within rows terms store doc = call 0 [] (lends rows terms store) doc
+within rows terms store doc = call 0 [] (lends work-size rows terms store) doc
 
 abbrev pub with-rows : ℕ → Text → Call
 with-rows n doc = within n ample-words ample-bytes doc

@@ -1,6 +1,6 @@
 -- The machine's step: what is left after a token is what the trees leave.
 use mathlib.Core.Path.{_≡_, refl, sym, ap₂, _∙_, subst₂}
-use mathlib.Core.Logic.{_⊎_, ⊎-elim}
+use mathlib.Core.Logic.{⊎-elim}
 use mathlib.Core.List.{List, [], _∷_, nil≢cons, head-eq-of-cons-eq, tail-eq-of-cons-eq}
 use mathlib.Core.Bool.{Bool}
 use Prim.Native.Nat.{ℕ, zero, suc, _≤_, _<_}

@@ -17,17 +17,17 @@ use Rattle.utf8.specs.Scalar.{Scalars, Encodes}
 use Rattle.utf8.proofs.Tests.{by}
 use Rattle.utf8.proofs.Encoding.{width-pos}
 use Rattle.utf8.proofs.Decoding.{valid-encoded, encoded-valid, encodes-append, scalars-right}
-use Rattle.token.specs.Kind.{kind-of-code}
+use Rattle.token.specs.Kind.{last-kind, kind-of-code}
 use Rattle.token.specs.Regular.{Item, Match, nothing, hit, Longest, step, later, best, size}
 use Rattle.token.specs.Terminals.{terminals, long-terminals, tripled, terminals-at, token-at}
-use Rattle.token.specs.Tokens.{Lexeme, token, unreadable, Cutting, between, comment, white-space, line-end, passed, lexemes-from}
+use Rattle.token.specs.Tokens.{Lexeme, token, unreadable, Cutting, between, comment, white-space, line-end, passed, trig-cuts, lexemes-from}
 use Rattle.token.proofs.Longest.{best-longest}
 use Rattle.automaton.specs.Run.{tok, answer}
 use Rattle.automaton.specs.declared.Token.{Token}
 use Rattle.automaton.specs.declared.Next.{Next}
 use Rattle.lexer_words.specs.Ahead.{Clear, NextAt}
 use Rattle.token.proofs.Sizes.{length-encodes}
-use Rattle.token.proofs.Cutting.{blank-width, cut-blank, cut-nothing, cut-hit}
+use Rattle.token.proofs.Cutting.{blank-width, cut-nothing, cut-hit, lexemes-inside, cut-blank, cut-comment}
 use Rattle.lexer_words.proofs.Clearing.{clear-drop}
 use Rattle.lexer_words.proofs.Muting.{Passes, best-passes}
 use Rattle.lexer.specs.Blanks.{blanks, after-blanks, BlanksAt}
@@ -77,14 +77,14 @@ module _ (c : ℕ) (cs : List ℕ) where
   blank-off e = (rw e, rw e)
 
 lexemes-blanks : (doc : Text) (b : Bool) (cs : List ℕ) (at : ℕ)
-    → lexemes-from doc (place b) at cs ≡ lexemes-from doc between (at + blanks b cs) (after-blanks b cs)
+    → lexemes-from trig-cuts doc (place b) at cs ≡ lexemes-from trig-cuts doc between (at + blanks b cs) (after-blanks b cs)
 unfolding lexemes-from blanks after-blanks
 lexemes-blanks doc true [] at = refl
 lexemes-blanks doc false [] at = refl
 lexemes-blanks doc true (c ∷ cs) at =
-    ap (λ (p : Cutting). lexemes-from doc p (at + width c) cs) (same-place (line-end c))
+    cut-comment doc at c cs ∙ ap (λ (p : Cutting). lexemes-from trig-cuts doc p (at + width c) cs) (same-place (line-end c))
     ∙ lexemes-blanks doc (not (line-end c)) cs (at + width c)
-    ∙ ap (λ (n : ℕ). lexemes-from doc between n (after-blanks (not (line-end c)) cs)) (add-assoc at (width c) (blanks (not (line-end c)) cs))
+    ∙ ap (λ (n : ℕ). lexemes-from trig-cuts doc between n (after-blanks (not (line-end c)) cs)) (add-assoc at (width c) (blanks (not (line-end c)) cs))
   where
     same-place : (v : Bool) → cond v between comment ≡ place (not v)
     same-place true = refl
@@ -95,16 +95,16 @@ lexemes-blanks doc false (c ∷ cs) at = go (lexemes-blanks doc (is "#" c) cs (a
     same-place true = refl
     same-place false = refl
 
-    go : lexemes-from doc (place (is "#" c)) (at + 1) cs ≡ lexemes-from doc between (at + 1 + blanks (is "#" c) cs) (after-blanks (is "#" c) cs)
-        → lexemes-from doc between at (c ∷ cs) ≡ lexemes-from doc between (at + blanks false (c ∷ cs)) (after-blanks false (c ∷ cs))
+    go : lexemes-from trig-cuts doc (place (is "#" c)) (at + 1) cs ≡ lexemes-from trig-cuts doc between (at + 1 + blanks (is "#" c) cs) (after-blanks (is "#" c) cs)
+        → lexemes-from trig-cuts doc between at (c ∷ cs) ≡ lexemes-from trig-cuts doc between (at + blanks false (c ∷ cs)) (after-blanks false (c ∷ cs))
     go ih =
         by (white-space c || is "#" c)
         (λ e.
         let z : at + 1 + blanks (is "#" c) cs ≡ at + suc (blanks (is "#" c) cs) = omega arith in
-        cut-blank doc at c cs e ∙ ap (λ (p : Cutting). lexemes-from doc p (at + 1) cs) (same-place (is "#" c)) ∙ ih
-        ∙ ap (λ (n : ℕ). lexemes-from doc between n (after-blanks (is "#" c) cs)) z
-        ∙ sym (ap₂ (λ (n : ℕ) (x : List ℕ). lexemes-from doc between (at + n) x) (blank-on c cs e .0) (blank-on c cs e .1)))
-        (λ e. sym (ap₂ (λ (n : ℕ) (x : List ℕ). lexemes-from doc between n x) (ap (λ (n : ℕ). at + n) (blank-off c cs e .0) ∙ add-zero at) (blank-off c cs e .1)))
+        cut-blank doc at c cs e ∙ ap (λ (p : Cutting). lexemes-from trig-cuts doc p (at + 1) cs) (same-place (is "#" c)) ∙ ih
+        ∙ ap (λ (n : ℕ). lexemes-from trig-cuts doc between n (after-blanks (is "#" c) cs)) z
+        ∙ sym (ap₂ (λ (n : ℕ) (x : List ℕ). lexemes-from trig-cuts doc between (at + n) x) (blank-on c cs e .0) (blank-on c cs e .1)))
+        (λ e. sym (ap₂ (λ (n : ℕ) (x : List ℕ). lexemes-from trig-cuts doc between n x) (ap (λ (n : ℕ). at + n) (blank-off c cs e .0) ∙ add-zero at) (blank-off c cs e .1)))
 
 -- What comes after the blanks is no blank.
 no-blank : (b : Bool) (cs : List ℕ) (c : ℕ) (ds : List ℕ) → after-blanks b cs ≡ c ∷ ds → (white-space c || is "#" c) ≡ false
@@ -117,21 +117,6 @@ no-blank false (x ∷ cs) c ds e =
     (λ f. let z : x ≡ c = (let g : x ∷ cs ≡ c ∷ ds = rw f at e in cc) in subst (λ (y : ℕ). (white-space y || is "#" y) ≡ false) z f)
 
 -- ---- Tokens
-
--- The bytes of a token are passed.
-lexemes-inside : (doc : Text) (front back : List ℕ) (at m : ℕ) → m ≡ size width front
-    → lexemes-from doc (passed m) at (front ++ back) ≡ lexemes-from doc between (at + m) back
-unfolding lexemes-from
-lexemes-inside doc [] back at m e = ap₂ (λ (p : Cutting) (n : ℕ). lexemes-from doc p n back) (ap passed e) (let z : at ≡ at + m = omega arith in z)
-lexemes-inside doc (c ∷ front) back at m e = go m e (width-pos c) (λ j f. lexemes-inside doc front back (at + width c) j f)
-  where
-    go : (m : ℕ) → m ≡ size width (c ∷ front) → 0 < width c
-        → ((j : ℕ) → j ≡ size width front → lexemes-from doc (passed j) (at + width c) (front ++ back) ≡ lexemes-from doc between (at + width c + j) back)
-        → lexemes-from doc (passed m) at (c ∷ (front ++ back)) ≡ lexemes-from doc between (at + m) back
-    go zero e h ih = absurd (omega arith)
-    go (suc m) e h ih =
-        let z : at + width c + (suc m - width c) ≡ at + suc m = omega arith in
-        ih (suc m - width c) (omega arith) ∙ ap (λ (n : ℕ). lexemes-from doc between n back) z
 
 -- A token takes its first code point, and so many bytes more.
 record Taken (c : ℕ) (cs : List ℕ) (k n : ℕ) : Type 0 where
@@ -167,17 +152,17 @@ some-kind cs n e =
     fin (hit zero x) u e = subst T (sym u) tt
     fin (hit (suc k) x) u e = let z : suc k ≡ 0 = cc in omega arith
 
--- The kinds have the numbers up to 30.
-few-kinds : (cs : List ℕ) (k n : ℕ) → token-at cs ≡ hit k n → k ≤ 30
+-- The kinds have the numbers up to the last.
+few-kinds : (cs : List ℕ) (k n : ℕ) → token-at cs ≡ hit k n → k ≤ last-kind
 unfolding token-at
 few-kinds cs k n e =
     by (tripled cs)
-    (λ f. fin (best width long-terminals cs) (best-passes (λ j. leb j 30) cs long-terminals tt) (rw f at e))
-    (λ f. fin (best width terminals cs) (best-passes (λ j. leb j 30) cs terminals tt) (rw f at e))
+    (λ f. fin (best width long-terminals cs) (best-passes (λ j. leb j last-kind) cs long-terminals tt) (rw f at e))
+    (λ f. fin (best width terminals cs) (best-passes (λ j. leb j last-kind) cs terminals tt) (rw f at e))
   where
-    fin : (m : Match) → Passes (λ j. leb j 30) m → m ≡ hit k n → k ≤ 30
+    fin : (m : Match) → Passes (λ j. leb j last-kind) m → m ≡ hit k n → k ≤ last-kind
     fin nothing u e = let z : _≡_ {A = ℕ} 0 1 = cc in absurd (omega arith)
-    fin (hit j x) u e = let z : j ≡ k = cc in subst (λ i. i ≤ 30) z (leb-true j 30 u)
+    fin (hit j x) u e = let z : j ≡ k = cc in subst (λ i. i ≤ last-kind) z (leb-true j last-kind u)
 
 empty-none : (k n : ℕ) → token-at [] ≡ hit k n → ⊥
 unfolding token-at
@@ -214,16 +199,16 @@ module _ (doc : Text) (at b : ℕ) (v : first-bad (drop at doc) ≡ none) (e : b
       subst (λ (x : Text). Clear x (n - b)) (drop-drop b at doc)
       (clear-drop (drop at doc) n b (p .front) (after-blanks false text) v c (p .whole) (e ∙ p .sized) (ap decode (drop-drop b at doc) ∙ blanks-text))
 
-  rest-blanks : rest doc at ≡ lexemes-from doc between (at + b) (after-blanks false text)
+  rest-blanks : rest doc at ≡ lexemes-from trig-cuts doc between (at + b) (after-blanks false text)
   unfolding rest
-  rest-blanks = lexemes-blanks doc false text at ∙ ap (λ (n : ℕ). lexemes-from doc between (at + n) (after-blanks false text)) (sym e)
+  rest-blanks = lexemes-blanks doc false text at ∙ ap (λ (n : ℕ). lexemes-from trig-cuts doc between (at + n) (after-blanks false text)) (sym e)
 
   -- At the end of the document.
   pub cut-end : length doc ≤ at + b → rest doc at ≡ []
   unfolding lexemes-from encodes
   cut-end h = rest-blanks ∙ fin (after-blanks false text) (sym (left .bytes) ∙ drop-of-length-le doc {i = at + b} h)
     where
-      fin : (cs : List ℕ) → encodes cs ≡ [] → lexemes-from doc between (at + b) cs ≡ []
+      fin : (cs : List ℕ) → encodes cs ≡ [] → lexemes-from trig-cuts doc between (at + b) cs ≡ []
       fin [] z = refl
       fin (c ∷ cs) z =
           let l = length-encodes (c ∷ cs) in
@@ -240,12 +225,12 @@ module _ (doc : Text) (at b : ℕ) (v : first-bad (drop at doc) ≡ none) (e : b
     unfolding encodes
     cut-none h z = rest-blanks ∙ fin (after-blanks false text) refl what
       where
-        fin : (cs : List ℕ) → after-blanks false text ≡ cs → tok k n ≡ answer (token-at cs) → lexemes-from doc between (at + b) cs ≡ unreadable (at + b) ∷ []
+        fin : (cs : List ℕ) → after-blanks false text ≡ cs → tok k n ≡ answer (token-at cs) → lexemes-from trig-cuts doc between (at + b) cs ≡ unreadable (at + b) ∷ []
         fin [] g w = let l = sym (length-drop (at + b) doc) ∙ ap length (left .bytes ∙ ap encodes g) in absurd (omega arith)
         fin (c ∷ cs) g w = go (token-at (c ∷ cs)) refl
           where
-            go : (m : Match) → token-at (c ∷ cs) ≡ m → lexemes-from doc between (at + b) (c ∷ cs) ≡ unreadable (at + b) ∷ []
-            go nothing u = cut-nothing doc (at + b) c cs (no-blank false text c cs g) u
+            go : (m : Match) → token-at (c ∷ cs) ≡ m → lexemes-from trig-cuts doc between (at + b) (c ∷ cs) ≡ unreadable (at + b) ∷ []
+            go nothing u = cut-nothing trig-cuts doc between (at + b) c cs (no-blank false text c cs g) u
             go (hit j x) u =
                 let y : j ≡ 0 = ap (λ (t : Token). t .kind) (sym (w ∙ ap answer u)) ∙ z in
                 absurd (some-kind (c ∷ cs) x (u ∙ ap (λ (i : ℕ). hit i x) y))
@@ -254,7 +239,7 @@ module _ (doc : Text) (at b : ℕ) (v : first-bad (drop at doc) ≡ none) (e : b
     abbrev pub CutToken : Type 0
     CutToken =
         (rest doc at ≡ token (record { kind = kind-of-code k; start = at + b; text = take n (drop (at + b) doc) }) ∷ rest doc (at + b + n))
-        × ((first-bad (drop (at + b + n) doc) ≡ none) × ((k ≤ 30) × (0 < n)))
+        × ((first-bad (drop (at + b + n) doc) ≡ none) × ((k ≤ last-kind) × (0 < n)))
 
     cut-some : (c : ℕ) (cs : List ℕ) → after-blanks false text ≡ c ∷ cs → token-at (c ∷ cs) ≡ hit k n → CutToken
     unfolding rest encodes
@@ -268,11 +253,11 @@ module _ (doc : Text) (at b : ℕ) (v : first-bad (drop at doc) ≡ none) (e : b
         let sc : Scalars (t .back) = scalars-right (c ∷ t .front) (t .back) (subst Scalars (g ∙ ap (λ (x : List ℕ). c ∷ x) (t .whole)) (left .scalars)) in
         let q = encoded-valid (drop (at + b + n) doc) (t .back) (record { scalars = sc; bytes = d }) in
         let z : at + b + width c + (n - width c) ≡ at + b + n = omega arith in
-        let l : lexemes-from doc (passed (n - width c)) (at + b + width c) cs ≡ lexemes-from doc between (at + b + n) (decode (drop (at + b + n) doc)) =
-        ap (lexemes-from doc (passed (n - width c)) (at + b + width c)) (t .whole)
-        ∙ lexemes-inside doc (t .front) (t .back) (at + b + width c) (n - width c) (omega arith)
-        ∙ ap₂ (λ (i : ℕ) (x : List ℕ). lexemes-from doc between i x) z (sym (q .1)) in (
-          rest-blanks ∙ ap (lexemes-from doc between (at + b)) g ∙ cut-hit doc (at + b) c cs (no-blank false text c cs g) k n u
+        let l : lexemes-from trig-cuts doc (passed (n - width c)) (at + b + width c) cs ≡ lexemes-from trig-cuts doc between (at + b + n) (decode (drop (at + b + n) doc)) =
+        ap (lexemes-from trig-cuts doc (passed (n - width c)) (at + b + width c)) (t .whole)
+        ∙ lexemes-inside trig-cuts doc (t .front) (t .back) (at + b + width c) (n - width c) (omega arith)
+        ∙ ap₂ (λ (i : ℕ) (x : List ℕ). lexemes-from trig-cuts doc between i x) z (sym (q .1)) in (
+          rest-blanks ∙ ap (lexemes-from trig-cuts doc between (at + b)) g ∙ cut-hit trig-cuts doc between (at + b) c cs (no-blank false text c cs g) k n u
               ∙ ap (λ (x : List Lexeme). token (record { kind = kind-of-code k; start = at + b; text = take n (drop (at + b) doc) }) ∷ x) l,
           (q .0, (few-kinds (c ∷ cs) k n u, let w = width-pos c in omega arith)),
         )
@@ -304,7 +289,7 @@ pub record Cut (doc : Text) (at b : ℕ) (r : Next) : Type 0 where
   pub valid : first-bad (drop (at + b + r .len) doc) ≡ none
   pub here-valid : first-bad (drop (at + b) doc) ≡ none
   pub matched : token-at (decode (drop (at + b) doc)) ≡ hit (r .kind) (r .len)
-  pub known : r .kind ≤ 30
+  pub known : r .kind ≤ last-kind
   pub some-byte : 0 < r .len
   pub clear : Clear (drop (at + b + r .len) doc) (r .clear)
 

@@ -21,6 +21,7 @@ use lexer_words::numbers::dot;
 use lexer_words::numbers::integer;
 use lexer_words::numbers::signed;
 use lexer_words::tags::at_sign;
+use token::Kind;
 
 // WS ::= #x20 | #x9 | #xD | #xA
 fn is_white_space(b: u8) -> bool
@@ -62,30 +63,36 @@ fn carets(s: &[u8]) -> Token
     ensures { λ r. ⌜ TokenAt (now (s .entry)) r ⌝ }
 {
     if s.len() <= 1 {
-        return Token { kind: 0, len: 0 };
+        return Token {
+            kind: Kind::NONE,
+            len: 0,
+        };
     }
     if s[1] == b'^' {
         return Token {
-            kind: Token::CARETS,
+            kind: Kind::CARETS,
             len: 2,
         };
     }
-    Token { kind: 0, len: 0 }
+    Token {
+        kind: Kind::NONE,
+        len: 0,
+    }
 }
 
 // The kind of a mark of one byte that begins no other token, else 0.
-fn mark_kind(b: u8) -> u8
+fn mark_kind(b: u8) -> usize
     ensures { λ r. ⌜ r ≡ mark-code b ⌝ }
 {
     match b {
-        b',' => Token::COMMA,
-        b';' => Token::SEMICOLON,
-        b'[' => Token::OPEN_BRACKET,
-        b']' => Token::CLOSE_BRACKET,
-        b'(' => Token::OPEN_PAREN,
-        b')' => Token::CLOSE_PAREN,
-        b'{' => Token::OPEN_BRACE,
-        b'}' => Token::CLOSE_BRACE,
+        b',' => Kind::COMMA,
+        b';' => Kind::SEMICOLON,
+        b'[' => Kind::OPEN_BRACKET,
+        b']' => Kind::CLOSE_BRACKET,
+        b'(' => Kind::OPEN_PAREN,
+        b')' => Kind::CLOSE_PAREN,
+        b'{' => Kind::OPEN_BRACE,
+        b'}' => Kind::CLOSE_BRACE,
         _ => 0,
     }
 }
@@ -109,7 +116,7 @@ pub fn next_token(s: &[u8], clear: usize) -> Next
 {
     if s.len() == 0 {
         return Next {
-            kind: 0,
+            kind: Kind::NONE,
             len: 0,
             clear: 0,
         };
@@ -129,8 +136,8 @@ pub fn next_token(s: &[u8], clear: usize) -> Next
             quoted(
                 s,
                 b'"',
-                Token::STRING_LITERAL_QUOTE,
-                Token::STRING_LITERAL_LONG_QUOTE,
+                Kind::STRING_LITERAL_QUOTE,
+                Kind::STRING_LITERAL_LONG_QUOTE,
             ),
             clear,
         ),
@@ -138,8 +145,8 @@ pub fn next_token(s: &[u8], clear: usize) -> Next
             quoted(
                 s,
                 b'\'',
-                Token::STRING_LITERAL_SINGLE_QUOTE,
-                Token::STRING_LITERAL_LONG_SINGLE_QUOTE,
+                Kind::STRING_LITERAL_SINGLE_QUOTE,
+                Kind::STRING_LITERAL_LONG_SINGLE_QUOTE,
             ),
             clear,
         ),

@@ -8,6 +8,7 @@ ghost use Rattle.lexer_quoted.specs.Stops.{iri-stop};
 use crate::escapes::uchar;
 use automaton::Token;
 use characters::bytes::is_iri;
+use token::Kind;
 
 // Whether a run of an IRIREF's text stops at a byte. By comparisons, which the compiler makes for many bytes at once.
 fn stops(b: u8) -> bool
@@ -84,18 +85,27 @@ pub fn iriref(s: &[u8]) -> Token
         if b == b'\\' {
             let n = uchar(s, i + 1);
             if n == 0 {
-                return Token { kind: 0, len: 0 };
+                return Token {
+                    kind: Kind::NONE,
+                    len: 0,
+                };
             }
             i = next_stop(s, i + 1 + n);
         } else {
             if b == b'>' {
                 return Token {
-                    kind: Token::IRIREF,
+                    kind: Kind::IRIREF,
                     len: i + 1,
                 };
             }
-            return Token { kind: 0, len: 0 };
+            return Token {
+                kind: Kind::NONE,
+                len: 0,
+            };
         }
     }
-    Token { kind: 0, len: 0 }
+    Token {
+        kind: Kind::NONE,
+        len: 0,
+    }
 }

@@ -8,10 +8,11 @@ ghost use Rattle.automaton.specs.Run.{TokenAt};
 ghost use Rattle.lexer_quoted.specs.Quotes.{Short, Long};
 use crate::escapes::escape;
 use automaton::Token;
+use token::Kind;
 
 // STRING_LITERAL_QUOTE ::= '"' ([^#x22#x5C#xA#xD] | ECHAR | UCHAR)* '"'
 // STRING_LITERAL_SINGLE_QUOTE ::= "'" ([^#x27#x5C#xA#xD] | ECHAR | UCHAR)* "'"
-fn short_string(s: &[u8], quote: u8, kind: u8) -> Token
+fn short_string(s: &[u8], quote: u8, kind: usize) -> Token
     requires { ⌜ (0 < length (now s)) × (getD (now s) 0 0 ≡ quote) × Short quote kind × (tripled (now s) ≡ false) ⌝ }
     ensures { λ r. ⌜ TokenAt (now (s .entry)) r ⌝ }
 {
@@ -25,28 +26,40 @@ fn short_string(s: &[u8], quote: u8, kind: u8) -> Token
             };
         }
         if b == b'\n' {
-            return Token { kind: 0, len: 0 };
+            return Token {
+                kind: Kind::NONE,
+                len: 0,
+            };
         }
         if b == b'\r' {
-            return Token { kind: 0, len: 0 };
+            return Token {
+                kind: Kind::NONE,
+                len: 0,
+            };
         }
         if b == b'\\' {
             let n = escape(s, i + 1);
             if n == 0 {
-                return Token { kind: 0, len: 0 };
+                return Token {
+                    kind: Kind::NONE,
+                    len: 0,
+                };
             }
             i = i + 1 + n;
         } else {
             i = text::next_of_four(s, i + 1, quote, b'\n', b'\r', b'\\');
         }
     }
-    Token { kind: 0, len: 0 }
+    Token {
+        kind: Kind::NONE,
+        len: 0,
+    }
 }
 
 // STRING_LITERAL_LONG_QUOTE ::= '"""' (('"' | '""')? ([^"\] | ECHAR | UCHAR))* '"""'
 // STRING_LITERAL_LONG_SINGLE_QUOTE ::= "'''" (("'" | "''")? ([^'\] | ECHAR | UCHAR))* "'''"
 // The first three quotes in a row end it; run is how many stand before i.
-fn long_string(s: &[u8], quote: u8, kind: u8) -> Token
+fn long_string(s: &[u8], quote: u8, kind: usize) -> Token
     requires { ⌜ (3 ≤ length (now s)) × (getD (now s) 0 0 ≡ quote) × Long quote kind × (tripled (now s) ≡ true) ⌝ }
     ensures { λ r. ⌜ TokenAt (now (s .entry)) r ⌝ }
 {
@@ -68,7 +81,10 @@ fn long_string(s: &[u8], quote: u8, kind: u8) -> Token
             if b == b'\\' {
                 let n = escape(s, i + 1);
                 if n == 0 {
-                    return Token { kind: 0, len: 0 };
+                    return Token {
+                        kind: Kind::NONE,
+                        len: 0,
+                    };
                 }
                 i = i + 1 + n;
             } else {
@@ -76,11 +92,14 @@ fn long_string(s: &[u8], quote: u8, kind: u8) -> Token
             }
         }
     }
-    Token { kind: 0, len: 0 }
+    Token {
+        kind: Kind::NONE,
+        len: 0,
+    }
 }
 
 // "Three equal quotes open a long string and nothing else"
-pub fn quoted(s: &[u8], quote: u8, short: u8, long: u8) -> Token
+pub fn quoted(s: &[u8], quote: u8, short: usize, long: usize) -> Token
     requires { ⌜ (0 < length (now s)) × (getD (now s) 0 0 ≡ quote) × Short quote short × Long quote long ⌝ }
     ensures { λ r. ⌜ TokenAt (now (s .entry)) r ⌝ }
 {

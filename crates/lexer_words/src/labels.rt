@@ -6,6 +6,7 @@ use automaton::Token;
 use characters::names::label_start;
 use characters::names::name_char;
 use characters::runs::names;
+use token::Kind;
 
 // BLANK_NODE_LABEL ::= '_:' (PN_CHARS_U | [0-9]) ((PN_CHARS | '.')* PN_CHARS)?, after its first character.
 // Dots at its end are given back.
@@ -22,7 +23,7 @@ fn label_rest(s: &[u8], at: usize) -> Token
             let n = name_char(s, i);
             if n == 0 {
                 return Token {
-                    kind: Token::BLANK_NODE_LABEL,
+                    kind: Kind::BLANK_NODE_LABEL,
                     len: end,
                 };
             }
@@ -31,7 +32,7 @@ fn label_rest(s: &[u8], at: usize) -> Token
         }
     }
     Token {
-        kind: Token::BLANK_NODE_LABEL,
+        kind: Kind::BLANK_NODE_LABEL,
         len: end,
     }
 }
@@ -42,17 +43,29 @@ pub fn label(s: &[u8]) -> Token
     ensures { λ r. ⌜ TokenAt (now (s .entry)) r ⌝ }
 {
     if s.len() < 2 {
-        return Token { kind: 0, len: 0 };
+        return Token {
+            kind: Kind::NONE,
+            len: 0,
+        };
     }
     if s[1] != b':' {
-        return Token { kind: 0, len: 0 };
+        return Token {
+            kind: Kind::NONE,
+            len: 0,
+        };
     }
     if s.len() < 3 {
-        return Token { kind: 0, len: 0 };
+        return Token {
+            kind: Kind::NONE,
+            len: 0,
+        };
     }
     let n = label_start(s, 2);
     if n == 0 {
-        return Token { kind: 0, len: 0 };
+        return Token {
+            kind: Kind::NONE,
+            len: 0,
+        };
     }
     label_rest(s, 2 + n)
 }

@@ -14,6 +14,7 @@ use characters::names::local_char;
 use characters::names::local_start;
 use characters::runs::hexes;
 use characters::runs::locals;
+use token::Kind;
 
 // PLX ::= PERCENT | PN_LOCAL_ESC, where PERCENT ::= '%' HEX HEX
 // Its length, or 0.
@@ -79,7 +80,7 @@ fn local_rest(s: &[u8], at: usize) -> Token
             let n = local_next(s, i);
             if n == 0 {
                 return Token {
-                    kind: Token::PNAME_LN,
+                    kind: Kind::PNAME_LN,
                     len: end,
                 };
             }
@@ -88,7 +89,7 @@ fn local_rest(s: &[u8], at: usize) -> Token
         }
     }
     Token {
-        kind: Token::PNAME_LN,
+        kind: Kind::PNAME_LN,
         len: end,
     }
 }
@@ -101,14 +102,14 @@ pub fn local_part(s: &[u8], at: usize) -> Token
 {
     if s.len() <= at {
         return Token {
-            kind: Token::PNAME_NS,
+            kind: Kind::PNAME_NS,
             len: at,
         };
     }
     let n = local_first(s, at);
     if n == 0 {
         return Token {
-            kind: Token::PNAME_NS,
+            kind: Kind::PNAME_NS,
             len: at,
         };
     }

@@ -19,6 +19,7 @@ use automaton::Token;
 use characters::names::base_char;
 use characters::names::name_char;
 use characters::runs::names;
+use token::Kind;
 
 // The end of the run of PN_CHARS and dots there.
 fn name_run(s: &[u8], at: usize) -> usize
@@ -42,13 +43,13 @@ fn name_run(s: &[u8], at: usize) -> usize
 }
 
 // A token of the kind, or nothing, that ends at `at`; no name begins from there to i.
-fn settle(kind: u8, at: usize, i: usize) -> Next
+fn settle(kind: usize, at: usize, i: usize) -> Next
     requires { ⌜ at ≤ i ⌝ }
     ensures { λ r. ⌜ r ≡ settled kind at i ⌝ }
 {
-    if kind == 0 {
+    if kind == Kind::NONE {
         return Next {
-            kind: 0,
+            kind: Kind::NONE,
             len: 0,
             clear: 0,
         };
@@ -61,7 +62,7 @@ fn settle(kind: u8, at: usize, i: usize) -> Next
 }
 
 // PN_PREFIX ::= PN_CHARS_BASE ((PN_CHARS | '.')* PN_CHARS)?, within it: a name where the run ends at a colon, and not with a dot.
-fn prefix_rest(s: &[u8], at: usize, kind: u8) -> Next
+fn prefix_rest(s: &[u8], at: usize, kind: usize) -> Next
     requires { ⌜ At (now s) in-prefix at kind (end-at kind at) ⌝ }
     ensures { λ r. ⌜ NextAt (now (s .entry)) 0 r ⌝ }
 {
@@ -96,16 +97,16 @@ pub fn minus(a: usize, b: usize) -> usize
 }
 
 // The word before, or the name that goes on from it: where it is known that no name begins here, nothing more is read.
-fn word_or_name(s: &[u8], at: usize, kind: u8, clear: usize) -> Next
+fn word_or_name(s: &[u8], at: usize, kind: usize, clear: usize) -> Next
     requires { ⌜ At (now s) in-prefix at kind (end-at kind at) × (getD (now s) 0 0 ≡ 58 → ⊥) ⌝ }
     ensures { λ r. ⌜ NextAt (now (s .entry)) clear r ⌝ }
 {
     if clear == 0 {
         return prefix_rest(s, at, kind);
     }
-    if kind == 0 {
+    if kind == Kind::NONE {
         return Next {
-            kind: 0,
+            kind: Kind::NONE,
             len: 0,
             clear: 0,
         };
@@ -118,7 +119,7 @@ fn word_or_name(s: &[u8], at: usize, kind: u8, clear: usize) -> Next
 }
 
 // A keyword, in small or capital letters, or a name that begins as it does.
-fn keyword<'a>(s: &'a [u8], low: &'a [u8], up: &'a [u8], kind: u8, clear: usize) -> Next
+fn keyword<'a>(s: &'a [u8], low: &'a [u8], up: &'a [u8], kind: usize, clear: usize) -> Next
     requires { ⌜ (length (now low) ≡ length (now up)) × Word (now s) 0 (now low) (now up) in-prefix kind 0 × (getD (now s) 0 0 ≡ 58 → ⊥) × (0 < kind) ⌝ }
     ensures { λ r. ⌜ NextAt (now (s .entry)) clear r ⌝ }
 {
@@ -134,7 +135,7 @@ fn true_word(s: &[u8], clear: usize) -> Next
     requires { ⌜ (0 < length (now s)) × (getD (now s) 0 0 ≡ 116) ⌝ }
     ensures { λ r. ⌜ NextAt (now (s .entry)) clear r ⌝ }
 {
-    keyword(s, b"true", b"true", Token::TRUE, clear)
+    keyword(s, b"true", b"true", Kind::TRUE, clear)
 }
 
 // 'false'
@@ -142,7 +143,7 @@ fn false_word(s: &[u8], clear: usize) -> Next
     requires { ⌜ (0 < length (now s)) × (getD (now s) 0 0 ≡ 102) ⌝ }
     ensures { λ r. ⌜ NextAt (now (s .entry)) clear r ⌝ }
 {
-    keyword(s, b"false", b"false", Token::FALSE, clear)
+    keyword(s, b"false", b"false", Kind::FALSE, clear)
 }
 
 // "PREFIX", in any case
@@ -150,7 +151,7 @@ fn prefix_word(s: &[u8], clear: usize) -> Next
     requires { ⌜ (0 < length (now s)) × ((getD (now s) 0 0 ≡ 80) ⊎ (getD (now s) 0 0 ≡ 112)) ⌝ }
     ensures { λ r. ⌜ NextAt (now (s .entry)) clear r ⌝ }
 {
-    keyword(s, b"prefix", b"PREFIX", Token::PREFIX, clear)
+    keyword(s, b"prefix", b"PREFIX", Kind::PREFIX, clear)
 }
 
 // "BASE", in any case
@@ -158,7 +159,7 @@ fn base_word(s: &[u8], clear: usize) -> Next
     requires { ⌜ (0 < length (now s)) × ((getD (now s) 0 0 ≡ 66) ⊎ (getD (now s) 0 0 ≡ 98)) ⌝ }
     ensures { λ r. ⌜ NextAt (now (s .entry)) clear r ⌝ }
 {
-    keyword(s, b"base", b"BASE", Token::BASE, clear)
+    keyword(s, b"base", b"BASE", Kind::BASE, clear)
 }
 
 // "GRAPH", in any case
@@ -166,7 +167,7 @@ fn graph_word(s: &[u8], clear: usize) -> Next
     requires { ⌜ (0 < length (now s)) × ((getD (now s) 0 0 ≡ 71) ⊎ (getD (now s) 0 0 ≡ 103)) ⌝ }
     ensures { λ r. ⌜ NextAt (now (s .entry)) clear r ⌝ }
 {
-    keyword(s, b"graph", b"GRAPH", Token::GRAPH, clear)
+    keyword(s, b"graph", b"GRAPH", Kind::GRAPH, clear)
 }
 
 // PNAME_NS ::= PN_PREFIX? ':' with a prefix, PNAME_LN, a keyword, or nothing.
@@ -175,7 +176,7 @@ pub fn name(s: &[u8], clear: usize) -> Next
     ensures { λ r. ⌜ NextAt (now (s .entry)) clear r ⌝ }
 {
     match s[0] {
-        b'a' => word_or_name(s, 1, Token::A, clear),
+        b'a' => word_or_name(s, 1, Kind::A, clear),
         b't' => true_word(s, clear),
         b'f' => false_word(s, clear),
         b'p' | b'P' => prefix_word(s, clear),
@@ -185,7 +186,7 @@ pub fn name(s: &[u8], clear: usize) -> Next
             let n = base_char(s, 0);
             if n == 0 {
                 return Next {
-                    kind: 0,
+                    kind: Kind::NONE,
                     len: 0,
                     clear: 0,
                 };

@@ -8,6 +8,7 @@ use characters::bytes::is_digit;
 use characters::bytes::is_exponent;
 use characters::bytes::is_sign;
 use characters::runs::digits;
+use token::Kind;
 
 // EXPONENT ::= [eE] [+-]? [0-9]+, after its first digit
 fn exponent_digits(s: &[u8], at: usize) -> Token
@@ -16,13 +17,13 @@ fn exponent_digits(s: &[u8], at: usize) -> Token
 {
     let i = digits(s, at);
     Token {
-        kind: Token::DOUBLE,
+        kind: Kind::DOUBLE,
         len: i,
     }
 }
 
 // After the e. Where no digits come, the number ends before it.
-fn exponent(s: &[u8], at: usize, kind: u8, len: usize) -> Token
+fn exponent(s: &[u8], at: usize, kind: usize, len: usize) -> Token
     requires { ⌜ At (now s) after-e at kind len ⌝ }
     ensures { λ r. ⌜ TokenAt (now (s .entry)) r ⌝ }
 {
@@ -65,11 +66,11 @@ fn fraction(s: &[u8], at: usize) -> Token
     let i = digits(s, at);
     if i < s.len() {
         if is_exponent(s[i]) {
-            return exponent(s, i + 1, Token::DECIMAL, i);
+            return exponent(s, i + 1, Kind::DECIMAL, i);
         }
     }
     Token {
-        kind: Token::DECIMAL,
+        kind: Kind::DECIMAL,
         len: i,
     }
 }
@@ -81,7 +82,7 @@ fn point(s: &[u8], at: usize) -> Token
 {
     if s.len() - at <= 1 {
         return Token {
-            kind: Token::INTEGER,
+            kind: Kind::INTEGER,
             len: at,
         };
     }
@@ -90,10 +91,10 @@ fn point(s: &[u8], at: usize) -> Token
         return fraction(s, at + 2);
     }
     if is_exponent(b) {
-        return exponent(s, at + 2, Token::INTEGER, at);
+        return exponent(s, at + 2, Kind::INTEGER, at);
     }
     Token {
-        kind: Token::INTEGER,
+        kind: Kind::INTEGER,
         len: at,
     }
 }
@@ -107,7 +108,7 @@ pub fn integer(s: &[u8], at: usize) -> Token
     let i = digits(s, at);
     if s.len() <= i {
         return Token {
-            kind: Token::INTEGER,
+            kind: Kind::INTEGER,
             len: i,
         };
     }
@@ -116,10 +117,10 @@ pub fn integer(s: &[u8], at: usize) -> Token
         return point(s, i);
     }
     if is_exponent(b) {
-        return exponent(s, i + 1, Token::INTEGER, i);
+        return exponent(s, i + 1, Kind::INTEGER, i);
     }
     Token {
-        kind: Token::INTEGER,
+        kind: Kind::INTEGER,
         len: i,
     }
 }
@@ -135,7 +136,7 @@ pub fn dot(s: &[u8]) -> Token
         }
     }
     Token {
-        kind: Token::DOT,
+        kind: Kind::DOT,
         len: 1,
     }
 }
@@ -146,20 +147,32 @@ pub fn signed(s: &[u8]) -> Token
     ensures { λ r. ⌜ TokenAt (now (s .entry)) r ⌝ }
 {
     if s.len() <= 1 {
-        return Token { kind: 0, len: 0 };
+        return Token {
+            kind: Kind::NONE,
+            len: 0,
+        };
     }
     let b = s[1];
     if is_digit(b) {
         return integer(s, 2);
     }
     if b != b'.' {
-        return Token { kind: 0, len: 0 };
+        return Token {
+            kind: Kind::NONE,
+            len: 0,
+        };
     }
     if s.len() <= 2 {
-        return Token { kind: 0, len: 0 };
+        return Token {
+            kind: Kind::NONE,
+            len: 0,
+        };
     }
     if is_digit(s[2]) {
         return fraction(s, 3);
     }
-    Token { kind: 0, len: 0 }
+    Token {
+        kind: Kind::NONE,
+        len: 0,
+    }
 }

@@ -8,14 +8,15 @@ use automaton::Token;
 use characters::bytes::is_letter;
 use characters::runs::letters;
 use characters::runs::letters_or_digits;
+use token::Kind;
 
 // LANGTAG ::= '@' [a-zA-Z]+ ('-' [a-zA-Z0-9]+)*, after its first letters
-fn subtags(s: &[u8], at: usize, kind: u8) -> Token
+fn subtags(s: &[u8], at: usize, kind: usize) -> Token
     requires { ⌜ TagAt (now s) at kind ⌝ }
     ensures { λ r. ⌜ TokenAt (now (s .entry)) r ⌝ }
 {
     let mut end: usize = at;
-    let mut k: u8 = kind;
+    let mut k: usize = kind;
     while end < s.len() {
         if s[end] != b'-' {
             return Token { kind: k, len: end };
@@ -25,13 +26,13 @@ fn subtags(s: &[u8], at: usize, kind: u8) -> Token
             return Token { kind: k, len: end };
         }
         end = i;
-        k = Token::LANGTAG;
+        k = Kind::LANGTAG;
     }
     Token { kind: k, len: end }
 }
 
 // Within the first letters: what was a keyword so far is one where no letter follows.
-fn tag(s: &[u8], at: usize, kind: u8) -> Token
+fn tag(s: &[u8], at: usize, kind: usize) -> Token
     requires { ⌜ At (now s) in-tag at kind at ⌝ }
     ensures { λ r. ⌜ TokenAt (now (s .entry)) r ⌝ }
 {
@@ -39,11 +40,11 @@ fn tag(s: &[u8], at: usize, kind: u8) -> Token
     if i == at {
         return subtags(s, at, kind);
     }
-    subtags(s, i, Token::LANGTAG)
+    subtags(s, i, Kind::LANGTAG)
 }
 
 // "Where @prefix or @base is the whole match, it is the keyword, never a LANGTAG"
-fn directive<'a>(s: &'a [u8], word: &'a [u8], kind: u8) -> Token
+fn directive<'a>(s: &'a [u8], word: &'a [u8], kind: usize) -> Token
     requires { ⌜ Word (now s) 1 (now word) (now word) in-tag kind (kind-code LANGTAG) ⌝ }
     ensures { λ r. ⌜ TokenAt (now (s .entry)) r ⌝ }
 {
@@ -51,7 +52,7 @@ fn directive<'a>(s: &'a [u8], word: &'a [u8], kind: u8) -> Token
     if m == word.len() {
         return tag(s, 1 + m, kind);
     }
-    tag(s, 1 + m, Token::LANGTAG)
+    tag(s, 1 + m, Kind::LANGTAG)
 }
 
 // After the @.
@@ -60,17 +61,23 @@ pub fn at_sign(s: &[u8]) -> Token
     ensures { λ r. ⌜ TokenAt (now (s .entry)) r ⌝ }
 {
     if s.len() < 2 {
-        return Token { kind: 0, len: 0 };
+        return Token {
+            kind: Kind::NONE,
+            len: 0,
+        };
     }
     let b = s[1];
     if b == b'p' {
-        return directive(s, b"prefix", Token::AT_PREFIX);
+        return directive(s, b"prefix", Kind::AT_PREFIX);
     }
     if b == b'b' {
-        return directive(s, b"base", Token::AT_BASE);
+        return directive(s, b"base", Kind::AT_BASE);
     }
     if is_letter(b) {
-        return tag(s, 2, Token::LANGTAG);
+        return tag(s, 2, Kind::LANGTAG);
     }
-    Token { kind: 0, len: 0 }
+    Token {
+        kind: Kind::NONE,
+        len: 0,
+    }
 }

@@ -1,4 +1,4 @@
-// The reader's limits, named once. Sizes are in bytes.
+// The reader's limits and the numbers of the answers, named once. Sizes are in bytes.
 ghost use mathlib.Core.Path.{_≡_};
 ghost use Rattle.limits.specs.Limits.{work-size};
 
@@ -23,4 +23,47 @@ impl Limits {
     {
         Limits::WORK
     }
+}
+
+// The answers by number, with the names of the interface.
+pub struct Answer {}
+
+impl Answer {
+    pub const ACCEPTED: u8 = 0;
+
+    pub const DOCUMENT_LENGTH: u8 = 1;
+
+    pub const MODE: u8 = 2;
+
+    pub const BASE: u8 = 3;
+
+    pub const WORK: u8 = 4;
+
+    pub const UTF8: u8 = 5;
+
+    pub const TOKEN: u8 = 6;
+
+    pub const ESCAPE: u8 = 7;
+
+    pub const GRAMMAR: u8 = 8;
+
+    pub const PREFIX: u8 = 9;
+
+    pub const NO_BASE: u8 = 10;
+
+    pub const IRI_LENGTH: u8 = 11;
+
+    pub const PREFIXES: u8 = 12;
+
+    pub const DEPTH: u8 = 13;
+
+    pub const ROWS: u8 = 14;
+
+    pub const TERMS: u8 = 15;
+
+    pub const STORE: u8 = 16;
+
+    pub const OUTPUT: u8 = 17;
+
+    pub const TABLES: u8 = 18;
 }

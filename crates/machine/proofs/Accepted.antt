@@ -1,11 +1,9 @@
 -- What an accepted document leaves in memory are the tables that its derivation makes.
 use mathlib.Core.Path.{_≡_, refl, sym, ap, _∙_, subst}
-use mathlib.Core.List.{List, [], _∷_}
-use mathlib.Core.Bool.{Bool, true, false}
+use mathlib.Core.List.{List, [], _∷_, _++_}
 use mathlib.Core.Option.{Option, none, some}
 use Prim.Native.Nat.{ℕ}
 use native.Mathlib.Omega.{arith}
-use lib.ListN.{drop}
 use Rattle.text.specs.Text.{Text, is-none}
 use Rattle.token.specs.Tokens.{Token, Lexeme, token, unreadable, tokens-of}
 use Rattle.grammar.specs.Ebnf.{leaves}
@@ -13,10 +11,11 @@ use Rattle.grammar.specs.Productions.{Mode, trig, turtle, production, root, kin
 use Rattle.machine.specs.Memory.{Memory, start-memory, Write}
 use Rattle.machine.specs.Frame.{Open, directive, statement}
 use Rattle.machine.specs.Rules.{find-rule, rules}
-use Rattle.machine.specs.Refusals.{no-character}
-use Rattle.machine.specs.Step.{Room, State, Test, _when_, first-refusal, answer, obeyed, tests, step, tied-to, Outcome, accepted, refused, at-end, onward, run}
+use Rattle.machine.specs.Refusals.{escape-tests, force-tests, room-tests}
+use Rattle.machine.specs.Step.{Room, State, in-force-now, Test, _when_, first-refusal, answer, obeyed, step, tied-to, Outcome, accepted, refused, at-end, onward, run}
 use Rattle.machine.specs.Read.{start-state}
 use Rattle.machine.specs.Construction.{tables}
+use Rattle.machine.proofs.Firsts.{first-of-both}
 use Rattle.machine.proofs.Judge.{tied-same}
 use Rattle.machine.proofs.Agreement.{final, at-finish, taken}
 use Rattle.machine.proofs.Correct.{agreement-trig, agreement-turtle}
@@ -31,14 +30,19 @@ module _ (mode : Mode) (room : Room) (n : ℕ) where
   fits-rest ls at s none v h = h
   fits-rest ls at s (some c) v h = tt
 
-  fits-rule : (ls : List Lexeme) (t : Token) (s : State) (x : Bool) (r : Option (Write Open)) (ts : List Test)
+  -- xs are the tests before 8, and ys those after it.
+  fits-rule : (ls : List Lexeme) (t : Token) (s : State) (xs : List Test) (r : Option (Write Open)) (ys : List Test)
       → ((s′ : State) → Fits (run mode room n ls s′) (final mode (tokens-of ls) (s′ .open-now) (s′ .memory)))
-      → Fits (onward (λ s′. run mode room n ls s′) (answer (first-refusal (7 when x ∷ 8 when is-none r ∷ ts)) (t .start) (obeyed r t s)))
+      → Fits (onward (λ s′. run mode room n ls s′) (answer (first-refusal (xs ++ 8 when is-none r ∷ ys)) (t .start) (obeyed r t s)))
       (taken r (s .memory) (λ o m. final mode (tokens-of ls) o m))
   unfolding taken
-  fits-rule ls t s true r ts h = tt
-  fits-rule ls t s false none ts h = tt
-  fits-rule ls t s false (some w) ts h = fits-rest ls (t .start) (obeyed (some w) t s) (first-refusal ts) (final mode (tokens-of ls) (w (s .memory) .0) (w (s .memory) .1)) (h (obeyed (some w) t s))
+  fits-rule ls t s xs r ys h =
+      first-of-both (λ o. Fits (onward (λ s′. run mode room n ls s′) (answer o (t .start) (obeyed r t s))) (taken r (s .memory) (λ o m. final mode (tokens-of ls) o m))) xs (8 when is-none r ∷ ys)
+      (λ c e. tt) (λ e. go r)
+    where
+      go : (r : Option (Write Open)) → Fits (onward (λ s′. run mode room n ls s′) (answer (first-refusal (8 when is-none r ∷ ys)) (t .start) (obeyed r t s))) (taken r (s .memory) (λ o m. final mode (tokens-of ls) o m))
+      go none = tt
+      go (some w) = fits-rest ls (t .start) (obeyed (some w) t s) (first-refusal ys) (final mode (tokens-of ls) (w (s .memory) .0) (w (s .memory) .1)) (h (obeyed (some w) t s))
 
   fits-end : (o : Open) (m : Memory) → Fits (at-end o n m) (at-finish o m)
   unfolding at-finish
@@ -54,7 +58,7 @@ module _ (mode : Mode) (room : Room) (n : ℕ) where
       let r = find-rule (t .kind) (rules t (tied-to ls) mode (s .open-now)) in
       subst (λ b. Fits (run mode room n (token t ∷ ls) s) (taken (find-rule (t .kind) (rules t b mode (s .open-now))) (s .memory) (λ o m. final mode (tokens-of ls) o m)))
       (tied-same ls)
-      (fits-rule ls t s (no-character t) r (drop 2 (tests room s t r (obeyed r t s))) (λ s′. fits ls s′))
+      (fits-rule ls t s (escape-tests t) r (force-tests (in-force-now s) (s .depth) t ++ room-tests room (obeyed r t s .memory)) (λ s′. fits ls s′))
 
 fits-accepted : (o : Outcome) (v : Option Memory) (m : Memory) → Fits o v → o ≡ accepted m → v ≡ some m
 fits-accepted (accepted l) v m h e = let f : l ≡ m = cc in h ∙ ap some f

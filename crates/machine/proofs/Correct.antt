@@ -5,9 +5,9 @@ use mathlib.Core.List.{List, [], _∷_, _++_, append-nil}
 use mathlib.Core.Bool.{false}
 use mathlib.Core.Option.{Option, none, some}
 use Prim.Native.Nat.{ℕ}
-use Rattle.grammar.specs.Ebnf.{tok, nt, _⨾_, _∣_, opt, Tree, leaves}
+use Rattle.grammar.specs.Ebnf.{tok, nt, _⨾_, _∣_, opt}
 use Rattle.token.specs.Kind.{Kind, semicolon, comma, open-bracket, close-bracket, IRIREF, «PNAME_NS», «PNAME_LN», «STRING_LITERAL_QUOTE», «STRING_LITERAL_SINGLE_QUOTE», «STRING_LITERAL_LONG_SINGLE_QUOTE», «STRING_LITERAL_LONG_QUOTE»}
-use Rattle.grammar.specs.Productions.{Nonterminal, Mode, trig, turtle, production, trigDoc, block, triplesOrGraph, triples2, wrappedGraph, triplesBlock, labelOrSubject, turtleDoc, statement as statement-nt, directive as directive-nt, prefixID, base as base-nt, sparqlPrefix, sparqlBase, triples, subject as subject-nt, predicate as predicate-nt, predicateObjectList, objectList, verb as verb-nt, object as object-nt, literal as literal-nt, blank as blank-nt, blankNodePropertyList, collection, NumericLiteral, RDFLiteral, BooleanLiteral, String as String-nt, iri as iri-nt, PrefixedName, BlankNode, ANON, kind-of}
+use Rattle.grammar.specs.Productions.{Nonterminal, Mode, trig, turtle, production, trigDoc, block, triplesOrGraph, triples2, wrappedGraph, triplesBlock, labelOrSubject, turtleDoc, statement as statement-nt, directive as directive-nt, prefixID, base as base-nt, sparqlPrefix, sparqlBase, triples, subject as subject-nt, predicate as predicate-nt, predicateObjectList, objectList, verb as verb-nt, object as object-nt, literal as literal-nt, blank as blank-nt, blankNodePropertyList, collection, NumericLiteral, RDFLiteral, BooleanLiteral, String as String-nt, iri as iri-nt, PrefixedName, BlankNode, ANON}
 use Rattle.token.specs.Tokens.{Token}
 use Rattle.machine.specs.Memory.{Write, Done, _>>=_, _>>_, term}
 use Rattle.dataset.specs.Terms.{label, xsd-integer, xsd-decimal, xsd-double, xsd-boolean, blank}
@@ -15,7 +15,7 @@ use Rattle.machine.specs.Frame.{object, list, bracket, subject-before, o
 use Rattle.machine.specs.Rules.{rules, extended}
 use Rattle.dataset.specs.Constructors.{node-label}
 use Rattle.machine.specs.Construction.{Node, Meaning, action, iri-node, typed-node, simple, cell-of, rdf-literal, bracket-node, collection-node, object-list, properties, alone, triples-of, graph-of, prefix-of, base-of, in-turn, bracket-term}
-use Rattle.grammar.specs.Meaning.{Parts, meaning}
+use Rattle.grammar.specs.Meaning.{Parts}
 use Rattle.dataset.specs.Statements.{either}
 use Rattle.machine.proofs.Decide.{ties}
 use Rattle.machine.proofs.Agreement.{final, at-finish, taken, Agreement-trig, Agreement-turtle, first, in-object, in-list, begin-of, Writes, Iris, reference, name, namespace, Stringy, quote, single, long-single, long, Commas, last, also, reference-writes, name-writes, namespace-writes, label-writes, integer-writes, decimal-writes, double-writes, true-writes, false-writes, quote-writes, single-writes, long-single-writes, long-writes, tagged-writes, typed-writes, object-list-writes}
@@ -335,14 +335,6 @@ correct mode PrefixedName ts a h = name-correct mode ts a h
 correct mode BlankNode ts a h = blank-node-correct mode ts a h
 correct mode ANON ts a h = anon-correct mode ts a h
 correct mode predicate-nt ts a h = predicate-correct mode ts a h
-
--- For every derivation tree of an object, and wherever one is awaited: its tokens write what the construction says, and the machine goes on behind them.
-pub object-agrees : (mode : Mode) (x : Tree kind-of (production mode) (nt object-nt)) → Writes mode (leaves kind-of (production mode) x) (meaning Meaning (action mode) x)
-object-agrees mode x = right-tree mode (correct mode) x .0
-
--- The same for the predicates and objects of a subject.
-pub properties-agree : (mode : Mode) (x : Tree kind-of (production mode) (nt predicateObjectList)) → WritesProperties mode (leaves kind-of (production mode) x) (meaning Meaning (action mode) x)
-properties-agree mode x = right-tree mode (correct mode) x
 
 -- The memory after the tokens of a document's tree is the tree's meaning.
 pub agreement-trig : Agreement-trig

@@ -4,14 +4,12 @@ use mathlib.Core.Logic.{_↔_}
 use mathlib.Core.List.{List, [], _∷_, _++_, append-assoc}
 use mathlib.Core.Bool.{Bool, true, false, not}
 use mathlib.Core.Option.{Option, none, some}
-use Prim.Native.Nat.{ℕ, zero, suc, _+_, _≤_, zero-le}
+use Prim.Native.Nat.{ℕ, zero, suc, _≤_, zero-le}
 use native.Mathlib.Omega.{arith}
-use borrow.Author.Tests.{ltb-false, le-ltb}
-use lib.Dec.{T, eqb, leb, ltb, leb→le, le→leb}
+use lib.Dec.{T, eqb, leb, leb→le, le→leb}
 use lib.ListN.{length, take, drop, length-append}
-use Rattle.text.specs.Text.{Text, cond}
+use Rattle.text.specs.Text.{Text}
 use Rattle.text.proofs.Booleans.{all}
-use Rattle.text.proofs.Compare.{contrary}
 use Rattle.utf8.specs.Utf8.{first-bad}
 use Rattle.token.specs.Tokens.{Token, Lexeme, token, unreadable, lexemes, tokens-of, readable, place-of}
 use Rattle.grammar.specs.Productions.{Mode, GrammarFailsAt}
@@ -22,8 +20,8 @@ use Rattle.table.proofs.Store.{size-append}
 use Rattle.machine.specs.Memory.{Memory, start-memory, Write}
 use Rattle.machine.specs.Frame.{Open, directive, statement}
 use Rattle.machine.specs.Rules.{find-rule, rules}
-use Rattle.machine.specs.Refusals.{no-character, undeclared, no-base, too-long, one-prefix-more, too-deep, new-depth}
-use Rattle.machine.specs.Step.{Room, State, in-force-now, Test, _when_, first-refusal, answer, obeyed, tests, step, tied-to, Outcome, accepted, refused, at-end, onward, run}
+use Rattle.machine.specs.Refusals.{no-character, new-depth, escape-tests, force-tests, room-tests}
+use Rattle.machine.specs.Step.{Room, State, in-force-now, _when_, first-refusal, answer, obeyed, tests, step, tied-to, Outcome, accepted, refused, at-end, onward, run}
 use Rattle.machine.specs.Read.{Lent, Answer, first-checks, mode-of, room-of, start-state, refusal, success, reported, read, read-checked, read-utf8, read-tokens}
 use Rattle.machine.specs.Construction.{tables}
 use Rattle.machine.specs.Demand.{document-tokens, depth-from, depth-after, Nowhere, Fair, Fits, Meets}
@@ -31,22 +29,13 @@ use Rattle.grammar.proofs.Grammar.{kinds-of, refused as refused-iff}
 use Rattle.machine.proofs.Decide.{tied-kinds}
 use Rattle.grammar.proofs.Recogniser.{at-end as end-verdict, later}
 use Rattle.machine.proofs.Link.{follow, finished, machine-verdict}
-use Rattle.machine.proofs.Judge.{tied-same, number-of, refusal-number}
+use Rattle.machine.proofs.Firsts.{number-of, refusal-number, Passes, passes-both, passes-each, first-past, fits-passes, passes-fits, own-and-room, no-rule, eight-passes}
+use Rattle.machine.proofs.Judge.{tied-same}
 use Rattle.machine.proofs.Accepted.{agreement, accepted-tables}
 use Rattle.machine.proofs.Grammatical.{accepted-derives, machine-grammar}
 use Rattle.machine.proofs.Agreement.{final, at-finish, taken}
 use Rattle.machine.proofs.Made.{some-same}
 use Rattle.machine.proofs.Extends.{Extends, extends-same, extends-both, in-force-rule, extends-rule}
-
--- ---- Tests
-
-skip : (n : ℕ) (b : Bool) (ts : List Test) → b ≡ false → first-refusal (n when b ∷ ts) ≡ first-refusal ts
-skip n b ts e = ap (λ x. cond x (some n) (first-refusal ts)) e
-
--- Where nothing refuses, the first test does not hold, and nothing after it refuses.
-pub passed : (n : ℕ) (b : Bool) (ts : List Test) → first-refusal (n when b ∷ ts) ≡ none → (b ≡ false) × (first-refusal ts ≡ none)
-passed n true ts e = not-none (sym e)
-passed n false ts e = (refl, e)
 
 -- ---- What is in force and open, token by token
 
@@ -118,17 +107,11 @@ after-rules mode (suc i) (token t ∷ ls) s = obey (find-rule (t .kind) (rules t
 -- ---- A token that is not refused
 
 -- What a token has to meet by itself.
-pub record Met (base : Text) (before : List Token) (t : Token) : Type 0 where
-  pub characters : no-character t ≡ false
-  pub declared : undeclared (in-force base before) t ≡ false
-  pub based : no-base (in-force base before) t ≡ false
-  pub lengths : too-long (in-force base before) t ≡ false
-  pub prefixes : one-prefix-more (in-force base before) ≡ false
-  pub depth : too-deep (depth-after before) t ≡ false
+abbrev pub Met : Text → List Token → Token → Type 0
+Met base before t = Passes (escape-tests t ++ force-tests (in-force base before) (depth-after before) t)
 
 pub fair-head : {base : Text} {before ts : List Token} {t : Token} → Fair base before (t ∷ ts) → Met base before t
-fair-head f =
-    record { characters = f .characters .0; declared = f .declared .0; based = f .based .0; lengths = f .lengths .0; prefixes = f .prefixes .0; depth = f .depth .0 }
+fair-head f = (f .characters .0, (f .declared .0, (f .based .0, (f .lengths .0, (f .prefixes .0, (f .depth .0, tt))))))
 
 pub fair-tail : {base : Text} {before ts : List Token} {t : Token} → Fair base before (t ∷ ts) → Fair base (before ++ t ∷ []) ts
 fair-tail f =
@@ -138,59 +121,31 @@ pub fair-none : (base : Text) (before : List Token) → Fair base before []
 fair-none base before = record { characters = tt; declared = tt; based = tt; lengths = tt; prefixes = tt; depth = tt }
 
 pub fair-more : {base : Text} {before ts : List Token} {t : Token} → Met base before t → Fair base (before ++ t ∷ []) ts → Fair base before (t ∷ ts)
-fair-more m f =
+fair-more (characters, (declared, (based, (lengths, (prefixes, (depth, u)))))) f =
     record {
-      characters = (m .characters, f .characters);
-      declared = (m .declared, f .declared);
-      based = (m .based, f .based);
-      lengths = (m .lengths, f .lengths);
-      prefixes = (m .prefixes, f .prefixes);
-      depth = (m .depth, f .depth);
+      characters = (characters, f .characters);
+      declared = (declared, f .declared);
+      based = (based, f .based);
+      lengths = (lengths, f .lengths);
+      prefixes = (prefixes, f .prefixes);
+      depth = (depth, f .depth);
     }
 
 module _ (room : Room) (base : Text) (before : List Token) (s : State) (t : Token) (a : Tracks base before s) where
+  -- The token's own tests, by the state and by the tokens before it.
+  same-tests : force-tests (in-force-now s) (s .depth) t ≡ force-tests (in-force base before) (depth-after before) t
+  same-tests = ap₂ (λ f d. force-tests f d t) (a .force) (a .depth)
+
   -- The tests of a token with a rule pass exactly if it meets these and what it writes fits.
   tests-pass : (w : Write Open) → Met base before t → Fits room (obeyed (some w) t s .memory) → first-refusal (tests room s t (some w) (obeyed (some w) t s)) ≡ none
   tests-pass w m f =
-      let s′ = obeyed (some w) t s in
-      let ts = tests room s t (some w) s′ in
-      skip 7 (no-character t) (drop 1 ts) (m .characters)
-      ∙ skip 9 (undeclared (in-force-now s) t) (drop 3 ts) (ap (λ f. undeclared f t) (a .force) ∙ m .declared)
-      ∙ skip 10 (no-base (in-force-now s) t) (drop 4 ts) (ap (λ f. no-base f t) (a .force) ∙ m .based)
-      ∙ skip 11 (too-long (in-force-now s) t) (drop 5 ts) (ap (λ f. too-long f t) (a .force) ∙ m .lengths)
-      ∙ skip 12 (one-prefix-more (in-force-now s)) (drop 6 ts) (ap one-prefix-more (a .force) ∙ m .prefixes)
-      ∙ skip 13 (too-deep (s .depth) t) (drop 7 ts) (ap (λ d. too-deep d t) (a .depth) ∙ m .depth)
-      ∙ skip 14 (ltb (room .rows) (length (s′ .memory .rows))) (drop 8 ts) (le-ltb (room .rows) (length (s′ .memory .rows)) (f .rows))
-      ∙ skip 15 (ltb (room .terms) (length (s′ .memory .terms))) (drop 9 ts) (le-ltb (room .terms) (length (s′ .memory .terms)) (f .terms))
-      ∙ skip 16 (ltb (room .store) (store-size (s′ .memory .terms))) [] (le-ltb (room .store) (store-size (s′ .memory .terms)) (f .store))
+      let (x, y) = passes-each (escape-tests t) (force-tests (in-force base before) (depth-after before) t) m in
+      own-and-room room s t w (obeyed (some w) t s) .1 (x, (subst Passes (sym same-tests) y, fits-passes room (obeyed (some w) t s .memory) f))
 
   tests-passed : (w : Write Open) → first-refusal (tests room s t (some w) (obeyed (some w) t s)) ≡ none → Met base before t × Fits room (obeyed (some w) t s .memory)
   tests-passed w e =
-      let s′ = obeyed (some w) t s in
-      let ts = tests room s t (some w) s′ in
-      let (p₇, e₇) = passed 7 (no-character t) (drop 1 ts) e in
-      let (p₉, e₉) = passed 9 (undeclared (in-force-now s) t) (drop 3 ts) e₇ in
-      let (p₁₀, e₁₀) = passed 10 (no-base (in-force-now s) t) (drop 4 ts) e₉ in
-      let (p₁₁, e₁₁) = passed 11 (too-long (in-force-now s) t) (drop 5 ts) e₁₀ in
-      let (p₁₂, e₁₂) = passed 12 (one-prefix-more (in-force-now s)) (drop 6 ts) e₁₁ in
-      let (p₁₃, e₁₃) = passed 13 (too-deep (s .depth) t) (drop 7 ts) e₁₂ in
-      let (p₁₄, e₁₄) = passed 14 (ltb (room .rows) (length (s′ .memory .rows))) (drop 8 ts) e₁₃ in
-      let (p₁₅, e₁₅) = passed 15 (ltb (room .terms) (length (s′ .memory .terms))) (drop 9 ts) e₁₄ in
-      let (p₁₆, e₁₆) = passed 16 (ltb (room .store) (store-size (s′ .memory .terms))) [] e₁₅ in (
-        record {
-          characters = p₇;
-          declared = ap (λ f. undeclared f t) (sym (a .force)) ∙ p₉;
-          based = ap (λ f. no-base f t) (sym (a .force)) ∙ p₁₀;
-          lengths = ap (λ f. too-long f t) (sym (a .force)) ∙ p₁₁;
-          prefixes = ap one-prefix-more (sym (a .force)) ∙ p₁₂;
-          depth = ap (λ d. too-deep d t) (sym (a .depth)) ∙ p₁₃;
-        },
-        record {
-          rows = ltb-false (room .rows) (length (s′ .memory .rows)) p₁₄;
-          terms = ltb-false (room .terms) (length (s′ .memory .terms)) p₁₅;
-          store = ltb-false (room .store) (store-size (s′ .memory .terms)) p₁₆;
-        },
-      )
+      let (x, (y, z)) = own-and-room room s t w (obeyed (some w) t s) .0 e in
+      (passes-both (escape-tests t) (force-tests (in-force base before) (depth-after before) t) x (subst Passes same-tests y), passes-fits room (obeyed (some w) t s .memory) z)
 
 -- ---- Runs
 
@@ -247,9 +202,7 @@ module _ (mode : Mode) (room : Room) (base : Text) (n : ℕ) where
           → ((s′ : State) → Tracks base (before ++ t ∷ []) s′ → Fits room (s′ .memory) → run mode room n ls s′ ≡ accepted M → Fair base (before ++ t ∷ []) (tokens-of ls) × Fits room M)
           → Fair base before (t ∷ tokens-of ls) × Fits room M
       go rule p (some c) q d k = not-accepted d
-      go none p none q d k =
-          let ts = tests room s t none s in
-          contrary (passed 8 true (drop 2 ts) (passed 7 (no-character t) (drop 1 ts) q .1) .0)
+      go none p none q d k = no-rule room s t q
       go (some w) p none q d k =
           let (m, y) = tests-passed room base before s t a w q in
           let (f, z) = k (obeyed (some w) t s) (tracks-step mode base before s t (tied-to ls) w p a) y d in
@@ -319,10 +272,6 @@ module _ (mode : Mode) (room : Room) (base : Text) (n : ℕ) where
       let rule = find-rule (t .kind) (rules t (tied-to ls) mode (s .open-now)) in
       go rule refl (first-refusal (tests room s t rule (obeyed rule t s))) refl e (λ s′ b y d. eight-next ls (before ++ t ∷ []) s′ p b y d)
     where
-      only-eight : (b : Bool) (c : ℕ) → cond b (some 7) (some 8) ≡ some c → c ≡ 8 → b ≡ false
-      only-eight true c q z = let y : 7 ≡ c = some-same q in absurd (omega arith)
-      only-eight false c q z = refl
-
       in-verdict : (rule : Option (Write Open)) → find-rule (t .kind) (rules t (tied-to ls) mode (s .open-now)) ≡ rule
           → find-rule (t .kind) (rules t (tied-kinds (kinds-of (tokens-of ls))) mode (s .open-now)) ≡ rule
       in-verdict rule q = ap (λ b. find-rule (t .kind) (rules t b mode (s .open-now))) (sym (tied-same ls)) ∙ q
@@ -331,9 +280,7 @@ module _ (mode : Mode) (room : Room) (base : Text) (n : ℕ) where
           → (o : Option ℕ) → first-refusal (tests room s t rule (obeyed rule t s)) ≡ o → outcome-of ls o t (obeyed rule t s) ≡ refused 8 p
           → ((s′ : State) → Tracks base (before ++ t ∷ []) s′ → Fits room (s′ .memory) → run mode room n ls s′ ≡ refused 8 p → (i : ℕ) × FailsNext (before ++ t ∷ []) ls s′ p i)
           → (i : ℕ) × FailsNext before (token t ∷ ls) s p i
-      go none q none z d k =
-          let ts = tests room s t none s in
-          contrary (passed 8 true (drop 2 ts) (passed 7 (no-character t) (drop 1 ts) z .1) .0)
+      go none q none z d k = no-rule room s t z
       go none q (some c) z d k = (
         0,
         record {
@@ -343,14 +290,14 @@ module _ (mode : Mode) (room : Room) (base : Text) (n : ℕ) where
           state = s;
           reached = refl;
           fits = x;
-          character = (only-eight (no-character t) c z (refused-number d), tt);
+          character = eight-passes room s t (z ∙ ap some (refused-number d));
           cuts = λ h. absurd (omega arith);
         },
       )
       go (some w) q (some c) z d k =
           absurd
           (subst (λ y. T (not (eqb y 8))) (refused-number d)
-          (refusal-number (λ y. not (eqb y 8)) (7 when no-character t ∷ drop 2 (tests room s t (some w) (obeyed (some w) t s))) tt c z))
+          (refusal-number (λ y. not (eqb y 8)) (escape-tests t ++ force-tests (in-force-now s) (s .depth) t ++ room-tests room (obeyed (some w) t s .memory)) tt c z))
       go (some w) q none z d k =
           let s′ = obeyed (some w) t s in
           let (m, y) = tests-passed room base before s t a w z in
@@ -407,7 +354,7 @@ module _ (mode : Mode) (room : Room) (base : Text) (n : ℕ) where
       go : (r : Option (Write Open)) → find-rule (t .kind) (rules t (tied-to ls) mode (s .open-now)) ≡ r
           → outcome-of ls (first-refusal (tests room s t r (obeyed r t s))) t (obeyed r t s) ≡ refused 8 p
       go none q =
-          ap (λ o. outcome-of ls o t s) (skip 7 (no-character t) (drop 1 (tests room s t none s)) (f .character .0)) ∙ ap (refused 8) (sym (f .place))
+          ap (λ o. outcome-of ls o t s) (first-past (escape-tests t) (8 when true ∷ []) (f .character)) ∙ ap (refused 8) (sym (f .place))
       go (some w) q =
           not-later (machine-verdict mode (w (s .memory) .0) (w (s .memory) .1) (tokens-of ls))
           (ap (λ r. follow r (s .memory) (λ o m. machine-verdict mode o m (tokens-of ls))) (sym q) ∙ v)
@@ -454,11 +401,11 @@ unfolding store-size
 start-fits room base = record { rows = zero-le; terms = zero-le; store = zero-le }
 
 module _ (doc : Text) (mode : ℕ) (base : Text) (lent : Lent) where
-  abbrev run-of : Outcome
+  abbrev pub run-of : Outcome
   run-of = run (mode-of mode) (room-of lent) (length doc) (lexemes doc) (start-state base)
 
   -- Where 1 to 5 do not apply, the answer is the run's.
-  read-run : first-refusal (first-checks doc mode base lent) ≡ none → first-bad doc ≡ none → read doc mode base lent ≡ reported (length doc) run-of
+  pub read-run : first-refusal (first-checks doc mode base lent) ≡ none → first-bad doc ≡ none → read doc mode base lent ≡ reported (length doc) run-of
   unfolding read read-checked read-utf8 read-tokens
   read-run u v = ap (λ o. read-checked o doc mode base lent) u ∙ ap (λ o. read-utf8 o doc mode base lent) v
 
@@ -525,10 +472,11 @@ module _ (doc : Text) (mode : ℕ) (base : Text) (lent : Lent) where
     pub character : Nowhere (λ xs t. no-character t) (take i (document-tokens doc)) (take 1 (drop i (document-tokens doc)))
     pub cuts : i ≡ length (document-tokens doc) → T (readable (lexemes doc))
 
-  verdict-fails : (i : ℕ) → machine-verdict (mode-of mode) (statement []) (start-memory base) (document-tokens doc) ≡ some i → GrammarFailsAt (mode-of mode) (document-tokens doc) i
+  -- Where the grammar fails, and the machine's verdict.
+  pub verdict-fails : (i : ℕ) → machine-verdict (mode-of mode) (statement []) (start-memory base) (document-tokens doc) ≡ some i → GrammarFailsAt (mode-of mode) (document-tokens doc) i
   verdict-fails i v = refused-iff (mode-of mode) (document-tokens doc) i .0 (sym (machine-grammar (mode-of mode) (start-memory base) (document-tokens doc)) ∙ v)
 
-  fails-verdict : (i : ℕ) → GrammarFailsAt (mode-of mode) (document-tokens doc) i → machine-verdict (mode-of mode) (statement []) (start-memory base) (document-tokens doc) ≡ some i
+  pub fails-verdict : (i : ℕ) → GrammarFailsAt (mode-of mode) (document-tokens doc) i → machine-verdict (mode-of mode) (statement []) (start-memory base) (document-tokens doc) ≡ some i
   fails-verdict i f = machine-grammar (mode-of mode) (start-memory base) (document-tokens doc) ∙ refused-iff (mode-of mode) (document-tokens doc) i .1 f
 
   -- Then the answer is 8 at that token, or at the document's end,

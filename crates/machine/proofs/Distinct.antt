@@ -13,7 +13,8 @@ use Rattle.utf8.specs.Utf8.{decode, width}
 use Rattle.token.specs.Kind.{kind-of-code}
 use Rattle.token.specs.Regular.{Match, nothing, hit}
 use Rattle.token.specs.Terminals.{token-at}
-use Rattle.token.specs.Tokens.{Token, token, unreadable, Cutting, between, comment, inside, white-space, in-comment, passed, lexemes-from, lexemes, tokens-of}
+use Rattle.token.specs.Tokens.{Token, Lexeme, token, unreadable, Cutting, between, comment, inside, white-space, in-comment, passed, trig-cuts, lexemes-from, lexemes, tokens-of}
+use Rattle.token.proofs.Cutting.{cut-comment}
 use Rattle.grammar.specs.Productions.{Mode}
 use Rattle.grammar.proofs.Grammar.{kinds-of}
 use Rattle.dataset.specs.Terms.{Blank, label, bracket, cell, numbered, Term, iri, blank, literal, tagged}
@@ -175,31 +176,33 @@ wide c = go (ltb c 0x80) (ltb c 0x800) (ltb c 0x10000)
     go false false true = omega arith
     go false false false = omega arith
 
-rising-from : (doc : Text) (state : Cutting) (at : ℕ) (cs : List ℕ) → Rising at (tokens-of (lexemes-from doc state at cs))
+rising-from : (doc : Text) (state : Cutting) (at : ℕ) (cs : List ℕ) → Rising at (tokens-of (lexemes-from trig-cuts doc state at cs))
 unfolding lexemes-from tokens-of
 rising-from doc state at [] = tt
-rising-from doc (inside k) at (c ∷ cs) = rising-less at (at + width c) (tokens-of (lexemes-from doc (passed (k - width c)) (at + width c) cs)) (omega arith) (rising-from doc (passed (k - width c)) (at + width c) cs)
-rising-from doc comment at (c ∷ cs) = rising-less at (at + width c) (tokens-of (lexemes-from doc (in-comment c) (at + width c) cs)) (omega arith) (rising-from doc (in-comment c) (at + width c) cs)
+rising-from doc (inside k) at (c ∷ cs) = rising-less at (at + width c) (tokens-of (lexemes-from trig-cuts doc (passed (k - width c)) (at + width c) cs)) (omega arith) (rising-from doc (passed (k - width c)) (at + width c) cs)
+rising-from doc comment at (c ∷ cs) =
+    subst (λ (ls : List Lexeme). Rising at (tokens-of ls)) (sym (cut-comment doc at c cs))
+    (rising-less at (at + width c) (tokens-of (lexemes-from trig-cuts doc (in-comment c) (at + width c) cs)) (omega arith) (rising-from doc (in-comment c) (at + width c) cs))
 rising-from doc between at (c ∷ cs) =
-    here (white-space c || is "#" c) (token-at (c ∷ cs)) (rising-from doc (cond (is "#" c) comment between) (at + 1) cs) (λ n. rising-from doc (passed (n - width c)) (at + width c) cs)
+    here (white-space c || is "#" c) (token-at (c ∷ cs)) (rising-from doc (cond (is "#" c) comment between) (at + width c) cs) (λ n. rising-from doc (passed (n - width c)) (at + width c) cs)
   where
-    here : (b : Bool) (o : Match) → Rising (at + 1) (tokens-of (lexemes-from doc (cond (is "#" c) comment between) (at + 1) cs))
-        → ((n : ℕ) → Rising (at + width c) (tokens-of (lexemes-from doc (passed (n - width c)) (at + width c) cs)))
+    here : (b : Bool) (o : Match) → Rising (at + width c) (tokens-of (lexemes-from trig-cuts doc (cond (is "#" c) comment between) (at + width c) cs))
+        → ((n : ℕ) → Rising (at + width c) (tokens-of (lexemes-from trig-cuts doc (passed (n - width c)) (at + width c) cs)))
         → Rising at
         (tokens-of
         (elim b [
-          | true ↦ lexemes-from doc (cond (is "#" c) comment between) (at + 1) cs
+          | true ↦ lexemes-from trig-cuts doc (cond (is "#" c) comment between) (at + width c) cs
           | false ↦
               elim o [
                 | nothing ↦ unreadable at ∷ []
                 | hit k n ↦
                     token (record { kind = kind-of-code k; start = at; text = take n (drop at doc) })
-                    ∷ lexemes-from doc (passed (n - width c)) (at + width c) cs
+                    ∷ lexemes-from trig-cuts doc (passed (n - width c)) (at + width c) cs
               ]
         ]))
-    here true o h f = rising-less at (at + 1) (tokens-of (lexemes-from doc (cond (is "#" c) comment between) (at + 1) cs)) (omega arith) h
+    here true o h f = rising-less at (at + width c) (tokens-of (lexemes-from trig-cuts doc (cond (is "#" c) comment between) (at + width c) cs)) (omega arith) h
     here false nothing h f = tt
-    here false (hit k n) h f = (omega arith, rising-less (suc at) (at + width c) (tokens-of (lexemes-from doc (passed (n - width c)) (at + width c) cs)) (omega (arith, wide c)) (f n))
+    here false (hit k n) h f = (omega arith, rising-less (suc at) (at + width c) (tokens-of (lexemes-from trig-cuts doc (passed (n - width c)) (at + width c) cs)) (omega (arith, wide c)) (f n))
 
 -- ---- The theorem
 

@@ -19,7 +19,7 @@ use Rattle.dataset.specs.Constructors.{InForce, nothing, prefix-name as prefix-
 use Rattle.table.specs.Layout.{Row}
 use Rattle.table.specs.Tables.{number}
 use Rattle.table.proofs.Numbers.{not-none}
-use Rattle.machine.specs.Memory.{Memory, Write, return, _>>=_, _>>_, term, term-by, new-term, typed, typed-by, iri-term, row, enter, declare-prefix, declare-base}
+use Rattle.machine.specs.Memory.{Memory, Write, return, _>>_, term, term-by, new-term, typed, typed-by, iri-term, row, enter, declare-prefix, declare-base}
 use Rattle.machine.specs.Step.{awaited-by}
 use Rattle.machine.proofs.Made.{Made, made-return, made-bind, made-then, made-most, made-term, made-iri, made-typed-by, made-row, made-enter, made-cell, made-bracket, directive-kinds, Statementlike, found-above, plain-frame, plain-statement, first-or-later, RuleIs, of-statement, of-directive, rule-is}
 use Rattle.machine.specs.Frame.{object, prefix-name, namespace-of, new-base, last-dot, Open, directive, statement}

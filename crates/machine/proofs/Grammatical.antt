@@ -1,6 +1,5 @@
 -- What acceptance and 8 say of derivations.
-use mathlib.Core.Path.{_≡_, refl, sym, ap, _∙_, subst}
-use mathlib.Core.Logic.{_⊎_, inl, inr}
+use mathlib.Core.Path.{_≡_, sym, _∙_, subst}
 use mathlib.Core.List.{List, []}
 use mathlib.Core.Bool.{not}
 use mathlib.Core.Option.{Option, none, some}
@@ -22,7 +21,7 @@ use Rattle.machine.specs.Step.{Room, Outcome, accepted, refused, run}
 use Rattle.machine.specs.Read.{start-state}
 use Rattle.machine.proofs.Stands.{stands-open}
 use Rattle.machine.proofs.Link.{machine-verdict, link}
-use Rattle.machine.proofs.Judge.{Goes-before, Judged, fine, eighth, other, judged}
+use Rattle.machine.proofs.Judge.{Judged, fine, eighth, other, judged}
 
 -- The machine begins where the grammar does.
 start-same : (mode : Mode) (ks : List Kind) → verdict same (production mode) levels (stands-open mode (statement [])) ks ≡ grammar mode ks
@@ -34,16 +33,6 @@ start-same turtle ks = sym (opened same same-eq same-refl (production turtle) le
 pub machine-grammar : (mode : Mode) (m : Memory) (ts : List Token) → machine-verdict mode (statement []) m ts ≡ grammar mode (kinds-of ts)
 machine-grammar mode m ts = link mode ts (statement []) m ∙ start-same mode (kinds-of ts)
 
--- Another refusal than 8, which goes before 8 at token i.
-pub record Before (n : ℕ) (ls : List Lexeme) (i : ℕ) (o : Outcome) : Type 0 where
-  pub number : ℕ
-  pub at : ℕ
-  pub token-number : ℕ
-  pub is : o ≡ refused number at
-  pub not-8 : T (not (eqb number 8))
-  pub stands-at : at ≡ place-of n ls token-number
-  pub goes-before : Goes-before number token-number i
-
 module _ {n : ℕ} {ls : List Lexeme} {v : Option ℕ} where
   when-accepted : {o : Outcome} → Judged n ls v o → (m : Memory) → o ≡ accepted m → (v ≡ none) × T (readable ls)
   when-accepted (fine p r) m e = (p, r)
@@ -54,16 +43,6 @@ module _ {n : ℕ} {ls : List Lexeme} {v : Option ℕ} where
   when-eight (fine q r) p e = let z : _≡_ {A = ℕ} 0 1 = cc in absurd (omega arith)
   when-eight (eighth {p = x} i q r) p e = let f : p ≡ x = cc in (i, q, f ∙ r)
   when-eight (other {c = c} j t q r) p e = let f : c ≡ 8 = cc in absurd (subst (λ x. T (not (eqb x 8))) f t)
-
-  when-fails : {o : Outcome} → Judged n ls v o → (i : ℕ) → v ≡ some i → (o ≡ refused 8 (place-of n ls i)) ⊎ Before n ls i o
-  when-fails (fine q r) i e = let z : _≡_ {A = ℕ} 0 1 = cc in absurd (omega arith)
-  when-fails (eighth {p = p} h q r) i e = let f : h ≡ i = cc in inl (ap (refused 8) (r ∙ ap (place-of n ls) f))
-  when-fails (other {c = c} {p = p} j t q r) i e = inr (record { number = c; at = p; token-number = j; is = refl; not-8 = t; stands-at = q; goes-before = r i e })
-
-  when-none : {o : Outcome} → Judged n ls v o → v ≡ none → ((m : Memory) × (o ≡ accepted m)) ⊎ ((c : ℕ) × (p : ℕ) × (o ≡ refused c p) × T (not (eqb c 8)))
-  when-none (fine {m = m} q r) e = inl (m, refl)
-  when-none (eighth i q r) e = let z : _≡_ {A = ℕ} 0 1 = cc in absurd (omega arith)
-  when-none (other {c = c} {p = p} j t q r) e = inr (c, p, refl, t)
 
 module _ (mode : Mode) (room : Room) (base : Text) (n : ℕ) (ls : List Lexeme) where
   abbrev outcome : Outcome
@@ -81,16 +60,8 @@ module _ (mode : Mode) (room : Room) (base : Text) (n : ℕ) (ls : List Lexeme) 
       let (p, r) = when-accepted (judged mode room n ls (start-state base)) m e in
       (r, accepted-iff mode ts .0 (sym same-verdict ∙ p))
 
-  -- 8 is answered where the grammar fails, at that token's place or at the end;
+  -- 8 is answered where the grammar fails, at that token's place or at the end.
   pub eight-fails : (p : ℕ) → outcome ≡ refused 8 p → (i : ℕ) × GrammarFailsAt mode ts i × (p ≡ place-of n ls i)
   eight-fails p e =
       let (i, q, r) = when-eight (judged mode room n ls (start-state base)) p e in
       (i, refused-iff mode ts i .0 (sym same-verdict ∙ q), r)
-
-  -- where the grammar fails, 8 is answered, unless another refusal goes before;
-  pub fails-eight : (i : ℕ) → GrammarFailsAt mode ts i → (outcome ≡ refused 8 (place-of n ls i)) ⊎ Before n ls i outcome
-  fails-eight i f = when-fails (judged mode room n ls (start-state base)) i (same-verdict ∙ refused-iff mode ts i .1 f)
-
-  -- and what has a derivation is accepted, unless something other than the grammar refuses it.
-  pub derives-accepted : Grammatical mode ts → ((m : Memory) × (outcome ≡ accepted m)) ⊎ ((c : ℕ) × (p : ℕ) × (outcome ≡ refused c p) × T (not (eqb c 8)))
-  derives-accepted d = when-none (judged mode room n ls (start-state base)) (same-verdict ∙ accepted-iff mode ts .1 d)

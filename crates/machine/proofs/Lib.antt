@@ -5,6 +5,7 @@ pub mod Flat
 pub mod Decide
 pub mod ShapeTests
 pub mod Link
+pub mod Firsts
 pub mod Judge
 pub mod Grammatical
 pub mod Agreement

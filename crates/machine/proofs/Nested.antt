@@ -7,7 +7,7 @@ use Prim.Native.Nat.{ℕ}
 use Rattle.token.specs.Kind.{Kind, dot, semicolon, close-brace, open-bracket, close-bracket, open-paren, close-paren, kw-a, IRIREF, «PNAME_NS», «PNAME_LN»}
 use Rattle.grammar.specs.Productions.{Mode}
 use Rattle.token.specs.Tokens.{Token}
-use Rattle.machine.specs.Memory.{Memory, Write, Done, _>>=_, term, iri-term}
+use Rattle.machine.specs.Memory.{Memory, Write, Done, term, iri-term}
 use Rattle.dataset.specs.Terms.{iri, rdf-type}
 use Rattle.machine.specs.Frame.{Ending, full-stop, brace, bracket-end, Place, top, subject-before, object-of, element-of, Cells, no-cell, Frame, label-or-subject, verb, verb-or-end, object, after-object, after-semicolon, bracket, list, statement}
 use Rattle.machine.specs.Rules.{rules, after-node, extended}
@@ -86,12 +86,6 @@ module _ (mode : Mode) where
   verb-in (at-top-bracket {s = s}) (named v name p) K m us = first mode v «PNAME_LN» us (tied-kinds (kinds-of us)) (statement ((bracket top s) ∷ K)) m p refl
   verb-in (at-top-bracket {s = s}) (named v namespace p) K m us = first mode v «PNAME_NS» us (tied-kinds (kinds-of us)) (statement ((bracket top s) ∷ K)) m p refl
   verb-in (at-top-bracket {s = s}) (typing v p) K m us = first mode v kw-a us (tied-kinds (kinds-of us)) (statement ((bracket top s) ∷ K)) m p refl
-
-  verb-untied : {v : Token} {w : Write ℕ} → Verb v w → ties (v .kind) ≡ false
-  verb-untied (named v reference p) = ap ties p
-  verb-untied (named v name p) = ap ties p
-  verb-untied (named v namespace p) = ap ties p
-  verb-untied (typing v p) = ap ties p
 
   -- The tokens of an objectList.
   abbrev pub WritesObjects : List Token → (ℕ → ℕ → Write Done) → Type 0

@@ -4,7 +4,7 @@ use mathlib.Core.List.{List, [], _∷_, map}
 use Prim.Native.Nat.{ℕ}
 use Prim.Native.String.{String}
 use Rattle.text.specs.Text.{ascii}
-use Rattle.machine.specs.Read.{Answer, After, kept, zeroed, written, contents, read, computing}
+use Rattle.machine.specs.Read.{lends, Answer, After, kept, zeroed, written, contents, read, computing}
 
 -- A document with so many row words, term words and store bytes, and its answer's number and position.
 pub record Call : Type 0 where
@@ -20,7 +20,7 @@ abbrev ample : String → Call
 ample d = call 500 500 5000 d
 
 abbrev answer-of : Call → Answer
-answer-of c = read (ascii (c .document)) 0 [] (record { work = 35840; rows = c .rows; terms = c .terms; store = c .store })
+answer-of c = read (ascii (c .document)) 0 [] (lends 35840 (c .rows) (c .terms) (c .store))
 
 abbrev place : Call → ℕ × ℕ
 place c = let a = answer-of c in (a .number, a .position)
@@ -69,9 +69,9 @@ abbrev held : Answer → List (List ℕ)
 held a = contents (a .work) nines ∷ contents (a .rows) nines ∷ contents (a .terms) nines ∷ contents (a .store) nines ∷ []
 
 memory : map held
-    (read [] 0 [] (record { work = 35839; rows = 0; terms = 0; store = 0 })
-    ∷ read (ascii ".") 0 [] (record { work = 35840; rows = 0; terms = 0; store = 0 })
-    ∷ read (ascii "[]{}") 0 [] (record { work = 35840; rows = 5; terms = 5; store = 0 }) ∷ [])
+    (read [] 0 [] (lends 35839 0 0 0)
+    ∷ read (ascii ".") 0 [] (lends 35840 0 0 0)
+    ∷ read (ascii "[]{}") 0 [] (lends 35840 5 5 0) ∷ [])
     ≡ (nines ∷ nines ∷ nines ∷ nines ∷ [])
     ∷ ((0 ∷ 0 ∷ 0 ∷ []) ∷ (0 ∷ 0 ∷ 0 ∷ []) ∷ (0 ∷ 0 ∷ 0 ∷ []) ∷ (0 ∷ 0 ∷ 0 ∷ []) ∷ [])
     ∷ ((0 ∷ 0 ∷ 0 ∷ []) ∷ nines ∷ (2 ∷ 0 ∷ 0 ∷ 0 ∷ 0 ∷ []) ∷ nines ∷ []) ∷ []

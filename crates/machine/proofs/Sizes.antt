@@ -1,7 +1,7 @@
 -- A document of n bytes needs at most 2n rows, 2n + 9 terms and 1,025n + 386 bytes of the store. A token makes two rows and two terms at the most, besides the
 -- nine IRIs that the language itself writes, and stores one IRI at the most; the other texts are no longer than their tokens, and no two tokens overlap.
-use mathlib.Core.Path.{_≡_, refl, sym, ap, _∙_}
-use mathlib.Core.List.{List, [], _∷_}
+use mathlib.Core.Path.{_≡_, refl, sym, ap, subst, _∙_}
+use mathlib.Core.List.{List, [], _∷_, _++_}
 use mathlib.Core.Bool.{Bool, true, false, not, _&&_, _||_}
 use mathlib.Core.Option.{Option, none, some}
 use Prim.Native.Nat.{ℕ, zero, suc, pred, _+_, _*_, _-_, _≤_}
@@ -16,7 +16,8 @@ use Rattle.utf8.specs.Utf8.{decode-from, decode, sequence-size, width}
 use Rattle.token.specs.Regular.{Match, nothing as no-match, hit}
 use Rattle.token.specs.Terminals.{token-at}
 use Rattle.token.specs.Kind.{kind-code, kind-of-code, among, names, iris, IRIREF}
-use Rattle.token.specs.Tokens.{Token, has-kind, Lexeme, token, unreadable, Cutting, between, comment, inside, white-space, line-end, in-comment, passed, lexemes-from, lexemes, tokens-of}
+use Rattle.token.specs.Tokens.{Token, has-kind, Lexeme, token, unreadable, Cutting, between, comment, inside, white-space, line-end, in-comment, passed, trig-cuts, lexemes-from, lexemes, tokens-of}
+use Rattle.token.proofs.Cutting.{cut-comment}
 use Rattle.iri.specs.Iri.{has-scheme}
 use Rattle.iri.specs.Resolve.{resolve, resolve-with-dots, resolved}
 use Rattle.iri.proofs.Lengths.{resolve-short}
@@ -27,11 +28,13 @@ use Rattle.table.specs.Tables.{store-size}
 use Rattle.machine.specs.Memory.{Memory, Write}
 use Rattle.machine.specs.Frame.{Open}
 use Rattle.machine.specs.Rules.{find-rule, rules}
-use Rattle.machine.specs.Refusals.{no-character, undeclared, no-base, too-long, one-prefix-more, too-deep}
+use Rattle.machine.specs.Refusals.{too-long, escape-tests, force-tests, room-tests}
+use Rattle.machine.specs.Call.{room-up-to}
 use Rattle.machine.specs.Step.{Room, State, in-force-now, Test, _when_, first-refusal, answer, obeyed, tests, step, tied-to, Outcome, onward, run}
 use Rattle.machine.specs.Read.{Lent, mode-of, start-state}
 use Rattle.machine.specs.Construction.{tables}
 use Rattle.machine.specs.Demand.{room-for, Fits, Meets}
+use Rattle.machine.proofs.Firsts.{Passes, passes-each}
 use Rattle.machine.proofs.Extends.{two-rows}
 use Rattle.machine.proofs.Demands.{start-tracks, start-fits, accepted-fair, meets-run}
 use Rattle.machine.proofs.Weights.{one, size, weight, take-short, waiting-open, light-rule, count-weight, size-weight, first-count, first-size}
@@ -81,7 +84,7 @@ record Cut (doc : Text) (from points : ℕ) (ts : List Token) : Type 0 where
   count : length ts ≤ points
   bytes : bytes-of ts ≤ length doc - from
 
-cut-from : (doc : Text) (state : Cutting) (at : ℕ) (cs : List ℕ) → Cut doc (at + left-of state) (length cs) (tokens-of (lexemes-from doc state at cs))
+cut-from : (doc : Text) (state : Cutting) (at : ℕ) (cs : List ℕ) → Cut doc (at + left-of state) (length cs) (tokens-of (lexemes-from trig-cuts doc state at cs))
 unfolding lexemes-from tokens-of left-of
 cut-from doc state at [] = record { count = omega arith; bytes = omega arith }
 cut-from doc (inside k) at (c ∷ cs) =
@@ -89,22 +92,23 @@ cut-from doc (inside k) at (c ∷ cs) =
     record { count = omega (arith, h .count); bytes = omega (arith, h .bytes, left-passed (k - width c)) }
 cut-from doc comment at (c ∷ cs) =
     let h = cut-from doc (in-comment c) (at + width c) cs in
-    record { count = omega (arith, h .count); bytes = omega (arith, h .bytes, left-cond (line-end c) between comment refl refl) }
+    subst (λ (ls : List Lexeme). Cut doc (at + 0) (length (c ∷ cs)) (tokens-of ls)) (sym (cut-comment doc at c cs))
+    (record { count = omega (arith, h .count); bytes = omega (arith, h .bytes, left-cond (line-end c) between comment refl refl) })
 cut-from doc between at (c ∷ cs) =
-    here (white-space c || is "#" c) (token-at (c ∷ cs)) (cut-from doc (cond (is "#" c) comment between) (at + 1) cs) (λ n. cut-from doc (passed (n - width c)) (at + width c) cs)
+    here (white-space c || is "#" c) (token-at (c ∷ cs)) (cut-from doc (cond (is "#" c) comment between) (at + width c) cs) (λ n. cut-from doc (passed (n - width c)) (at + width c) cs)
   where
-    here : (b : Bool) (o : Match) → Cut doc (at + 1 + left-of (cond (is "#" c) comment between)) (length cs) (tokens-of (lexemes-from doc (cond (is "#" c) comment between) (at + 1) cs))
-        → ((n : ℕ) → Cut doc (at + width c + left-of (passed (n - width c))) (length cs) (tokens-of (lexemes-from doc (passed (n - width c)) (at + width c) cs)))
+    here : (b : Bool) (o : Match) → Cut doc (at + width c + left-of (cond (is "#" c) comment between)) (length cs) (tokens-of (lexemes-from trig-cuts doc (cond (is "#" c) comment between) (at + width c) cs))
+        → ((n : ℕ) → Cut doc (at + width c + left-of (passed (n - width c))) (length cs) (tokens-of (lexemes-from trig-cuts doc (passed (n - width c)) (at + width c) cs)))
         → Cut doc (at + 0) (length (c ∷ cs))
         (tokens-of
         (elim b [
-          | true ↦ lexemes-from doc (cond (is "#" c) comment between) (at + 1) cs
+          | true ↦ lexemes-from trig-cuts doc (cond (is "#" c) comment between) (at + width c) cs
           | false ↦
               elim o [
                 | no-match ↦ unreadable at ∷ []
                 | hit k n ↦
                     token (record { kind = kind-of-code k; start = at; text = take n (drop at doc) })
-                    ∷ lexemes-from doc (passed (n - width c)) (at + width c) cs
+                    ∷ lexemes-from trig-cuts doc (passed (n - width c)) (at + width c) cs
               ]
         ]))
     here true o h f = record { count = omega (arith, h .count); bytes = omega (arith, h .bytes, left-cond (is "#" c) comment between refl refl) }
@@ -172,16 +176,12 @@ pub record Alike (most a b : Room) : Type 0 where
   pub terms : (k : ℕ) → k ≤ most .terms → ltb (a .terms) k ≡ ltb (b .terms) k
   pub store : (k : ℕ) → k ≤ most .store → ltb (a .store) k ≡ ltb (b .store) k
 
-room-tests : Room → Memory → List Test
-room-tests room m = 14 when ltb (room .rows) (length (m .rows)) ∷ 15 when ltb (room .terms) (length (m .terms)) ∷ 16 when ltb (room .store) (store-size (m .terms)) ∷ []
-
 same-room : {most a b : Room} → Alike most a b → (m : Memory) → Fits most m → first-refusal (room-tests a m) ≡ first-refusal (room-tests b m)
-unfolding room-tests
 same-room x m f = rw (x .rows (length (m .rows)) (f .rows), x .terms (length (m .terms)) (f .terms), x .store (store-size (m .terms)) (f .store))
 
 module _ (mode : Mode) (n : ℕ) {most a b : Room} (alike : Alike most a b) where
   same-run : (ls : List Lexeme) (s : State) → Within most s (tokens-of ls) → run mode a n ls s ≡ run mode b n ls s
-  unfolding run step tokens-of room-tests
+  unfolding run step tokens-of
   same-run [] s x = refl
   same-run (unreadable p ∷ ls) s x = refl
   same-run (token t ∷ ls) s x = go (find-rule (t .kind) (rules t (tied-to ls) mode (s .open-now))) refl (λ s′ y. same-run ls s′ y)
@@ -190,10 +190,11 @@ module _ (mode : Mode) (n : ℕ) {most a b : Room} (alike : Alike most a b) wher
       after room s′ o = onward (λ s″. run mode room n ls s″) (answer o (t .start) s′)
 
       -- A test that holds refuses in both rooms.
-      past : (s′ : State) (c : ℕ) (p : Bool) (xs ys : List Test) → (p ≡ false → after a s′ (first-refusal xs) ≡ after b s′ (first-refusal ys))
-          → after a s′ (first-refusal (c when p ∷ xs)) ≡ after b s′ (first-refusal (c when p ∷ ys))
-      past s′ c true xs ys f = refl
-      past s′ c false xs ys f = f refl
+      past : (s′ : State) (xs ys zs : List Test) → (Passes xs → after a s′ (first-refusal ys) ≡ after b s′ (first-refusal zs))
+          → after a s′ (first-refusal (xs ++ ys)) ≡ after b s′ (first-refusal (xs ++ zs))
+      past s′ [] ys zs f = f tt
+      past s′ (c when true ∷ xs) ys zs f = refl
+      past s′ (c when false ∷ xs) ys zs f = past s′ xs ys zs (λ p. f (refl, p))
 
       same-after : (s′ : State) → run mode a n ls s′ ≡ run mode b n ls s′ → (o : Option ℕ) → after a s′ o ≡ after b s′ o
       same-after s′ e none = e
@@ -201,25 +202,14 @@ module _ (mode : Mode) (n : ℕ) {most a b : Room} (alike : Alike most a b) wher
 
       go : (r : Option (Write Open)) → find-rule (t .kind) (rules t (tied-to ls) mode (s .open-now)) ≡ r → ((s′ : State) → Within most s′ (tokens-of ls) → run mode a n ls s′ ≡ run mode b n ls s′)
           → after a (obeyed r t s) (first-refusal (tests a s t r (obeyed r t s))) ≡ after b (obeyed r t s) (first-refusal (tests b s t r (obeyed r t s)))
-      go none e f = past s 7 (no-character t) (drop 1 (tests a s t none s)) (drop 1 (tests b s t none s)) (λ _. refl)
+      go none e f = past s (escape-tests t) (8 when true ∷ []) (8 when true ∷ []) (λ _. refl)
       go (some w) e f =
           let s′ = obeyed (some w) t s in
-          let xs = tests a s t (some w) s′ in
-          let ys = tests b s t (some w) s′ in
-          past s′ 7 (no-character t) (drop 1 xs) (drop 1 ys)
-          (λ _.
-          past s′ 9 (undeclared (in-force-now s) t) (drop 3 xs) (drop 3 ys)
-          (λ _.
-          past s′ 10 (no-base (in-force-now s) t) (drop 4 xs) (drop 4 ys)
-          (λ _.
-          past s′ 11 (too-long (in-force-now s) t) (drop 5 xs) (drop 5 ys)
-          (λ h.
-          past s′ 12 (one-prefix-more (in-force-now s)) (drop 6 xs) (drop 6 ys)
-          (λ _.
-          past s′ 13 (too-deep (s .depth) t) (drop 7 xs) (drop 7 ys)
-          (λ _.
+          past s′ (escape-tests t ++ force-tests (in-force-now s) (s .depth) t) (room-tests a (s′ .memory)) (room-tests b (s′ .memory))
+          (λ p.
+          let (u, (v, (h, rest))) = passes-each (escape-tests t) (force-tests (in-force-now s) (s .depth) t) p .1 in
           let y = within-step mode s t (tokens-of ls) (tied-to ls) w e h x in
-          ap (after a s′) (same-room alike (s′ .memory) (within-fits y)) ∙ same-after s′ (f s′ y) (first-refusal (drop 7 ys))))))))
+          ap (after a s′) (same-room alike (s′ .memory) (within-fits y)) ∙ same-after s′ (f s′ y) (first-refusal (room-tests b (s′ .memory))))
 
 -- Room past what the document needs at most changes no outcome.
 pub room-past : (mode : Mode) (doc base : Text) {a b : Room} → Alike (room-for (length doc)) a b
@@ -236,7 +226,7 @@ module _ (doc : Text) (mode : ℕ) (base : Text) (lent : Lent) (x : Meets doc mo
   pub sizes : Fits (room-for (length doc)) made
   sizes =
       let n = length doc in
-      let large : Room = record { rows = 2 * n + length (made .rows); terms = 2 * n + 9 + length (made .terms); store = 1025 * n + 386 + store-size (made .terms) } in
+      let large : Room = room-up-to (2 * n + length (made .rows)) (2 * n + 9 + length (made .terms)) (1025 * n + 386 + store-size (made .terms)) in
       let fits : Fits large made = record { rows = omega arith; terms = omega arith; store = omega arith } in
       let within : (k i j : ℕ) → k ≤ i → ltb i k ≡ ltb (i + j) k = λ k i j h. le-ltb i k h ∙ sym (le-ltb (i + j) k (omega arith)) in
       let alike : Alike (room-for n) (room-for n) large =

@@ -10,13 +10,13 @@ use Rattle.grammar.specs.Productions.{Nonterminal, Mode, trig, turtle, producti
 use Rattle.dataset.specs.Terms.{label, bracket as bracket-blank, iri, blank, tagged, rdf-type, xsd-string, xsd-integer, xsd-decimal, xsd-double, xsd-boolean}
 use Rattle.dataset.specs.Constructors.{string-text, tag, node-label, prefix}
 use Rattle.dataset.specs.Statements.{either, one-of-three, one-of-four}
-use Rattle.machine.specs.Memory.{Memory, start-memory, Write, return, _>>=_, _>>_, Done, done, term, new-term, typed, typed-by, iri-term, enter, declare-prefix, declare-base}
+use Rattle.machine.specs.Memory.{RowTerm, Memory, start-memory, Write, return, _>>=_, _>>_, Done, done, term, new-term, typed, typed-by, iri-term, enter, declare-prefix, declare-base}
 use Rattle.machine.specs.Places.{Place, top, subject-before, object-of, element-of, Cells, no-cell, hold, new-cell, extended, end-list}
 
 -- A node that was read, and where it was put.
 pub record Put : Type 0 where
   pub place : Place
-  pub node : ℕ
+  pub node : RowTerm
 
 -- What a node writes. Its place is made (a list cell, for an element) where its first token stands.
 abbrev pub Node : Type 0
@@ -29,7 +29,7 @@ Meaning trigDoc = Write Done
 Meaning block = Write Done
 Meaning triplesOrGraph = Write Done
 Meaning triples2 = Write Done
-Meaning wrappedGraph = ℕ → Write Done
+Meaning wrappedGraph = RowTerm → Write Done
 Meaning triplesBlock = Write Done
 Meaning labelOrSubject = Node
 Meaning turtleDoc = Write Done
@@ -40,9 +40,9 @@ Meaning base-nt = Write Done
 Meaning sparqlPrefix = Write Done
 Meaning sparqlBase = Write Done
 Meaning triples = Write Done
-Meaning predicateObjectList = ℕ → Write Done
-Meaning objectList = ℕ → ℕ → Write Done
-Meaning verb-nt = Write ℕ
+Meaning predicateObjectList = RowTerm → Write Done
+Meaning objectList = RowTerm → RowTerm → Write Done
+Meaning verb-nt = Write RowTerm
 Meaning subject-nt = Node
 Meaning predicate-nt = Token
 Meaning object-nt = Node
@@ -62,7 +62,7 @@ Meaning ANON = Node
 -- ---- Nodes
 
 -- A node that is written all at once, at the place of its first token.
-abbrev pub simple : Token → Write ℕ → Node
+abbrev pub simple : Token → Write RowTerm → Node
 simple t number begin = do
   p ← begin (t .start)
   n ← number
@@ -75,24 +75,24 @@ iri-node t = simple t (iri-term t)
 abbrev pub typed-node : Text → Token → Node
 typed-node type t = simple t (typed (t .text) type)
 
-abbrev pub bracket-term : Token → Write ℕ
+abbrev pub bracket-term : Token → Write RowTerm
 bracket-term t = new-term (blank (bracket-blank (t .start)))
 
 -- "The node produced by matching blankNodePropertyList is the blank node B", and B is the curSubject of its predicates and objects.
-abbrev pub bracket-node : Token × ((ℕ → Write Done) × Token) → Node
+abbrev pub bracket-node : Token × ((RowTerm → Write Done) × Token) → Node
 bracket-node (t, (properties, u)) begin = do
   x ← simple t (bracket-term t) begin
   properties (x .node)
   return x
 
 -- Each object of a collection is put into a cell of its own, behind the last one's.
-abbrev pub cell-of : Place → ℕ
+abbrev pub cell-of : Place → RowTerm
 cell-of top = 0
 cell-of (subject-before e) = 0
 cell-of (object-of s p) = 0
 cell-of (element-of c) = c
 
-abbrev pub elements : Place → ℕ → Cells → List Node → Token → Write ℕ
+abbrev pub elements : Place → ℕ → Cells → List Node → Token → Write RowTerm
 elements place opened cs [] u = end-list place opened cs (u .start)
 elements place opened cs (x ∷ xs) u = do
   y ← x (λ at. (do
@@ -115,50 +115,50 @@ rdf-literal (t, some (inr (u, d))) = simple t (typed-by (string-text t) d)
 -- ---- Triples
 
 -- "Each object N in the document produces an RDF triple: curSubject curPredicate N."
-abbrev pub object-triple : ℕ → ℕ → Node → Write Done
+abbrev pub object-triple : RowTerm → RowTerm → Node → Write Done
 object-triple s p x = do
   x (λ at. return (object-of s p))
   return done
 
-abbrev pub objects : ℕ → ℕ → List (Token × Node) → Write Done
+abbrev pub objects : RowTerm → RowTerm → List (Token × Node) → Write Done
 objects s p [] = return done
 objects s p ((comma, x) ∷ xs) = do
   object-triple s p x
   objects s p xs
 
-abbrev pub object-list : Node × List (Token × Node) → ℕ → ℕ → Write Done
+abbrev pub object-list : Node × List (Token × Node) → RowTerm → RowTerm → Write Done
 object-list (x, xs) s p = do
   object-triple s p x
   objects s p xs
 
-abbrev pub verb-objects : Write ℕ × (ℕ → ℕ → Write Done) → ℕ → Write Done
+abbrev pub verb-objects : Write RowTerm × (RowTerm → RowTerm → Write Done) → RowTerm → Write Done
 verb-objects (verb, os) s = do
   p ← verb
   os s p
 
-abbrev pub more-properties : ℕ → List (Token × Option (Write ℕ × (ℕ → ℕ → Write Done))) → Write Done
+abbrev pub more-properties : RowTerm → List (Token × Option (Write RowTerm × (RowTerm → RowTerm → Write Done))) → Write Done
 more-properties s [] = return done
 more-properties s ((semicolon, none) ∷ ps) = more-properties s ps
 more-properties s ((semicolon, some p) ∷ ps) = do
   verb-objects p s
   more-properties s ps
 
-abbrev pub properties : Write ℕ × ((ℕ → ℕ → Write Done) × List (Token × Option (Write ℕ × (ℕ → ℕ → Write Done)))) → ℕ → Write Done
+abbrev pub properties : Write RowTerm × ((RowTerm → RowTerm → Write Done) × List (Token × Option (Write RowTerm × (RowTerm → RowTerm → Write Done)))) → RowTerm → Write Done
 properties (verb, (os, ps)) s = do
   verb-objects (verb, os) s
   more-properties s ps
 
-abbrev pub perhaps : Option (ℕ → Write Done) → ℕ → Write Done
+abbrev pub perhaps : Option (RowTerm → Write Done) → RowTerm → Write Done
 perhaps none s = return done
 perhaps (some f) s = f s
 
 -- A node that is no object: it has no row.
-abbrev pub alone : Node → Write ℕ
+abbrev pub alone : Node → Write RowTerm
 alone x = do
   y ← x (λ at. return top)
   return (y .node)
 
-abbrev pub triples-of : (Node × (ℕ → Write Done)) ⊎ (Node × Option (ℕ → Write Done)) → Write Done
+abbrev pub triples-of : (Node × (RowTerm → Write Done)) ⊎ (Node × Option (RowTerm → Write Done)) → Write Done
 triples-of (inl (x, f)) = do
   s ← alone x
   f s
@@ -173,7 +173,7 @@ or-nothing none = return done
 or-nothing (some w) = w
 
 -- The triples in the braces stand in the graph g; after them the default graph is open again.
-abbrev pub graph-of : Token × (Option (Write Done) × Token) → ℕ → Write Done
+abbrev pub graph-of : Token × (Option (Write Done) × Token) → RowTerm → Write Done
 graph-of (t, (w, u)) g = do
   enter g
   or-nothing w
@@ -183,15 +183,15 @@ abbrev pub later-triples : Option (Token × Option (Write Done)) → Write Done
 later-triples none = return done
 later-triples (some (dot, w)) = or-nothing w
 
-abbrev pub graph-or-triples : (ℕ → Write Done) ⊎ ((ℕ → Write Done) × Token) → ℕ → Write Done
+abbrev pub graph-or-triples : (RowTerm → Write Done) ⊎ ((RowTerm → Write Done) × Token) → RowTerm → Write Done
 graph-or-triples (inl g) n = g n
 graph-or-triples (inr (f, dot)) n = f n
 
-abbrev pub bracket-or-list : (Node × (Option (ℕ → Write Done) × Token)) ⊎ (Node × ((ℕ → Write Done) × Token)) → Write Done
+abbrev pub bracket-or-list : (Node × (Option (RowTerm → Write Done) × Token)) ⊎ (Node × ((RowTerm → Write Done) × Token)) → Write Done
 bracket-or-list (inl (x, (f, dot))) = triples-of (inr (x, f))
 bracket-or-list (inr (x, (f, dot))) = triples-of (inl (x, f))
 
-abbrev pub block-of : Write Done ⊎ ((ℕ → Write Done) ⊎ (Write Done ⊎ (Token × (Node × (ℕ → Write Done))))) → Write Done
+abbrev pub block-of : Write Done ⊎ ((RowTerm → Write Done) ⊎ (Write Done ⊎ (Token × (Node × (RowTerm → Write Done))))) → Write Done
 block-of (inl w) = w
 block-of (inr (inl g)) = g 0
 block-of (inr (inr (inl w))) = w

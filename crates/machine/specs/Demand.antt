@@ -14,7 +14,7 @@ use Rattle.dataset.specs.Constructors.{in-force}
 use Rattle.table.specs.Tables.{store-size}
 use Rattle.machine.specs.Memory.{Memory}
 use Rattle.machine.specs.Refusals.{no-character, undeclared, no-base, too-long, one-prefix-more, too-deep, new-depth}
-use Rattle.machine.specs.Call.{Lent, Room, room-of, mode-of, first-refusal, first-checks}
+use Rattle.machine.specs.Call.{Lent, Room, room-up-to, room-of, mode-of, first-refusal, first-checks}
 use Rattle.machine.specs.Construction.{tables}
 
 -- The tokens of a document, up to the first place where none can be read.
@@ -49,7 +49,7 @@ pub record Fair (base : Text) (before ts : List Token) : Type 0 where
 
 -- "A document of n bytes makes at most 2n rows": with them 2n + 9 terms, and 1,025n + 386 bytes of the store.
 abbrev pub room-for : ℕ → Room
-room-for n = record { rows = 2 * n; terms = 2 * n + 9; store = 1025 * n + 386 }
+room-for n = room-up-to (2 * n) (2 * n + 9) (1025 * n + 386)
 
 -- Each lent table holds what is written there.
 pub record Fits (room : Room) (m : Memory) : Type 0 where

@@ -3,21 +3,22 @@ use mathlib.Core.List.{List}
 use mathlib.Core.Bool.{Bool}
 use Prim.Native.Nat.{ℕ}
 use Rattle.text.specs.Text.{Text}
+use Rattle.machine.specs.Memory.{RowTerm}
 pub use Rattle.machine.specs.Places.{Ending, full-stop, brace, bracket-end, Place, top, subject-before, object-of, element-of, Cells, no-cell, cells}
 
--- What is to be read next in a statement. Numbers are of terms; `at` is the position of the token where the object began.
+-- What is to be read next in a statement. The numbers are positions of tokens: where a list was opened, where the object began.
 pub data Frame : Type 0 where
   graph-label : Frame
-  closing-label : ℕ → Frame
-  graph-body : ℕ → Frame
-  label-or-subject : ℕ → Frame
+  closing-label : RowTerm → Frame
+  graph-body : RowTerm → Frame
+  label-or-subject : RowTerm → Frame
   triples-or-end : Frame
-  verb : ℕ → Ending → Frame
-  verb-or-end : ℕ → Ending → Frame
-  object : ℕ → ℕ → Ending → Frame
-  after-object : ℕ → ℕ → Ending → Frame
-  after-semicolon : ℕ → Ending → Frame
-  bracket : Place → ℕ → Frame
+  verb : RowTerm → Ending → Frame
+  verb-or-end : RowTerm → Ending → Frame
+  object : RowTerm → RowTerm → Ending → Frame
+  after-object : RowTerm → RowTerm → Ending → Frame
+  after-semicolon : RowTerm → Ending → Frame
+  bracket : Place → RowTerm → Frame
   list : Place → ℕ → Cells → Frame
   suffix : Place → ℕ → Text → Frame
   datatype : Place → ℕ → Text → Frame

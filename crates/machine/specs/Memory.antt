@@ -11,15 +11,32 @@ use Rattle.dataset.specs.Constructors.{iri-of}
 use Rattle.table.specs.Layout.{Row}
 use Rattle.table.specs.Tables.{number}
 
--- The graph is a term's number, or 0 for the default graph.
+-- A term as it stands in a row: its number.
+abbrev pub RowTerm : Type 0
+RowTerm = ℕ
+
+-- `graph` is the graph that is open, 0 for the default graph.
 pub record Memory : Type 0 where
   pub environment : Environment
-  pub graph : ℕ
+  pub graph : RowTerm
   pub rows : List Row
   pub terms : List Term
 
 abbrev pub start-memory : Text → Memory
 start-memory base = record { environment = start-environment base; graph = 0; rows = []; terms = [] }
+
+-- The memory with one part changed.
+abbrev pub with-environment : Environment → Memory → Memory
+with-environment e m = record { environment = e; graph = m .graph; rows = m .rows; terms = m .terms }
+
+abbrev pub with-graph : RowTerm → Memory → Memory
+with-graph g m = record { environment = m .environment; graph = g; rows = m .rows; terms = m .terms }
+
+abbrev pub with-rows : List Row → Memory → Memory
+with-rows rs m = record { environment = m .environment; graph = m .graph; rows = rs; terms = m .terms }
+
+abbrev pub with-terms : List Term → Memory → Memory
+with-terms ts m = record { environment = m .environment; graph = m .graph; rows = m .rows; terms = ts }
 
 -- ---- Writing: a step that changes the memory and has a result
 
@@ -43,45 +60,44 @@ pub data Done : Type 0 where
 -- ---- Terms
 
 -- A new term, at the end.
-abbrev pub new-term : Term → Write ℕ
-new-term t m = (suc (length (m .terms)), record { environment = m .environment; graph = m .graph; rows = m .rows; terms = m .terms ++ t ∷ [] })
+abbrev pub new-term : Term → Write RowTerm
+new-term t m = (suc (length (m .terms)), with-terms (m .terms ++ t ∷ []) m)
 
 -- "Equal terms share a number, except that each [ and each list cell is new": the number of the equal term, or of a new one.
-abbrev pub term-by : Option ℕ → Term → Write ℕ
+abbrev pub term-by : Option RowTerm → Term → Write RowTerm
 term-by (some n) t m = (n, m)
 term-by none t m = new-term t m
 
-abbrev pub term : Term → Write ℕ
+abbrev pub term : Term → Write RowTerm
 term t m = term-by (number t (m .terms)) t m
 
 -- A literal of a datatype: "a datatype is numbered before its literal".
-abbrev pub typed : Text → Text → Write ℕ
+abbrev pub typed : Text → Text → Write RowTerm
 typed s d = do
   term (iri d)
   term (literal s d)
 
 -- The IRI of a token, and the literal whose datatype it is.
-abbrev pub iri-term : Token → Write ℕ
+abbrev pub iri-term : Token → Write RowTerm
 iri-term t m = term (iri (iri-of (m .environment) t)) m
 
-abbrev pub typed-by : Text → Token → Write ℕ
+abbrev pub typed-by : Text → Token → Write RowTerm
 typed-by s t m = typed s (iri-of (m .environment) t) m
 
 -- ---- Rows
 
 -- A row in the graph that is open.
-abbrev pub row : ℕ → ℕ → ℕ → ℕ → Write Done
-row s p o at m =
-    (done, record { environment = m .environment; graph = m .graph; rows = m .rows ++ record { graph = m .graph; subject = s; predicate = p; object = o; position = at } ∷ []; terms = m .terms })
+abbrev pub row : RowTerm → RowTerm → RowTerm → ℕ → Write Done
+row s p o at m = (done, with-rows (m .rows ++ record { graph = m .graph; subject = s; predicate = p; object = o; position = at } ∷ []) m)
 
 -- The rows that follow stand in the graph g.
-abbrev pub enter : ℕ → Write Done
-enter g m = (done, record { environment = m .environment; graph = g; rows = m .rows; terms = m .terms })
+abbrev pub enter : RowTerm → Write Done
+enter g m = (done, with-graph g m)
 
 -- ---- Directives: "Namespaces and new bases are resolved when declared."
 
 abbrev pub in-environment : Environment → Write Done
-in-environment e m = (done, record { environment = e; graph = m .graph; rows = m .rows; terms = m .terms })
+in-environment e m = (done, with-environment e m)
 
 abbrev pub declare-prefix : Text → Token → Write Done
 declare-prefix p t m = in-environment (declare p (iri-of (m .environment) t) (m .environment)) m

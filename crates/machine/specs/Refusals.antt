@@ -1,5 +1,5 @@
--- The refusals that a token meets by itself, from what the directives before it set and how many brackets are open.
-use mathlib.Core.List.{[], _∷_}
+-- The refusals that a token meets, from what the directives before it set, how many brackets are open, and how much room there is.
+use mathlib.Core.List.{List, [], _∷_, _++_}
 use mathlib.Core.Bool.{Bool, true, false, not, _&&_, _||_}
 use Prim.Native.Nat.{ℕ, _+_, _-_}
 use lib.Dec.{leb, ltb}
@@ -12,7 +12,10 @@ use Rattle.escape.specs.Escape.{bad-escape}
 use Rattle.iri.specs.Iri.{has-scheme}
 use Rattle.iri.specs.Resolve.{resolve-with-dots}
 use Rattle.environment.specs.Environment.{Environment, lookup}
+use Rattle.table.specs.Tables.{store-size}
 use Rattle.dataset.specs.Constructors.{reference, prefix, joined-name, InForce, Awaited, nothing, prefix-name, new-base, namespace-of}
+use Rattle.machine.specs.Memory.{Memory}
+use Rattle.machine.specs.Call.{Room, Test, _when_}
 
 -- Is the token awaited as the prefix that a directive declares?
 abbrev pub declared-name : Awaited → Bool
@@ -67,3 +70,32 @@ too-deep depth t = opens t && leb depth-limit depth
 -- How many are open after the token.
 unfoldable pub new-depth : ℕ → Token → ℕ
 new-depth depth t = cond (opens t) (depth + 1) (cond (closes t) (depth - 1) depth)
+
+-- ---- The tests of a token, in number order
+
+-- Of its escapes: 7.
+abbrev pub escape-tests : Token → List Test
+escape-tests t = 7 when no-character t ∷ []
+
+-- Of the IRI that it stands for, under what is in force.
+abbrev pub iri-tests : InForce → Token → List Test
+iri-tests f t = 9 when undeclared f t ∷ 10 when no-base f t ∷ 11 when too-long f t ∷ []
+
+-- Of the prefix that it declares.
+abbrev pub prefix-tests : InForce → List Test
+prefix-tests f = 12 when one-prefix-more f ∷ []
+
+-- Of how many brackets are open.
+abbrev pub depth-tests : ℕ → Token → List Test
+depth-tests depth t = 13 when too-deep depth t ∷ []
+
+-- These three: 9 to 13.
+abbrev pub force-tests : InForce → ℕ → Token → List Test
+force-tests f depth t = iri-tests f t ++ prefix-tests f ++ depth-tests depth t
+
+-- Of so many rows, terms and store bytes; and of all that is written with it.
+abbrev pub size-tests : Room → ℕ → ℕ → ℕ → List Test
+size-tests room rows terms bytes = 14 when ltb (room .rows) rows ∷ 15 when ltb (room .terms) terms ∷ 16 when ltb (room .store) bytes ∷ []
+
+abbrev pub room-tests : Room → Memory → List Test
+room-tests room m = size-tests room (length (m .rows)) (length (m .terms)) (store-size (m .terms))

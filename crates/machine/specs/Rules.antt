@@ -3,14 +3,13 @@
 use mathlib.Core.List.{List, [], _∷_, _++_}
 use mathlib.Core.Bool.{Bool, true, false}
 use mathlib.Core.Option.{Option, none, some}
-use Prim.Native.Nat.{ℕ}
 use Rattle.text.specs.Text.{cond}
 use Rattle.token.specs.Kind.{Kind, among, iris, strings, at-prefix, at-base, PREFIX, BASE, GRAPH, dot, semicolon, comma, open-bracket, close-bracket, open-paren, close-paren, open-brace, close-brace, kw-a, kw-true, kw-false, carets, IRIREF, «PNAME_NS», «BLANK_NODE_LABEL», LANGTAG, INTEGER, DECIMAL, DOUBLE}
 use Rattle.token.specs.Tokens.{Token}
 use Rattle.grammar.specs.Productions.{Mode, trig, turtle}
 use Rattle.dataset.specs.Terms.{label, bracket as bracket-node, iri, blank, tagged, rdf-type, xsd-string, xsd-integer, xsd-decimal, xsd-double, xsd-boolean}
 use Rattle.dataset.specs.Constructors.{string-text, tag, node-label, prefix}
-use Rattle.machine.specs.Memory.{Write, return, _>>=_, _>>_, term, new-term, typed, typed-by, iri-term, enter, declare-prefix, declare-base}
+use Rattle.machine.specs.Memory.{RowTerm, Write, return, _>>=_, _>>_, term, new-term, typed, typed-by, iri-term, enter, declare-prefix, declare-base}
 pub use Rattle.machine.specs.Places.{hold, new-cell, extended, end-list}
 use Rattle.machine.specs.Frame.{Ending, full-stop, brace, bracket-end, Place, top, subject-before, object-of, element-of, no-cell, Frame, graph-label, closing-label, graph-body, label-or-subject, triples-or-end, verb, verb-or-end, object, after-object, after-semicolon, bracket, list, suffix, datatype, Directive, prefix-name, namespace-of, new-base, last-dot, Open, directive, statement}
 
@@ -27,13 +26,13 @@ find-rule k [] = none
 find-rule k ((ks ⇒ w) ∷ rs) = cond (among ks k) (some w) (find-rule k rs)
 
 -- What is open once a node is complete at its place; and once a bracket with properties is.
-abbrev pub after-node : Place → ℕ → List Frame
+abbrev pub after-node : Place → RowTerm → List Frame
 after-node top n = label-or-subject n ∷ []
 after-node (subject-before e) n = verb n e ∷ []
 after-node (object-of s p) n = []
 after-node (element-of cell) n = []
 
-abbrev pub after-properties : Place → ℕ → List Frame
+abbrev pub after-properties : Place → RowTerm → List Frame
 after-properties top n = verb-or-end n full-stop ∷ []
 after-properties (subject-before e) n = verb-or-end n e ∷ []
 after-properties (object-of s p) n = []
@@ -54,10 +53,10 @@ pub record Opening : Type 0 where
 -- t is the token; `tied`: a tag or ^^ follows it.
 module _ (t : Token) (tied : Bool) where
   -- "A term (rdf:type for a, too) is numbered, and its row made, at its token; .. for [ at the bracket."
-  abbrev pub label-term : Write ℕ
+  abbrev pub label-term : Write RowTerm
   label-term = term (blank (label (node-label t)))
 
-  abbrev pub bracket-term : Write ℕ
+  abbrev pub bracket-term : Write RowTerm
   bracket-term = new-term (blank (bracket-node (t .start)))
 
   -- The last token of a predicateObjectList.
@@ -69,7 +68,7 @@ module _ (t : Token) (tied : Bool) where
   end-rules bracket-end = (close-bracket ∷ [] ⇒ return []) ∷ []
 
   -- A predicate p, with the frames that are open after it.
-  abbrev pub verb-rules : (ℕ → List Frame) → List (Rule (List Frame))
+  abbrev pub verb-rules : (RowTerm → List Frame) → List (Rule (List Frame))
   verb-rules after =
       (iris ⇒ (do p ← iri-term t; return (after p)))
       ∷ (kw-a ∷ [] ⇒ (do p ← term (iri rdf-type); return (after p))) ∷ []
@@ -81,7 +80,7 @@ module _ (t : Token) (tied : Bool) where
       ∷ (open-bracket ∷ [] ⇒ (do n ← bracket-term; return (bracket place n ∷ [])))
       ∷ (open-paren ∷ [] ⇒ return (list (list-place place) (t .start) no-cell ∷ [])) ∷ []
 
-  abbrev pub simple : Write Opening → Write ℕ → Write (List Frame)
+  abbrev pub simple : Write Opening → Write RowTerm → Write (List Frame)
   simple begin node = do
     o ← begin
     n ← node

@@ -1,21 +1,18 @@
 -- One token at a time: the refusals in number order, and the run over the tokens.
-use mathlib.Core.List.{List, [], _∷_}
+use mathlib.Core.List.{List, [], _∷_, _++_}
 use mathlib.Core.Bool.{Bool, false}
 use mathlib.Core.Option.{Option, none, some}
 use Prim.Native.Nat.{ℕ}
-use lib.Dec.{ltb}
-use lib.ListN.{length}
 use Rattle.text.specs.Text.{is-none}
 use Rattle.token.specs.Kind.{carets, LANGTAG}
 use Rattle.token.specs.Tokens.{Token, has-kind, Lexeme, token, unreadable}
 use Rattle.grammar.specs.Productions.{Mode}
 use Rattle.dataset.specs.Constructors.{InForce, Awaited, nothing, prefix-name as prefix-awaited, new-base as base-awaited, namespace-of as namespace-awaited, awaiting}
-use Rattle.table.specs.Tables.{store-size}
 use Rattle.machine.specs.Memory.{Memory, Write}
 pub use Rattle.machine.specs.Call.{Room, Test, _when_, first-refusal}
 use Rattle.machine.specs.Frame.{prefix-name, namespace-of, new-base, last-dot, Open, directive, statement}
 use Rattle.machine.specs.Rules.{find-rule, rules}
-use Rattle.machine.specs.Refusals.{no-character, undeclared, no-base, too-long, one-prefix-more, too-deep, new-depth}
+use Rattle.machine.specs.Refusals.{new-depth, escape-tests, force-tests, room-tests}
 
 -- What is open, how many [ and ( are open, and the memory.
 pub record State : Type 0 where
@@ -48,17 +45,7 @@ obeyed (some w) t s = let r = w (s .memory) in record { open-now = r .0; depth =
 -- "at each token 6 to 16 in number order, 14 to 16 counting everything that token writes"
 abbrev pub tests : Room → State → Token → Option (Write Open) → State → List Test
 tests room s t rule s′ =
-    7 when no-character t
-    ∷ 8 when is-none rule
-    ∷ 9 when undeclared (in-force-now s) t
-    ∷ 10 when no-base (in-force-now s) t
-    ∷ 11 when too-long (in-force-now s) t
-    ∷ 12 when one-prefix-more (in-force-now s)
-    ∷ 13 when too-deep (s .depth) t
-    ∷ 14 when ltb (room .rows) (length (s′ .memory .rows))
-    ∷ 15 when ltb (room .terms) (length (s′ .memory .terms))
-    ∷ 16 when ltb (room .store) (store-size (s′ .memory .terms))
-    ∷ []
+    escape-tests t ++ 8 when is-none rule ∷ [] ++ force-tests (in-force-now s) (s .depth) t ++ room-tests room (s′ .memory)
 
 abbrev pub answer : Option ℕ → ℕ → State → Next
 answer none at s = go s

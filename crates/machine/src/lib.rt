@@ -1,18 +1,10 @@
-// The answers of the reader and the writer by number.
+// Which numbers are answers of the reader and the writer.
 ghost use mathlib.Core.Path.{_≡_};
 ghost use lib.Dec.{leb};
+use limits::Answer;
 
-pub struct Answer {}
-
-impl Answer {
-    pub const ACCEPTED: u8 = 0;
-
-    pub const UNUSABLE: u8 = 18;
-
-    // Whether the number is an answer's.
-    pub fn is_known(number: u8) -> bool
-        ensures { λ r. ⌜ r ≡ leb number 18 ⌝ }
-    {
-        number <= Answer::UNUSABLE
-    }
+pub fn is_answer(number: u8) -> bool
+    ensures { λ r. ⌜ r ≡ leb number 18 ⌝ }
+{
+    number <= Answer::TABLES
 }

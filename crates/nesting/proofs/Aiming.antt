@@ -6,19 +6,21 @@ use Prim.Native.Nat.{ℕ, _-_, _<_}
 use native.Mathlib.Omega.{arith}
 use lib.ListN.{length, getD}
 use denote.Ref.{RefT}
+use Rattle.token.specs.Kind.{end-kind, unreadable-kind}
 use Rattle.environment.specs.Code.{words-size}
 use Rattle.text.specs.Text.{Text}
 use Rattle.text.proofs.Compare.{contrary}
 use Rattle.machine.specs.Frame.{Open}
 use Rattle.machine.specs.Memory.{Memory}
 use Rattle.grammar.specs.Productions.{Mode}
-use Rattle.state.specs.Words.{kind-word, at-word, depth-word, graph-word, list-word}
+use Rattle.state.specs.Words.{at-word, depth-word, graph-word, list-word, kind-in, at-in, depth-in}
 use Rattle.state.specs.Cursor.{Cursor, TokenHere}
 use Rattle.state.specs.Represents.{Tables}
 use Rattle.simulation.specs.Simulation.{Held, held, tables-of, Holding, goes, Ready, Comes}
 use Rattle.nodes.specs.Nodes.{Aimed, Spotted}
 use Rattle.nodes.proofs.Moving.{cursor-words, left-words}
 use Rattle.nodes.proofs.Passing.{represents-words}
+use Rattle.table.specs.Layout.{word-limit}
 
 module _ (doc : Text) (work rows terms store : RefT (List ℕ)) (st st' : List ℕ) (same : (k : ℕ) → k < list-word → getD st' k 0 ≡ getD st k 0) (n : length st' ≡ length st) where
   abbrev a : Held
@@ -50,12 +52,12 @@ module _ (doc : Text) (work rows terms store : RefT (List ℕ)) (st st' : List �
       }
 
 -- A place within the words that there may be.
-pub spotted : (work rows terms store : RefT (List ℕ)) (st st' : List ℕ) (list x y opened last : ℕ) → Aimed st st' list x y opened last → x < 4294967296 → y < 4294967296 → opened < 4294967296 → last < 4294967296 → Spotted (held work rows terms store st')
+pub spotted : (work rows terms store : RefT (List ℕ)) (st st' : List ℕ) (list x y opened last : ℕ) → Aimed st st' list x y opened last → x < word-limit → y < word-limit → opened < word-limit → last < word-limit → Spotted (held work rows terms store st')
 spotted work rows terms store st st' list x y opened last a hx hy ho hl =
     record { x = rw (a .x-is) hx; y = rw (a .y-is) hy; opened = rw (a .opened-is) ho; last = rw (a .last-is) hl }
 
 -- A place in the document fits.
-pub place-small : (doc : Text) (a : Held) → Ready doc a → getD (a .st) at-word 0 < 4294967296
+pub place-small : (doc : Text) (a : Held) → Ready doc a → at-in (a .st) < word-limit
 place-small doc a r = omega (arith, r .cursor .inside, r .cursor .size)
 
 -- ---- What routines ask for
@@ -66,10 +68,10 @@ ready-words doc a r = let (old, (m, h)) = r .holds in h .usable .words
 pub unexpected-call : (doc : Text) (a : Held) → Ready doc a → Cursor doc (a .st) × (length (a .st) ≡ words-size)
 unexpected-call doc a r = (r .cursor, ready-words doc a r)
 
-pub pass-call : (doc : Text) (a : Held) (k : ℕ) → Ready doc a → getD (a .st) kind-word 0 ≡ k → (k ≡ 0 → ⊥) → (k ≡ 31 → ⊥) → (Cursor doc (a .st) × TokenHere doc (a .st)) × (length (a .st) ≡ words-size)
+pub pass-call : (doc : Text) (a : Held) (k : ℕ) → Ready doc a → kind-in (a .st) ≡ k → (k ≡ end-kind → ⊥) → (k ≡ unreadable-kind → ⊥) → (Cursor doc (a .st) × TokenHere doc (a .st)) × (length (a .st) ≡ words-size)
 pass-call doc a k r e z y = ((r .cursor, r .cursor .token (λ h. z (sym e ∙ h)) (λ h. y (sym e ∙ h))), ready-words doc a r)
 
-pub leave-call : (doc : Text) (a : Held) (k : ℕ) → Ready doc a → getD (a .st) kind-word 0 ≡ k → (k ≡ 0 → ⊥) → (k ≡ 31 → ⊥) → 0 < getD (a .st) depth-word 0 → (Cursor doc (a .st) × TokenHere doc (a .st)) × ((length (a .st) ≡ words-size) × (0 < getD (a .st) depth-word 0))
+pub leave-call : (doc : Text) (a : Held) (k : ℕ) → Ready doc a → kind-in (a .st) ≡ k → (k ≡ end-kind → ⊥) → (k ≡ unreadable-kind → ⊥) → 0 < depth-in (a .st) → (Cursor doc (a .st) × TokenHere doc (a .st)) × ((length (a .st) ≡ words-size) × (0 < depth-in (a .st)))
 leave-call doc a k r e z y d = let w = pass-call doc a k r e z y in (w .0, (w .1, d))
 
 -- A test that was turned round.
@@ -82,5 +84,5 @@ affirmed true e = refl
 affirmed false e = contrary e
 
 -- The cursor has gone on, within the document.
-pub less-left : (doc : Text) (a b : Held) → Ready doc b → getD (a .st) at-word 0 < getD (b .st) at-word 0 → length doc - getD (b .st) at-word 0 < length doc - getD (a .st) at-word 0
+pub less-left : (doc : Text) (a b : Held) → Ready doc b → at-in (a .st) < at-in (b .st) → length doc - at-in (b .st) < length doc - at-in (a .st)
 less-left doc a b r h = omega (arith, r .cursor .inside)

@@ -11,14 +11,14 @@ use lib.ListN.{length, getD}
 use denote.Ref.{RefT}
 use Rattle.text.specs.Text.{Text, cond}
 use Rattle.text.proofs.Compare.{by, contrary}
-use Rattle.token.specs.Kind.{kind-of-code, among, strings, kw-a, open-bracket, open-paren}
+use Rattle.token.specs.Kind.{kind-code, end-kind, unreadable-kind, kind-of-code, among, strings, kw-a, open-bracket, open-paren, IRIREF, «PNAME_NS», «PNAME_LN», «BLANK_NODE_LABEL», INTEGER, DECIMAL, DOUBLE, «STRING_LITERAL_QUOTE», «STRING_LITERAL_SINGLE_QUOTE», kw-true, kw-false, «STRING_LITERAL_LONG_QUOTE», «STRING_LITERAL_LONG_SINGLE_QUOTE»}
 use Rattle.token.specs.Tokens.{Token}
 use Rattle.dataset.specs.Terms.{blank, bracket as bracket-node}
 use Rattle.machine.specs.Memory.{Memory, new-term}
 use Rattle.machine.specs.Frame.{Place, no-cell, Frame, bracket, list}
 use Rattle.machine.specs.Rules.{find-rule, object-rules, frame-rules, after-node}
 use Rattle.machine.specs.Refusals.{new-depth}
-use Rattle.state.specs.Words.{terms-word, node-word, kind-word, at-word, depth-word, list-word, x-word, y-word, graph-word, last-word, len-word, level-word, opened-word}
+use Rattle.state.specs.Words.{terms-word, kind-word, at-word, depth-word, list-word, x-word, y-word, graph-word, last-word, len-word, level-word, opened-word, kind-in, at-in, depth-in, node-in, list-in}
 use Rattle.state.specs.Cursor.{TokenHere}
 use Rattle.state.specs.Represents.{Tables}
 use Rattle.state.specs.Writes.{place-of, placed, opened-at}
@@ -37,13 +37,14 @@ use Rattle.nesting.proofs.Levels.{levels-at, mark-depth, mark-before, m
 use Rattle.nesting.proofs.Skipping.{token-there}
 use Rattle.simulation.proofs.Numbers.{next-small}
 use Rattle.nesting.proofs.Aiming.{comes-aimed, ready-aimed, place-small}
+use Rattle.table.specs.Layout.{word-limit}
 
 -- The kind of a term is a token's.
-term-token : (k : ℕ) → code-among term-kinds k ≡ true → (k ≡ 0 → ⊥) × (k ≡ 31 → ⊥)
+term-token : (k : ℕ) → code-among term-kinds k ≡ true → (k ≡ end-kind → ⊥) × (k ≡ unreadable-kind → ⊥)
 term-token k v = ((λ e. contrary (sym (rw e at v))), (λ e. contrary (sym (rw e at v))))
 
 term-call : (k : ℕ) → code-among term-kinds k ≡ true → code-among (kw-a ∷ term-kinds) k ≡ true
-term-call k v = rw v (or-true (eqb k 13))
+term-call k v = rw v (or-true (eqb k (kind-code kw-a)))
   where
     or-true : (b : Bool) → (b || true) ≡ true
     or-true true = refl
@@ -71,10 +72,10 @@ module _ (doc : Text) (a b : Held) (r : ℕ) (N : Fills doc a b r × Settled a b
       }
 
   module _ (z : r ≡ 0) where
-    settled : (fs : List Frame) → Levels (a .st) (getD (a .st) depth-word 0) fs → Levels (b .st) (getD (b .st) depth-word 0) fs
-    settled fs l = levels-at (a .st) (b .st) (getD (a .st) depth-word 0) (getD (b .st) depth-word 0) (N .1 .steady .depth z) (λ k h. N .1 .spot z k (omega arith)) fs l
+    settled : (fs : List Frame) → Levels (a .st) (depth-in (a .st)) fs → Levels (b .st) (depth-in (b .st)) fs
+    settled fs l = levels-at (a .st) (b .st) (depth-in (a .st)) (depth-in (b .st)) (N .1 .steady .depth z) (λ k h. N .1 .spot z k (omega arith)) fs l
 
-    pub leaf-done : Awaited doc a → SomeLevels (a .st) (getD (a .st) depth-word 0) → Ready doc b × SomeLevels (b .st) (getD (b .st) depth-word 0)
+    pub leaf-done : Awaited doc a → SomeLevels (a .st) (depth-in (a .st)) → Ready doc b × SomeLevels (b .st) (depth-in (b .st))
     leaf-done (f, (g, s)) (fs, l) = (N .0 f g s .ready z, (fs, settled fs l))
 
     pub leaf-resumes : (d : Held) (q : ℕ) → Resumes doc b d q → Values doc a d q
@@ -94,24 +95,24 @@ module _ (doc : Text) (a b : Held) (r : ℕ) (N : Fills doc a b r × Settled a b
         }
 
 module _ (doc : Text) (a : Held) (ready : Ready doc a) where
-  term-settled : (b : Held) (r : ℕ) → code-among term-kinds (getD (a .st) kind-word 0) ≡ true → PutsTerm doc a b r → Fills doc a b r × Settled a b r
+  term-settled : (b : Held) (r : ℕ) → code-among term-kinds (kind-in (a .st)) ≡ true → PutsTerm doc a b r → Fills doc a b r × Settled a b r
   term-settled b r v P =
-      let (z, y) = term-token (getD (a .st) kind-word 0) v in
+      let (z, y) = term-token (kind-in (a .st)) v in
       let t = ready .cursor .token z y in
-      let h : among term-kinds (here doc a .kind) ≡ true = among-code term-kinds (getD (a .st) kind-word 0) z (t .known) ∙ v in
-      let h' : among (kw-a ∷ term-kinds) (here doc a .kind) ≡ true = among-code (kw-a ∷ term-kinds) (getD (a .st) kind-word 0) z (t .known) ∙ term-call (getD (a .st) kind-word 0) v in
+      let h : among term-kinds (here doc a .kind) ≡ true = among-code term-kinds (kind-in (a .st)) z (t .known) ∙ v in
+      let h' : among (kw-a ∷ term-kinds) (here doc a .kind) ≡ true = among-code (kw-a ∷ term-kinds) (kind-in (a .st)) z (t .known) ∙ term-call (kind-in (a .st)) v in
       let (w, q) = term-rule (here doc a) (here doc a .kind) h' in
       let D = P w q .gives .does in (
         term-fills doc a b r ready t z P h,
-        record { steady = record { depth = λ e. D .done e .depth ∙ term-depth (here doc a) (getD (a .st) depth-word 0) h'; later = λ e. D .done e .later }; spot = λ e. D .done e .spot },
+        record { steady = record { depth = λ e. D .done e .depth ∙ term-depth (here doc a) (depth-in (a .st)) h'; later = λ e. D .done e .later }; spot = λ e. D .done e .spot },
       )
 
-  pub leaf-settled : (b : Held) (r : ℕ) (c : Bool) → c ≡ (code-among term-kinds (getD (a .st) kind-word 0) || code-among strings (getD (a .st) kind-word 0)) → c ≡ true → Leaf doc a b r → Fills doc a b r × Settled a b r
+  pub leaf-settled : (b : Held) (r : ℕ) (c : Bool) → c ≡ (code-among term-kinds (kind-in (a .st)) || code-among strings (kind-in (a .st))) → c ≡ true → Leaf doc a b r → Fills doc a b r × Settled a b r
   leaf-settled b r c e t L =
-      by (code-among strings (getD (a .st) kind-word 0)) (λ p. L .fills p) (λ p. term-settled b r (first-true (code-among term-kinds (getD (a .st) kind-word 0)) (code-among strings (getD (a .st) kind-word 0)) (sym e ∙ t) p) (L .puts))
+      by (code-among strings (kind-in (a .st))) (λ p. L .fills p) (λ p. term-settled b r (first-true (code-among term-kinds (kind-in (a .st))) (code-among strings (kind-in (a .st))) (sym e ∙ t) p) (L .puts))
 
   -- Nothing that may stand there.
-  pub value-none : (r : ℕ) (c : Bool) → c ≡ (code-among term-kinds (getD (a .st) kind-word 0) || code-among strings (getD (a .st) kind-word 0)) → c ≡ false → (getD (a .st) kind-word 0 ≡ 22 → ⊥) → (getD (a .st) kind-word 0 ≡ 24 → ⊥) → r ≡ refusal-here doc (a .st)
+  pub value-none : (r : ℕ) (c : Bool) → c ≡ (code-among term-kinds (kind-in (a .st)) || code-among strings (kind-in (a .st))) → c ≡ false → (kind-in (a .st) ≡ kind-code open-bracket → ⊥) → (kind-in (a .st) ≡ kind-code open-paren → ⊥) → r ≡ refusal-here doc (a .st)
       → Values doc a a r
   value-none r c ec f x y e =
       leaf-stop doc a a r (
@@ -124,14 +125,14 @@ module _ (doc : Text) (a : Held) (ready : Ready doc a) where
       neither true y e = contrary e
       neither false y e = (refl, e)
 
-      v : code-among term-kinds (getD (a .st) kind-word 0) ≡ false
-      v = neither (code-among term-kinds (getD (a .st) kind-word 0)) (code-among strings (getD (a .st) kind-word 0)) (sym ec ∙ f) .0
+      v : code-among term-kinds (kind-in (a .st)) ≡ false
+      v = neither (code-among term-kinds (kind-in (a .st))) (code-among strings (kind-in (a .st))) (sym ec ∙ f) .0
 
-      w : code-among strings (getD (a .st) kind-word 0) ≡ false
-      w = neither (code-among term-kinds (getD (a .st) kind-word 0)) (code-among strings (getD (a .st) kind-word 0)) (sym ec ∙ f) .1
+      w : code-among strings (kind-in (a .st)) ≡ false
+      w = neither (code-among term-kinds (kind-in (a .st))) (code-among strings (kind-in (a .st))) (sym ec ∙ f) .1
 
-      parts : (k : ℕ) → code-among term-kinds k ≡ false → code-among strings k ≡ false → (k ≡ 22 → ⊥) → (k ≡ 24 → ⊥) → code-among object-kinds k ≡ false
-      parts k p q x y = nine (eqb k 1) (eqb k 2) (eqb k 3) (eqb k 4) (eqb k 8) (eqb k 9) (eqb k 10) (eqb k 14) (eqb k 15) _ p (four (eqb k 11) (eqb k 12) (eqb k 29) (eqb k 30) _ q (rw (ne-eqb k 22 x, ne-eqb k 24 y)))
+      parts : (k : ℕ) → code-among term-kinds k ≡ false → code-among strings k ≡ false → (k ≡ kind-code open-bracket → ⊥) → (k ≡ kind-code open-paren → ⊥) → code-among object-kinds k ≡ false
+      parts k p q x y = nine (eqb k (kind-code IRIREF)) (eqb k (kind-code «PNAME_NS»)) (eqb k (kind-code «PNAME_LN»)) (eqb k (kind-code «BLANK_NODE_LABEL»)) (eqb k (kind-code INTEGER)) (eqb k (kind-code DECIMAL)) (eqb k (kind-code DOUBLE)) (eqb k (kind-code kw-true)) (eqb k (kind-code kw-false)) _ p (four (eqb k (kind-code «STRING_LITERAL_QUOTE»)) (eqb k (kind-code «STRING_LITERAL_SINGLE_QUOTE»)) (eqb k (kind-code «STRING_LITERAL_LONG_QUOTE»)) (eqb k (kind-code «STRING_LITERAL_LONG_SINGLE_QUOTE»)) _ q (rw (ne-eqb k (kind-code open-bracket) x, ne-eqb k (kind-code open-paren) y)))
         where
           four : (b1 b2 b3 b4 c : Bool) → (b1 || (b2 || (b3 || (b4 || false)))) ≡ false → c ≡ false → (b1 || (b2 || (b3 || (b4 || c)))) ≡ false
           four true b2 b3 b4 c e f = contrary e
@@ -152,51 +153,51 @@ module _ (doc : Text) (a : Held) (ready : Ready doc a) where
           nine false false false false false false false false true c e f = contrary e
           nine false false false false false false false false false c e f = f
 
-      no-object : (getD (a .st) kind-word 0 ≡ 0 → ⊥) → TokenHere doc (a .st) → among object-kinds (here doc a .kind) ≡ false
-      no-object z h = among-code object-kinds (getD (a .st) kind-word 0) z (h .known) ∙ parts (getD (a .st) kind-word 0) v w x y
+      no-object : (kind-in (a .st) ≡ end-kind → ⊥) → TokenHere doc (a .st) → among object-kinds (here doc a .kind) ≡ false
+      no-object z h = among-code object-kinds (kind-in (a .st)) z (h .known) ∙ parts (kind-in (a .st)) v w x y
 
   -- A bracket opens one level more.
-  deeper : (k : ℕ) → getD (a .st) kind-word 0 ≡ k → among (open-bracket ∷ open-paren ∷ []) (kind-of-code k) ≡ true → new-depth (getD (a .st) depth-word 0) (here doc a) ≡ getD (a .st) depth-word 0 + 1
+  deeper : (k : ℕ) → kind-in (a .st) ≡ k → among (open-bracket ∷ open-paren ∷ []) (kind-of-code k) ≡ true → new-depth (depth-in (a .st)) (here doc a) ≡ depth-in (a .st) + 1
   unfolding new-depth
   deeper k e o = rw (e, o)
 
   -- ---- A bracket
 
-  module _ (k : getD (a .st) kind-word 0 ≡ 22) (b : Held) (r : ℕ) (N : Numbers doc (placed (spot-of a) (new-term (blank (bracket-node (getD (a .st) at-word 0))))) a b r) where
-    to-bracket : (f g : Frame) → Slot doc a f g → Reads doc (f ∷ []) (bracket (slot-place a) (getD (b .st) node-word 0) ∷ g ∷ []) a b r
+  module _ (k : kind-in (a .st) ≡ kind-code open-bracket) (b : Held) (r : ℕ) (N : Numbers doc (placed (spot-of a) (new-term (blank (bracket-node (at-in (a .st)))))) a b r) where
+    to-bracket : (f g : Frame) → Slot doc a f g → Reads doc (f ∷ []) (bracket (slot-place a) (node-in (b .st)) ∷ g ∷ []) a b r
     to-bracket f g s = bracket-opens doc a b r ready (token-there doc (a .st) 22 (ready .cursor) k (λ h. omega arith) (λ h. omega arith)) (λ h. omega arith) k (N .gives) f g s
 
-    within : (f g : Frame) → Slot doc a f g → (fs : List Frame) → Reads doc (f ∷ fs) (bracket (slot-place a) (getD (b .st) node-word 0) ∷ g ∷ fs) a b r
-    within f g s fs = comes-within doc (λ x. fs ++ x) (on-top (f ∷ [])) (on-top (bracket (slot-place a) (getD (b .st) node-word 0) ∷ g ∷ [])) a b r (to-bracket f g s)
+    within : (f g : Frame) → Slot doc a f g → (fs : List Frame) → Reads doc (f ∷ fs) (bracket (slot-place a) (node-in (b .st)) ∷ g ∷ fs) a b r
+    within f g s fs = comes-within doc (λ x. fs ++ x) (on-top (f ∷ [])) (on-top (bracket (slot-place a) (node-in (b .st)) ∷ g ∷ [])) a b r (to-bracket f g s)
 
     pub bracket-stop : (r ≡ 0 → ⊥) → Values doc a b r
     bracket-stop z =
         record {
           goes-on = λ f g s fs l.
               record {
-                reads = comes-stop doc (on-top (f ∷ fs)) (on-top (bracket (slot-place a) (getD (b .st) node-word 0) ∷ g ∷ fs)) (on-top []) a b r (within f g s fs) z;
+                reads = comes-stop doc (on-top (f ∷ fs)) (on-top (bracket (slot-place a) (node-in (b .st)) ∷ g ∷ fs)) (on-top []) a b r (within f g s fs) z;
                 depth = λ y. absurd (z y);
               };
           alone = λ l f g s. (
-            comes-stop doc (on-top (f ∷ [])) (on-top (bracket (slot-place a) (getD (b .st) node-word 0) ∷ g ∷ [])) (on-top (g ∷ [])) a b r (to-bracket f g s) z,
+            comes-stop doc (on-top (f ∷ [])) (on-top (bracket (slot-place a) (node-in (b .st)) ∷ g ∷ [])) (on-top (g ∷ [])) a b r (to-bracket f g s) z,
             record { depth = λ y. absurd (z y); later = λ y. absurd (z y) },
           );
         }
 
-    pub bracket-depth : r ≡ 0 → getD (b .st) depth-word 0 ≡ getD (a .st) depth-word 0 + 1
+    pub bracket-depth : r ≡ 0 → depth-in (b .st) ≡ depth-in (a .st) + 1
     bracket-depth z = N .gives .does .done z .depth ∙ deeper 22 k refl
 
-    pub bracket-later : r ≡ 0 → getD (a .st) at-word 0 < getD (b .st) at-word 0
+    pub bracket-later : r ≡ 0 → at-in (a .st) < at-in (b .st)
     bracket-later z = N .gives .does .done z .later
 
-    saved : (z : r ≡ 0) (fs : List Frame) → Levels (a .st) (getD (a .st) depth-word 0) fs → Levels (b .st) (getD (b .st) depth-word 0 - 1) fs
-    saved z fs l = levels-at (a .st) (b .st) (getD (a .st) depth-word 0) (getD (b .st) depth-word 0 - 1) (omega (arith, bracket-depth z)) (λ i h. N .gives .does .done z .spot i (omega arith)) fs l
+    saved : (z : r ≡ 0) (fs : List Frame) → Levels (a .st) (depth-in (a .st)) fs → Levels (b .st) (depth-in (b .st) - 1) fs
+    saved z fs l = levels-at (a .st) (b .st) (depth-in (a .st)) (depth-in (b .st) - 1) (omega (arith, bracket-depth z)) (λ i h. N .gives .does .done z .spot i (omega arith)) fs l
 
-    pub bracket-call : r ≡ 0 → SomeLevels (a .st) (getD (a .st) depth-word 0) → (Ready doc b × (getD (b .st) node-word 0 < 4294967296)) × ((0 < getD (b .st) node-word 0) × Deep (b .st))
+    pub bracket-call : r ≡ 0 → SomeLevels (a .st) (depth-in (a .st)) → (Ready doc b × (node-in (b .st) < word-limit)) × ((0 < node-in (b .st)) × Deep (b .st))
     bracket-call z (fs, l) = ((bracket-ready z, N .gives .small z), (N .positive z, (omega (arith, bracket-depth z), (fs, saved z fs l))))
       where
         bracket-ready : r ≡ 0 → Ready doc b
-        bracket-ready z = ready-does doc (placed (spot-of a) (new-term (blank (bracket-node (getD (a .st) at-word 0))))) a b r ready (token-there doc (a .st) 22 (ready .cursor) k (λ h. omega arith) (λ h. omega arith)) (λ h. omega arith) (N .gives .does) z
+        bracket-ready z = ready-does doc (placed (spot-of a) (new-term (blank (bracket-node (at-in (a .st)))))) a b r ready (token-there doc (a .st) 22 (ready .cursor) k (λ h. omega arith) (λ h. omega arith)) (λ h. omega arith) (N .gives .does) z
 
     pub bracket-contents : r ≡ 0 → (d : Held) (q : ℕ) → Contents doc b d q → Values doc a d q
     bracket-contents z d q C =
@@ -204,13 +205,13 @@ module _ (doc : Text) (a : Held) (ready : Ready doc a) where
           goes-on = λ f g s fs l.
               let w = C (slot-place a) (s .no-node) (s .no-properties) (g ∷ fs) (saved z (g ∷ fs) l) in
               record {
-                reads = comes-then doc (on-top (f ∷ fs)) (on-top (bracket (slot-place a) (getD (b .st) node-word 0) ∷ g ∷ fs)) (on-top []) a b d r q (within f g s fs) z (w .reads);
+                reads = comes-then doc (on-top (f ∷ fs)) (on-top (bracket (slot-place a) (node-in (b .st)) ∷ g ∷ fs)) (on-top []) a b d r q (within f g s fs) z (w .reads);
                 depth = λ y. omega (arith, w .depth y, bracket-depth z);
               };
           alone = λ l f g s.
               let w = C (slot-place a) (s .no-node) (s .no-properties) [] (saved z [] l) in (
-                comes-then doc (on-top (f ∷ [])) (on-top (bracket (slot-place a) (getD (b .st) node-word 0) ∷ g ∷ [])) (on-top (g ∷ [])) a b d r q (to-bracket f g s) z
-                    (comes-within doc (λ x. g ∷ x) (on-top (bracket (slot-place a) (getD (b .st) node-word 0) ∷ [])) (on-top []) b d q (w .reads)),
+                comes-then doc (on-top (f ∷ [])) (on-top (bracket (slot-place a) (node-in (b .st)) ∷ g ∷ [])) (on-top (g ∷ [])) a b d r q (to-bracket f g s) z
+                    (comes-within doc (λ x. g ∷ x) (on-top (bracket (slot-place a) (node-in (b .st)) ∷ [])) (on-top []) b d q (w .reads)),
                 record { depth = λ y. omega (arith, w .depth y, bracket-depth z); later = λ y. omega (arith, bracket-later z, w .reads .later y) },
               );
         }
@@ -226,11 +227,11 @@ module _ (doc : Text) (a : Held) (ready : Ready doc a) where
   belongs-plain (suc x) zero h = (refl, (refl, omega arith))
   belongs-plain (suc x) (suc y) h = (refl, (refl, (omega arith, omega arith)))
 
-  module _ (k : getD (a .st) kind-word 0 ≡ 24) (work rows terms store : RefT (List ℕ)) (u : List ℕ) (r : ℕ) (D : Does doc (opened-at (spot-of a)) a (held work rows terms store u) r) where
+  module _ (k : kind-in (a .st) ≡ kind-code open-paren) (work rows terms store : RefT (List ℕ)) (u : List ℕ) (r : ℕ) (D : Does doc (opened-at (spot-of a)) a (held work rows terms store u) r) where
     abbrev b : Held
     b = held work rows terms store u
 
-    to-list : (f g : Frame) → Slot doc a f g → Reads doc (f ∷ []) (list (slot-place a) (getD (a .st) at-word 0) no-cell ∷ g ∷ []) a b r
+    to-list : (f g : Frame) → Slot doc a f g → Reads doc (f ∷ []) (list (slot-place a) (at-in (a .st)) no-cell ∷ g ∷ []) a b r
     to-list f g s = paren-opens doc a b r ready (token-there doc (a .st) 24 (ready .cursor) k (λ h. omega arith) (λ h. omega arith)) (λ h. omega arith) k D f g s
 
     pub list-stop : (r ≡ 0 → ⊥) → Values doc a b r
@@ -238,11 +239,11 @@ module _ (doc : Text) (a : Held) (ready : Ready doc a) where
         record {
           goes-on = λ f g s fs l.
               record {
-                reads = comes-stop doc (on-top (f ∷ fs)) (on-top (list (slot-place a) (getD (a .st) at-word 0) no-cell ∷ g ∷ fs)) (on-top []) a b r (comes-within doc (λ x. fs ++ x) (on-top (f ∷ [])) (on-top (list (slot-place a) (getD (a .st) at-word 0) no-cell ∷ g ∷ [])) a b r (to-list f g s)) z;
+                reads = comes-stop doc (on-top (f ∷ fs)) (on-top (list (slot-place a) (at-in (a .st)) no-cell ∷ g ∷ fs)) (on-top []) a b r (comes-within doc (λ x. fs ++ x) (on-top (f ∷ [])) (on-top (list (slot-place a) (at-in (a .st)) no-cell ∷ g ∷ [])) a b r (to-list f g s)) z;
                 depth = λ y. absurd (z y);
               };
           alone = λ l f g s. (
-            comes-stop doc (on-top (f ∷ [])) (on-top (list (slot-place a) (getD (a .st) at-word 0) no-cell ∷ g ∷ [])) (on-top (g ∷ [])) a b r (to-list f g s) z,
+            comes-stop doc (on-top (f ∷ [])) (on-top (list (slot-place a) (at-in (a .st)) no-cell ∷ g ∷ [])) (on-top (g ∷ [])) a b r (to-list f g s) z,
             record { depth = λ y. absurd (z y); later = λ y. absurd (z y) },
           );
         }
@@ -250,7 +251,7 @@ module _ (doc : Text) (a : Held) (ready : Ready doc a) where
     pub list-open : r ≡ 0 → Ready doc b
     list-open z = ready-does doc (opened-at (spot-of a)) a b r ready (token-there doc (a .st) 24 (ready .cursor) k (λ h. omega arith) (λ h. omega arith)) (λ h. omega arith) D z
 
-    module _ (z : r ≡ 0) (u' : List ℕ) (at cell : ℕ) (eat : at ≡ getD (a .st) at-word 0) (ecell : cell ≡ getD (a .st) terms-word 0 + 1) (E : Entered u u' at cell) where
+    module _ (z : r ≡ 0) (u' : List ℕ) (at cell : ℕ) (eat : at ≡ at-in (a .st)) (ecell : cell ≡ getD (a .st) terms-word 0 + 1) (E : Entered u u' at cell) where
       abbrev b' : Held
       b' = held work rows terms store u'
 
@@ -260,35 +261,35 @@ module _ (doc : Text) (a : Held) (ready : Ready doc a) where
       pub list-ready : Ready doc b'
       list-ready = ready-aimed doc work rows terms store u u' (E .before) (E .words) ready-b
 
-      pub list-depth : getD u' depth-word 0 ≡ getD (a .st) depth-word 0 + 1
+      pub list-depth : depth-in u' ≡ depth-in (a .st) + 1
       list-depth = E .before depth-word (omega arith) ∙ (D .done z .depth ∙ deeper 24 k refl)
 
       -- The words of the place.
-      list-word-same : getD u list-word 0 ≡ getD (a .st) list-word 0
+      list-word-same : list-in u ≡ list-in (a .st)
       list-word-same = D .done z .spot list-word (omega arith)
 
-      x-there : getD u' x-word 0 ≡ cond (eqb (getD (a .st) list-word 0) 0) (getD (a .st) x-word 0) cell
+      x-there : getD u' x-word 0 ≡ cond (eqb (list-in (a .st)) 0) (getD (a .st) x-word 0) cell
       x-there = E .x-is ∙ rw (list-word-same, D .done z .spot x-word (omega arith))
 
-      y-there : getD u' y-word 0 ≡ cond (eqb (getD (a .st) list-word 0) 0) (getD (a .st) y-word 0) 0
+      y-there : getD u' y-word 0 ≡ cond (eqb (list-in (a .st)) 0) (getD (a .st) y-word 0) 0
       y-there = E .y-is ∙ rw (list-word-same, D .done z .spot y-word (omega arith))
 
       list-spot : (i : ℕ) → level-word ≤ i → getD u' i 0 ≡ getD (a .st) i 0
       list-spot i h = E .behind i (omega arith) ∙ D .done z .spot i (omega arith)
 
-      below : (fs : List Frame) → Levels (a .st) (getD (a .st) depth-word 0) fs → Levels u' (getD u' depth-word 0 - 1) fs
-      below fs l = levels-at (a .st) u' (getD (a .st) depth-word 0) (getD u' depth-word 0 - 1) (omega (arith, list-depth)) list-spot fs l
+      below : (fs : List Frame) → Levels (a .st) (depth-in (a .st)) fs → Levels u' (depth-in u' - 1) fs
+      below fs l = levels-at (a .st) u' (depth-in (a .st)) (depth-in u' - 1) (omega (arith, list-depth)) list-spot fs l
 
-      pub list-later : getD (a .st) at-word 0 < getD u' at-word 0
+      pub list-later : at-in (a .st) < at-in u'
       list-later = omega (arith, D .done z .later, E .before at-word (omega arith))
 
-      pub list-call : Spotted a → SomeLevels (a .st) (getD (a .st) depth-word 0) → (Ready doc b' × Spotted b') × ((getD u' list-word 0 ≡ 1) × Deep u')
+      pub list-call : Spotted a → SomeLevels (a .st) (depth-in (a .st)) → (Ready doc b' × Spotted b') × ((list-in u' ≡ 1) × Deep u')
       list-call s (fs, l) = (
         (
           list-ready,
           record {
-            x = by (eqb (getD (a .st) list-word 0) 0) (λ e. rw (x-there, e) (s .x)) (λ e. rw (x-there, e) (omega (arith, next-small doc a ready)));
-            y = by (eqb (getD (a .st) list-word 0) 0) (λ e. rw (y-there, e) (s .y)) (λ e. rw (y-there, e) (omega arith));
+            x = by (eqb (list-in (a .st)) 0) (λ e. rw (x-there, e) (s .x)) (λ e. rw (x-there, e) (omega (arith, next-small doc a ready)));
+            y = by (eqb (list-in (a .st)) 0) (λ e. rw (y-there, e) (s .y)) (λ e. rw (y-there, e) (omega arith));
             opened = rw (E .opened-is) (omega (arith, place-small doc a ready));
             last = rw (E .last-is) (omega arith);
           },
@@ -298,35 +299,35 @@ module _ (doc : Text) (a : Held) (ready : Ready doc a) where
 
       belongs-slot : (f g : Frame) → Slot doc a f g → Belongs (slot-place a) (getD u' x-word 0) (getD u' y-word 0)
       belongs-slot f g s =
-          by (eqb (getD (a .st) list-word 0) 0)
+          by (eqb (list-in (a .st)) 0)
           (λ e.
-          let there : slot-place a ≡ place-of (getD (a .st) x-word 0) (getD (a .st) y-word 0) = slot-plain a (getD (a .st) x-word 0) (getD (a .st) y-word 0) refl refl (eqb-true (getD (a .st) list-word 0) 0 e) in
+          let there : slot-place a ≡ place-of (getD (a .st) x-word 0) (getD (a .st) y-word 0) = slot-plain a (getD (a .st) x-word 0) (getD (a .st) y-word 0) refl refl (eqb-true (list-in (a .st)) 0 e) in
           rw (x-there, y-there, e, there) (belongs-plain (getD (a .st) x-word 0) (getD (a .st) y-word 0) (λ n. subst (λ (p : Place). after-node p n ≡ []) there (s .no-node n))))
-          (λ e. rw (x-there, y-there, e, slot-list a (eqb-false (getD (a .st) list-word 0) 0 e)) (omega arith, (refl, omega arith)))
+          (λ e. rw (x-there, y-there, e, slot-list a (eqb-false (list-in (a .st)) 0 e)) (omega arith, (refl, omega arith)))
 
       -- The list as its first element sees it.
-      opened-list : (f g : Frame) → Slot doc a f g → InList b' (slot-place a) (getD (a .st) at-word 0) no-cell
+      opened-list : (f g : Frame) → Slot doc a f g → InList b' (slot-place a) (at-in (a .st)) no-cell
       opened-list f g s = (belongs-slot f g s, (sym (E .opened-is ∙ eat), E .last-is))
 
-      to-entered : (f g : Frame) → Slot doc a f g → (fs : List Frame) → Reads doc (f ∷ fs) (list (slot-place a) (getD (a .st) at-word 0) no-cell ∷ g ∷ fs) a b' 0
+      to-entered : (f g : Frame) → Slot doc a f g → (fs : List Frame) → Reads doc (f ∷ fs) (list (slot-place a) (at-in (a .st)) no-cell ∷ g ∷ fs) a b' 0
       to-entered f g s fs =
-          comes-then doc (on-top (f ∷ fs)) (on-top (list (slot-place a) (getD (a .st) at-word 0) no-cell ∷ g ∷ fs)) (on-top (list (slot-place a) (getD (a .st) at-word 0) no-cell ∷ g ∷ fs)) a b b' r 0
-          (comes-within doc (λ x. fs ++ x) (on-top (f ∷ [])) (on-top (list (slot-place a) (getD (a .st) at-word 0) no-cell ∷ g ∷ [])) a b r (to-list f g s)) z
-          (comes-aimed doc work rows terms store u u' (E .before) (E .words) (on-top (list (slot-place a) (getD (a .st) at-word 0) no-cell ∷ g ∷ fs)) ready-b)
+          comes-then doc (on-top (f ∷ fs)) (on-top (list (slot-place a) (at-in (a .st)) no-cell ∷ g ∷ fs)) (on-top (list (slot-place a) (at-in (a .st)) no-cell ∷ g ∷ fs)) a b b' r 0
+          (comes-within doc (λ x. fs ++ x) (on-top (f ∷ [])) (on-top (list (slot-place a) (at-in (a .st)) no-cell ∷ g ∷ [])) a b r (to-list f g s)) z
+          (comes-aimed doc work rows terms store u u' (E .before) (E .words) (on-top (list (slot-place a) (at-in (a .st)) no-cell ∷ g ∷ fs)) ready-b)
 
       pub list-elements : (d : Held) (q : ℕ) → Elements doc b' d q → Values doc a d q
       list-elements d q L =
           record {
             goes-on = λ f g s fs l.
-                let w = L (slot-place a) (s .no-node) (getD (a .st) at-word 0) no-cell (opened-list f g s) (g ∷ fs) (below (g ∷ fs) l) in
+                let w = L (slot-place a) (s .no-node) (at-in (a .st)) no-cell (opened-list f g s) (g ∷ fs) (below (g ∷ fs) l) in
                 record {
-                  reads = comes-then doc (on-top (f ∷ fs)) (on-top (list (slot-place a) (getD (a .st) at-word 0) no-cell ∷ g ∷ fs)) (on-top []) a b' d 0 q (to-entered f g s fs) refl (w .reads);
+                  reads = comes-then doc (on-top (f ∷ fs)) (on-top (list (slot-place a) (at-in (a .st)) no-cell ∷ g ∷ fs)) (on-top []) a b' d 0 q (to-entered f g s fs) refl (w .reads);
                   depth = λ y. omega (arith, w .depth y, list-depth);
                 };
             alone = λ l f g s.
-                let w = L (slot-place a) (s .no-node) (getD (a .st) at-word 0) no-cell (opened-list f g s) [] (below [] l) in (
-                  comes-then doc (on-top (f ∷ [])) (on-top (list (slot-place a) (getD (a .st) at-word 0) no-cell ∷ g ∷ [])) (on-top (g ∷ [])) a b' d 0 q (to-entered f g s []) refl
-                      (comes-within doc (λ x. g ∷ x) (on-top (list (slot-place a) (getD (a .st) at-word 0) no-cell ∷ [])) (on-top []) b' d q (w .reads)),
+                let w = L (slot-place a) (s .no-node) (at-in (a .st)) no-cell (opened-list f g s) [] (below [] l) in (
+                  comes-then doc (on-top (f ∷ [])) (on-top (list (slot-place a) (at-in (a .st)) no-cell ∷ g ∷ [])) (on-top (g ∷ [])) a b' d 0 q (to-entered f g s []) refl
+                      (comes-within doc (λ x. g ∷ x) (on-top (list (slot-place a) (at-in (a .st)) no-cell ∷ [])) (on-top []) b' d q (w .reads)),
                   record { depth = λ y. omega (arith, w .depth y, list-depth); later = λ y. omega (arith, list-later, w .reads .later y) },
                 );
           }
@@ -370,7 +371,7 @@ module _ (doc : Text) (work rows terms store : RefT (List ℕ)) (st st' : List �
       holding : (old : Tables) (m : Memory) → Holding old m a₁ → Holding old m a₀
       holding old m h = represents-words old m (work .now) (tables-of a₁) st' st (λ k x. sym (same k (omega arith))) (sym (same graph-word (omega arith))) (sym (M .words)) h
 
-  pub node-call : Spotted a₀ → Awaited doc a₀ → (Ready doc a₁ × Spotted a₁) × (Awaited doc a₁ × SomeLevels st' (getD st' depth-word 0))
+  pub node-call : Spotted a₀ → Awaited doc a₀ → (Ready doc a₁ × Spotted a₁) × (Awaited doc a₁ × SomeLevels st' (depth-in st'))
   node-call s (f, (g, o)) = (
     (
       ready-aimed doc work rows terms store st st' (mark-before st st' 0 0 M) (M .words) ready,

@@ -7,8 +7,9 @@ use native.Mathlib.Omega.{arith}
 use lib.ListN.{getD}
 use denote.Ref.{RefT}
 use Rattle.text.specs.Text.{Text}
+use Rattle.token.specs.Kind.{kind-code, comma, semicolon}
 use Rattle.machine.specs.Frame.{Ending, bracket-end, Frame, object, after-object, after-semicolon}
-use Rattle.state.specs.Words.{node-word, kind-word, at-word, depth-word, graph-word, list-word, level-word}
+use Rattle.state.specs.Words.{at-word, depth-word, list-word, level-word, level-size, kind-in, at-in, depth-in, node-in, graph-in}
 use Rattle.simulation.specs.Simulation.{code-among, Held, held, Ready, Reads, on-top}
 use Rattle.simulation.proofs.Compose.{comes-then, comes-stop, comes-within}
 use Rattle.nodes.specs.Nodes.{Aimed, Passed, Spotted, PutsTerm, Slot, Verbs, verb-kinds}
@@ -19,25 +20,26 @@ use Rattle.nesting.proofs.Aiming.{comes-aimed, ready-aimed, spotted}
 use Rattle.nesting.proofs.Levels.{levels-at, mark-before, mark-levels, saves-object, level-object}
 use Rattle.nesting.proofs.OfVerbs.{VerbDone, verb-comes, verb-done}
 use Rattle.nesting.proofs.OfObjects.{comma-reads}
+use Rattle.table.specs.Layout.{word-limit}
 
 -- ---- A predicate
 
-module _ (doc : Text) (work rows terms store : RefT (List ℕ)) (st st' : List ℕ) (ready : Ready doc (held work rows terms store st)) (verb : code-among verb-kinds (getD st kind-word 0) ≡ true) (aim : Aimed st st' 0 0 0 0 0) (b : Held) (r : ℕ) (P : PutsTerm doc (held work rows terms store st') b r) where
+module _ (doc : Text) (work rows terms store : RefT (List ℕ)) (st st' : List ℕ) (ready : Ready doc (held work rows terms store st)) (verb : code-among verb-kinds (kind-in st) ≡ true) (aim : Aimed st st' 0 0 0 0 0) (b : Held) (r : ℕ) (P : PutsTerm doc (held work rows terms store st') b r) where
   abbrev a : Held
   a = held work rows terms store st
 
-  to-verb : (f : Frame) (s : ℕ) → Verbs f s bracket-end [] → (fs : List Frame) → Reads doc (f ∷ fs) (object s (getD (b .st) node-word 0) bracket-end ∷ fs) a b r
-  to-verb f s verbs fs = comes-within doc (λ k. fs ++ k) (on-top (f ∷ [])) (on-top (object s (getD (b .st) node-word 0) bracket-end ∷ [])) a b r (verb-comes doc work rows terms store st st' ready verb aim b r P f s bracket-end [] verbs)
+  to-verb : (f : Frame) (s : ℕ) → Verbs f s bracket-end [] → (fs : List Frame) → Reads doc (f ∷ fs) (object s (node-in (b .st)) bracket-end ∷ fs) a b r
+  to-verb f s verbs fs = comes-within doc (λ k. fs ++ k) (on-top (f ∷ [])) (on-top (object s (node-in (b .st)) bracket-end ∷ [])) a b r (verb-comes doc work rows terms store st st' ready verb aim b r P f s bracket-end [] verbs)
 
   pub predicate-stop : (r ≡ 0 → ⊥) → Predicates doc a b r
   predicate-stop z f verbs fs l =
       record {
-        reads = comes-stop doc (on-top (f ∷ fs)) (on-top (object (level-x st (getD st depth-word 0)) (getD (b .st) node-word 0) bracket-end ∷ fs)) (on-top []) a b r (to-verb f (level-x st (getD st depth-word 0)) verbs fs) z;
+        reads = comes-stop doc (on-top (f ∷ fs)) (on-top (object (level-x st (depth-in st)) (node-in (b .st)) bracket-end ∷ fs)) (on-top []) a b r (to-verb f (level-x st (depth-in st)) verbs fs) z;
         depth = λ y. absurd (z y);
       }
 
 -- Its level is put, and its object awaited.
-module _ (doc : Text) (work rows terms store : RefT (List ℕ)) (st st' : List ℕ) (ready : Ready doc (held work rows terms store st)) (verb : code-among verb-kinds (getD st kind-word 0) ≡ true) (aim : Aimed st st' 0 0 0 0 0)
+module _ (doc : Text) (work rows terms store : RefT (List ℕ)) (st st' : List ℕ) (ready : Ready doc (held work rows terms store st)) (verb : code-among verb-kinds (kind-in st) ≡ true) (aim : Aimed st st' 0 0 0 0 0)
     (work₁ rows₁ terms₁ store₁ : RefT (List ℕ)) (u : List ℕ) (r : ℕ) (P : PutsTerm doc (held work rows terms store st') (held work₁ rows₁ terms₁ store₁ u) r) (z : r ≡ 0) where
   abbrev b : Held
   b = held work₁ rows₁ terms₁ store₁ u
@@ -45,32 +47,32 @@ module _ (doc : Text) (work rows terms store : RefT (List ℕ)) (st st' : List �
   done : VerbDone doc st b
   done = verb-done doc work rows terms store st st' ready verb aim b r P z
 
-  module _ (s p : ℕ) (es : s ≡ level-x st (getD st depth-word 0)) (ep : p ≡ getD u node-word 0) (u1 u2 : List ℕ) (M : Marked u u1 s p) (aim' : Aimed u1 u2 0 s p 0 0) where
+  module _ (s p : ℕ) (es : s ≡ level-x st (depth-in st)) (ep : p ≡ node-in u) (u1 u2 : List ℕ) (M : Marked u u1 s p) (aim' : Aimed u1 u2 0 s p 0 0) where
     abbrev b2 : Held
     b2 = held work₁ rows₁ terms₁ store₁ u2
 
     same-before : (k : ℕ) → k < list-word → getD u2 k 0 ≡ getD u k 0
     same-before k h = aim' .before k h ∙ mark-before u u1 s p M k h
 
-    pub predicate-later : getD st at-word 0 < getD u2 at-word 0
+    pub predicate-later : at-in st < at-in u2
     predicate-later = omega (arith, done .later, same-before at-word (omega arith))
 
-    p-small : p < 4294967296
+    p-small : p < word-limit
     p-small = rw ep (done .small)
 
     some-p : 0 < p
     some-p = rw ep (done .some-node)
 
-    module _ (hs : level-x st (getD st depth-word 0) < 4294967296) (zs : 0 < level-x st (getD st depth-word 0)) (deep : 0 < getD st depth-word 0) where
-      levels-u2 : (fs : List Frame) → Levels st (getD st depth-word 0 - 1) fs → Levels u2 (getD u2 depth-word 0) (after-object s p bracket-end ∷ fs)
+    module _ (hs : level-x st (depth-in st) < word-limit) (zs : 0 < level-x st (depth-in st)) (deep : 0 < depth-in st) where
+      levels-u2 : (fs : List Frame) → Levels st (depth-in st - 1) fs → Levels u2 (depth-in u2) (after-object s p bracket-end ∷ fs)
       levels-u2 fs l =
-          levels-at u1 u2 (getD u1 depth-word 0) (getD u2 depth-word 0) (aim' .before depth-word (omega arith)) (λ k h. aim' .behind k (omega arith)) (after-object s p bracket-end ∷ fs)
-          (mark-levels u u1 s p M (after-object s p bracket-end) (saves-object s p (rw es hs) p-small (rw es zs) some-p) (omega (arith, done .depth)) fs (levels-at st u (getD st depth-word 0 - 1) (getD u depth-word 0 - 1) (ap (λ (d : ℕ). d - 1) (done .depth)) (done .spot) fs l))
+          levels-at u1 u2 (depth-in u1) (depth-in u2) (aim' .before depth-word (omega arith)) (λ k h. aim' .behind k (omega arith)) (after-object s p bracket-end ∷ fs)
+          (mark-levels u u1 s p M (after-object s p bracket-end) (saves-object s p (rw es hs) p-small (rw es zs) some-p) (omega (arith, done .depth)) fs (levels-at st u (depth-in st - 1) (depth-in u - 1) (ap (λ (d : ℕ). d - 1) (done .depth)) (done .spot) fs l))
 
       slot : Slot doc b2 (object s p bracket-end) (after-object s p bracket-end)
       slot = object-slot doc b2 s p bracket-end (aim' .list-is) (aim' .x-is) (aim' .y-is) (rw es zs) some-p
 
-      pub predicate-value-call : SomeLevels st (getD st depth-word 0 - 1) → (Ready doc b2 × Spotted b2) × (Awaited doc b2 × SomeLevels u2 (getD u2 depth-word 0))
+      pub predicate-value-call : SomeLevels st (depth-in st - 1) → (Ready doc b2 × Spotted b2) × (Awaited doc b2 × SomeLevels u2 (depth-in u2))
       predicate-value-call (fs, l) = (
         (
           ready-aimed doc work₁ rows₁ terms₁ store₁ u u2 same-before (aim' .words ∙ M .words) (done .ready),
@@ -97,22 +99,22 @@ module _ (doc : Text) (work rows terms store : RefT (List ℕ)) (st : List ℕ) 
   o = held work rows terms store st
 
   abbrev s : ℕ
-  s = level-x st (getD st depth-word 0)
+  s = level-x st (depth-in st)
 
   abbrev p : ℕ
-  p = level-y st (getD st depth-word 0)
+  p = level-y st (depth-in st)
 
   -- What the level says of itself.
-  pub follows-deep : 0 < s → SomeLevels st (getD st depth-word 0) → Deep st
-  follows-deep z (fs, l) = let (gs, (e, (h, (w, (y, l′))))) = level-object st (getD st depth-word 0) z fs l in (h, (gs, l′))
+  pub follows-deep : 0 < s → SomeLevels st (depth-in st) → Deep st
+  follows-deep z (fs, l) = let (gs, (e, (h, (w, (y, l′))))) = level-object st (depth-in st) z fs l in (h, (gs, l′))
 
   -- Neither a comma nor a semicolon.
-  pub follows-close : (getD st kind-word 0 ≡ 20 → ⊥) → (getD st kind-word 0 ≡ 21 → ⊥) → (d : Held) (q : ℕ) → Closing doc o d q → Follows doc o d q
-  follows-close x y d q C = C (after-object s p bracket-end) (ends-object s bracket-end (getD st kind-word 0) y p x)
+  pub follows-close : (kind-in st ≡ kind-code comma → ⊥) → (kind-in st ≡ kind-code semicolon → ⊥) → (d : Held) (q : ℕ) → Closing doc o d q → Follows doc o d q
+  follows-close x y d q C = C (after-object s p bracket-end) (ends-object s bracket-end (kind-in st) y p x)
 
   -- A comma.
-  module _ (u u' : List ℕ) (k : getD st kind-word 0 ≡ 20) (P : Passed doc st u (getD st depth-word 0) (getD st graph-word 0)) (s' p' : ℕ) (es : s' ≡ level-x u (getD u depth-word 0)) (ep : p' ≡ level-y u (getD u depth-word 0)) (aim : Aimed u u' 0 s' p' 0 0)
-      (z : 0 < s) (lv : SomeLevels st (getD st depth-word 0)) where
+  module _ (u u' : List ℕ) (k : kind-in st ≡ kind-code comma) (P : Passed doc st u (depth-in st) (graph-in st)) (s' p' : ℕ) (es : s' ≡ level-x u (depth-in u)) (ep : p' ≡ level-y u (depth-in u)) (aim : Aimed u u' 0 s' p' 0 0)
+      (z : 0 < s) (lv : SomeLevels st (depth-in st)) where
     abbrev u-held : Held
     u-held = held work rows terms store u
 
@@ -120,33 +122,33 @@ module _ (doc : Text) (work rows terms store : RefT (List ℕ)) (st : List ℕ) 
     u'-held = held work rows terms store u'
 
     s-same : s' ≡ s
-    s-same = es ∙ (ap (level-x u) (P .depth-is) ∙ P .spot (level-word + 2 * getD st depth-word 0) (omega arith))
+    s-same = es ∙ (ap (level-x u) (P .depth-is) ∙ P .spot (level-word + level-size * depth-in st) (omega arith))
 
     p-same : p' ≡ p
-    p-same = ep ∙ (ap (level-y u) (P .depth-is) ∙ P .spot (level-word + 2 * getD st depth-word 0 + 1) (omega arith))
+    p-same = ep ∙ (ap (level-y u) (P .depth-is) ∙ P .spot (level-word + level-size * depth-in st + 1) (omega arith))
 
-    known : ((s < 4294967296) × (p < 4294967296)) × (0 < p)
-    known = let (fs, l) = lv in let (gs, (e, (h, (w, (y, l′))))) = level-object st (getD st depth-word 0) z fs l in (w, y)
+    known : ((s < word-limit) × (p < word-limit)) × (0 < p)
+    known = let (fs, l) = lv in let (gs, (e, (h, (w, (y, l′))))) = level-object st (depth-in st) z fs l in (w, y)
 
-    comma : (e : Ending) → Reads doc (after-object s p e ∷ []) (object s p e ∷ []) o u-held 0
-    comma e = comma-reads doc work rows terms store st u ready k P s p e
+    over-comma : (e : Ending) → Reads doc (after-object s p e ∷ []) (object s p e ∷ []) o u-held 0
+    over-comma e = comma-reads doc work rows terms store st u ready k P s p e
 
-    depth-same : getD u' depth-word 0 ≡ getD st depth-word 0
+    depth-same : depth-in u' ≡ depth-in st
     depth-same = aim .before depth-word (omega arith) ∙ P .depth-is
 
-    pub comma-later : getD st at-word 0 < getD u' at-word 0
+    pub comma-later : at-in st < at-in u'
     comma-later = omega (arith, P .later, aim .before at-word (omega arith))
 
-    moved : (fs : List Frame) → Levels st (getD st depth-word 0) fs → Levels u' (getD u' depth-word 0) fs
-    moved fs l = levels-at st u' (getD st depth-word 0) (getD u' depth-word 0) depth-same (λ i h. aim .behind i (omega arith) ∙ P .spot i (omega arith)) fs l
+    moved : (fs : List Frame) → Levels st (depth-in st) fs → Levels u' (depth-in u') fs
+    moved fs l = levels-at st u' (depth-in st) (depth-in u') depth-same (λ i h. aim .behind i (omega arith) ∙ P .spot i (omega arith)) fs l
 
     object-there : Slot doc u'-held (object s p bracket-end) (after-object s p bracket-end)
     object-there = object-slot doc u'-held s p bracket-end (aim .list-is) (aim .x-is ∙ s-same) (aim .y-is ∙ p-same) z (known .1)
 
-    pub comma-call : (Ready doc u'-held × Spotted u'-held) × (Awaited doc u'-held × SomeLevels u' (getD u' depth-word 0))
+    pub comma-call : (Ready doc u'-held × Spotted u'-held) × (Awaited doc u'-held × SomeLevels u' (depth-in u'))
     comma-call = (
       (
-        ready-aimed doc work rows terms store u u' (aim .before) (aim .words) (comma bracket-end .ready refl),
+        ready-aimed doc work rows terms store u u' (aim .before) (aim .words) (over-comma bracket-end .ready refl),
         spotted work rows terms store u u' 0 s' p' 0 0 aim (rw s-same (known .0 .0)) (rw p-same (known .0 .1)) (omega arith) (omega arith),
       ),
       ((object s p bracket-end, (after-object s p bracket-end, object-there)), (let (fs, l) = lv in (fs, moved fs l))),
@@ -154,12 +156,12 @@ module _ (doc : Text) (work rows terms store : RefT (List ℕ)) (st : List ℕ) 
 
     pub comma-value : (d : Held) (q : ℕ) → Values doc u'-held d q → Follows doc o d q
     comma-value d q W fs l =
-        let (gs, (e, (h, (w, (y, l′))))) = level-object st (getD st depth-word 0) z (lv .0) (lv .1) in
+        let (gs, (e, (h, (w, (y, l′))))) = level-object st (depth-in st) z (lv .0) (lv .1) in
         let R = W .goes-on (object s p bracket-end) (after-object s p bracket-end) object-there fs
         (moved (after-object s p bracket-end ∷ fs) (h, (saves-object s p (known .0 .0) (known .0 .1) z (known .1), l))) in
         record {
-          reads = comes-then doc (on-top (after-object s p bracket-end ∷ fs)) (on-top (object s p bracket-end ∷ fs)) (on-top []) o u-held d 0 q (comes-within doc (λ x. fs ++ x) (on-top (after-object s p bracket-end ∷ [])) (on-top (object s p bracket-end ∷ [])) o u-held 0 (comma bracket-end)) refl
-              (comes-then doc (on-top (object s p bracket-end ∷ fs)) (on-top (object s p bracket-end ∷ fs)) (on-top []) u-held u'-held d 0 q (comes-aimed doc work rows terms store u u' (aim .before) (aim .words) (on-top (object s p bracket-end ∷ fs)) (comma bracket-end .ready refl)) refl (R .reads));
+          reads = comes-then doc (on-top (after-object s p bracket-end ∷ fs)) (on-top (object s p bracket-end ∷ fs)) (on-top []) o u-held d 0 q (comes-within doc (λ x. fs ++ x) (on-top (after-object s p bracket-end ∷ [])) (on-top (object s p bracket-end ∷ [])) o u-held 0 (over-comma bracket-end)) refl
+              (comes-then doc (on-top (object s p bracket-end ∷ fs)) (on-top (object s p bracket-end ∷ fs)) (on-top []) u-held u'-held d 0 q (comes-aimed doc work rows terms store u u' (aim .before) (aim .words) (on-top (object s p bracket-end ∷ fs)) (over-comma bracket-end .ready refl)) refl (R .reads));
           depth = λ x. R .depth x ∙ depth-same;
         }
 
@@ -174,19 +176,19 @@ module _ (doc : Text) (work rows terms store : RefT (List ℕ)) (st : List ℕ) 
     pub semicolon-ready : Ready doc v
     semicolon-ready = to-semicolon [] .ready refl
 
-    s-there : level-x u (getD u depth-word 0) ≡ s
-    s-there = ap (level-x u) (S .depth) ∙ S .spot (level-word + 2 * getD st depth-word 0) (omega arith)
+    s-there : level-x u (depth-in u) ≡ s
+    s-there = ap (level-x u) (S .depth) ∙ S .spot (level-word + level-size * depth-in st) (omega arith)
 
-    down : (fs : List Frame) → Levels st (getD st depth-word 0 - 1) fs → Levels u (getD u depth-word 0 - 1) fs
-    down fs l = levels-at st u (getD st depth-word 0 - 1) (getD u depth-word 0 - 1) (ap (λ (d : ℕ). d - 1) (S .depth)) (λ i h. S .spot i (omega arith)) fs l
+    down : (fs : List Frame) → Levels st (depth-in st - 1) fs → Levels u (depth-in u - 1) fs
+    down fs l = levels-at st u (depth-in st - 1) (depth-in u - 1) (ap (λ (d : ℕ). d - 1) (S .depth)) (λ i h. S .spot i (omega arith)) fs l
 
     pub semicolon-deep : Deep st → Deep u
     semicolon-deep (h, (fs, l)) = (omega (arith, S .depth), (fs, down fs l))
 
-    pub semicolon-predicate-call : 0 < s → SomeLevels st (getD st depth-word 0) → code-among verb-kinds (getD u kind-word 0) ≡ true
-        → (Ready doc v × (level-x u (getD u depth-word 0) < 4294967296)) × (((0 < level-x u (getD u depth-word 0)) × (code-among verb-kinds (getD u kind-word 0) ≡ true)) × Deep u)
+    pub semicolon-predicate-call : 0 < s → SomeLevels st (depth-in st) → code-among verb-kinds (kind-in u) ≡ true
+        → (Ready doc v × (level-x u (depth-in u) < word-limit)) × (((0 < level-x u (depth-in u)) × (code-among verb-kinds (kind-in u) ≡ true)) × Deep u)
     semicolon-predicate-call z lv x =
-        let (gs, (e, (h, (w, (y, l′))))) = level-object st (getD st depth-word 0) z (lv .0) (lv .1) in ((semicolon-ready, rw s-there (w .0)), ((rw s-there z, x), semicolon-deep (h, (gs, l′))))
+        let (gs, (e, (h, (w, (y, l′))))) = level-object st (depth-in st) z (lv .0) (lv .1) in ((semicolon-ready, rw s-there (w .0)), ((rw s-there z, x), semicolon-deep (h, (gs, l′))))
 
     pub semicolon-predicate : (d : Held) (q : ℕ) → Predicates doc v d q → Follows doc o d q
     semicolon-predicate d q R fs l =
@@ -196,9 +198,9 @@ module _ (doc : Text) (work rows terms store : RefT (List ℕ)) (st : List ℕ) 
           depth = λ x. w .depth x ∙ S .depth;
         }
 
-    pub semicolon-close : code-among verb-kinds (getD u kind-word 0) ≡ false → (d : Held) (q : ℕ) → Closing doc v d q → Follows doc o d q
+    pub semicolon-close : code-among verb-kinds (kind-in u) ≡ false → (d : Held) (q : ℕ) → Closing doc v d q → Follows doc o d q
     semicolon-close x d q C fs l =
-        let w = C (after-semicolon s bracket-end) (ends-semicolon s bracket-end (getD u kind-word 0) (S .ended) x) fs (down fs l) in
+        let w = C (after-semicolon s bracket-end) (ends-semicolon s bracket-end (kind-in u) (S .ended) x) fs (down fs l) in
         record {
           reads = comes-then doc (on-top (after-object s p bracket-end ∷ fs)) (on-top (after-semicolon s bracket-end ∷ fs)) (on-top []) o v d 0 q (to-semicolon fs) refl (w .reads);
           depth = λ x. w .depth x ∙ S .depth;

@@ -6,12 +6,13 @@ use Prim.Native.Nat.{ℕ, _-_, _≤_, _<_}
 use native.Mathlib.Omega.{arith}
 use lib.ListN.{length, getD}
 use denote.Ref.{RefT}
+use Rattle.token.specs.Kind.{kind-code, end-kind, unreadable-kind, semicolon}
 use Rattle.environment.specs.Code.{words-size}
 use Rattle.text.specs.Text.{Text}
 use Rattle.machine.specs.Memory.{return}
 use Rattle.machine.specs.Frame.{Ending, after-object, after-semicolon}
 use Rattle.machine.specs.Refusals.{new-depth}
-use Rattle.state.specs.Words.{kind-word, at-word, depth-word, graph-word, list-word}
+use Rattle.state.specs.Words.{list-word, kind-in, at-in, depth-in, graph-in}
 use Rattle.state.specs.Cursor.{Cursor, TokenHere}
 use Rattle.simulation.specs.Simulation.{held, here, Ready, Reads, on-top}
 use Rattle.simulation.proofs.Compose.{comes-then}
@@ -24,34 +25,34 @@ use Rattle.nesting.specs.Nesting.{Skips}
 pub record Skipping (doc : Text) (st st' : List ℕ) : Type 0 where
   pub reads : (work rows terms store : RefT (List ℕ)) → Ready doc (held work rows terms store st) → (s p : ℕ) (e : Ending) → Reads doc (after-object s p e ∷ []) (after-semicolon s e ∷ []) (held work rows terms store st) (held work rows terms store st') 0
   pub cursor : Cursor doc st'
-  pub depth : getD st' depth-word 0 ≡ getD st depth-word 0
-  pub later : getD st at-word 0 < getD st' at-word 0
+  pub depth : depth-in st' ≡ depth-in st
+  pub later : at-in st < at-in st'
   pub spot : (k : ℕ) → list-word ≤ k → getD st' k 0 ≡ getD st k 0
   pub words : length st' ≡ length st
 
-quiet : Quiet 21
+quiet : Quiet (kind-code semicolon)
 quiet = record { escapes = refl; reference = refl; name = refl; opening = refl }
 
 -- A token with this number is there.
-pub token-there : (doc : Text) (st : List ℕ) (k : ℕ) → Cursor doc st → getD st kind-word 0 ≡ k → (k ≡ 0 → ⊥) → (k ≡ 31 → ⊥) → TokenHere doc st
+pub token-there : (doc : Text) (st : List ℕ) (k : ℕ) → Cursor doc st → kind-in st ≡ k → (k ≡ end-kind → ⊥) → (k ≡ unreadable-kind → ⊥) → TokenHere doc st
 token-there doc st k c e z y = c .token (λ h. z (sym e ∙ h)) (λ h. y (sym e ∙ h))
 
-module _ (doc : Text) (st st' : List ℕ) (e : getD st kind-word 0 ≡ 21) (c : Cursor doc st) (p : Passed doc st st' (getD st depth-word 0) (getD st graph-word 0)) where
-  depth-21 : (work rows terms store : RefT (List ℕ)) → getD st depth-word 0 ≡ new-depth (getD st depth-word 0) (here doc (held work rows terms store st))
+module _ (doc : Text) (st st' : List ℕ) (e : kind-in st ≡ kind-code semicolon) (c : Cursor doc st) (p : Passed doc st st' (depth-in st) (graph-in st)) where
+  depth-21 : (work rows terms store : RefT (List ℕ)) → depth-in st ≡ new-depth (depth-in st) (here doc (held work rows terms store st))
   unfolding new-depth
   depth-21 work rows terms store = rw e
 
   module _ (work rows terms store : RefT (List ℕ)) (ready : Ready doc (held work rows terms store st)) where
     after-first : (s q : ℕ) (x : Ending) → Reads doc (after-object s q x ∷ []) (after-semicolon s x ∷ []) (held work rows terms store st) (held work rows terms store st') 0
     after-first s q x =
-        reads-does doc (after-object s q x) (after-semicolon s x ∷ []) (held work rows terms store st) (held work rows terms store st') 0 ready (λ m. (0, m)) (token-there doc st 21 c e (λ h. omega arith) (λ h. omega arith)) (λ h. omega arith)
-        (passed-same doc work rows terms store st st' 21 (getD st depth-word 0) 0 e quiet p (depth-21 work rows terms store))
+        reads-does doc (after-object s q x) (after-semicolon s x ∷ []) (held work rows terms store st) (held work rows terms store st') 0 ready (λ m. (0, m)) (token-there doc st (kind-code semicolon) c e (λ h. omega arith) (λ h. omega arith)) (λ h. omega arith)
+        (passed-same doc work rows terms store st st' 21 (depth-in st) 0 e quiet p (depth-21 work rows terms store))
         (λ tied. (return (after-semicolon s x ∷ []), (rw e, λ old m h. (refl, λ y. refl))))
 
     after-more : (s : ℕ) (x : Ending) → Reads doc (after-semicolon s x ∷ []) (after-semicolon s x ∷ []) (held work rows terms store st) (held work rows terms store st') 0
     after-more s x =
-        reads-does doc (after-semicolon s x) (after-semicolon s x ∷ []) (held work rows terms store st) (held work rows terms store st') 0 ready (λ m. (0, m)) (token-there doc st 21 c e (λ h. omega arith) (λ h. omega arith)) (λ h. omega arith)
-        (passed-same doc work rows terms store st st' 21 (getD st depth-word 0) 0 e quiet p (depth-21 work rows terms store))
+        reads-does doc (after-semicolon s x) (after-semicolon s x ∷ []) (held work rows terms store st) (held work rows terms store st') 0 ready (λ m. (0, m)) (token-there doc st (kind-code semicolon) c e (λ h. omega arith) (λ h. omega arith)) (λ h. omega arith)
+        (passed-same doc work rows terms store st st' 21 (depth-in st) 0 e quiet p (depth-21 work rows terms store))
         (λ tied. (return (after-semicolon s x ∷ []), (rw e, λ old m h. (refl, λ y. refl))))
 
   pub skip-first : Skipping doc st st'
@@ -76,25 +77,25 @@ module _ (doc : Text) (st st' : List ℕ) (e : getD st kind-word 0 ≡ 21) (c : 
 -- Before the next semicolon: it is the first, or others were passed.
 pub record SkipInv (doc : Text) (st₀ st : List ℕ) : Type 0 where
   pub cursor : Cursor doc st
-  pub kind : getD st kind-word 0 ≡ 21
+  pub kind : kind-in st ≡ kind-code semicolon
   pub words : length st ≡ length st₀
   pub way : (st ≡ st₀) ⊎ Skipping doc st₀ st
 
-pub skip-start : (doc : Text) (st : List ℕ) → Cursor doc st → getD st kind-word 0 ≡ 21 → SkipInv doc st st
+pub skip-start : (doc : Text) (st : List ℕ) → Cursor doc st → kind-in st ≡ kind-code semicolon → SkipInv doc st st
 skip-start doc st c e = record { cursor = c; kind = e; words = refl; way = inl refl }
 
-module _ (doc : Text) (st₀ st st' : List ℕ) (I : SkipInv doc st₀ st) (p : Passed doc st st' (getD st depth-word 0) (getD st graph-word 0)) where
+module _ (doc : Text) (st₀ st st' : List ℕ) (I : SkipInv doc st₀ st) (p : Passed doc st st' (depth-in st) (graph-in st)) where
   skipped : Skipping doc st₀ st'
   skipped = ⊎-elim (λ e. subst (λ (l : List ℕ). Skipping doc l st') e (skip-first doc st st' (I .kind) (I .cursor) p)) (λ k. skip-more doc st st' (I .kind) (I .cursor) p st₀ k) (I .way)
 
-  pub skip-again : getD st' kind-word 0 ≡ 21 → SkipInv doc st₀ st'
+  pub skip-again : kind-in st' ≡ kind-code semicolon → SkipInv doc st₀ st'
   skip-again e = record { cursor = p .cursor; kind = e; words = p .words ∙ I .words; way = inr skipped }
 
-  pub skips : (getD st' kind-word 0 ≡ 21 → ⊥) → Skips doc st₀ st'
+  pub skips : (kind-in st' ≡ kind-code semicolon → ⊥) → Skips doc st₀ st'
   skips z = let k = skipped in record { reads = k .reads; ended = z; depth = k .depth; later = k .later; spot = k .spot; words = k .words }
 
-  pub skip-less : length doc - getD st' at-word 0 < length doc - getD st at-word 0
+  pub skip-less : length doc - at-in st' < length doc - at-in st
   skip-less = omega (arith, p .later, p .cursor .inside)
 
 pub skip-ready : (doc : Text) (st₀ st : List ℕ) → SkipInv doc st₀ st → length st₀ ≡ words-size → (Cursor doc st × TokenHere doc st) × (length st ≡ words-size)
-skip-ready doc st₀ st I n = ((I .cursor, token-there doc st 21 (I .cursor) (I .kind) (λ h. omega arith) (λ h. omega arith)), I .words ∙ n)
+skip-ready doc st₀ st I n = ((I .cursor, token-there doc st (kind-code semicolon) (I .cursor) (I .kind) (λ h. omega arith) (λ h. omega arith)), I .words ∙ n)

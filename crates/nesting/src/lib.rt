@@ -8,25 +8,27 @@ ghost use lib.ListN.{length, getD};
 ghost use Rattle.limits.specs.Limits.{depth-limit};
 ghost use Rattle.dataset.specs.Terms.{blank, bracket};
 ghost use Rattle.machine.specs.Memory.{new-term};
-ghost use Rattle.state.specs.Words.{node-word, kind-word, at-word, depth-word, list-word};
+ghost use Rattle.state.specs.Words.{kind-in, depth-in, node-in, list-in};
 ghost use Rattle.environment.specs.Code.{words-size};
 ghost use Rattle.state.specs.Cursor.{Cursor};
 ghost use Rattle.state.specs.Writes.{placed, opened-at};
-ghost use Rattle.simulation.specs.Simulation.{code-among, held, Ready, Does};
+ghost use Rattle.simulation.specs.Simulation.{code-among, Ready, Does, at-call, at-entry, at-exit};
 ghost use Rattle.nodes.specs.Nodes.{spot-of, Spotted, Fills, Numbers, PutsTerm, Closes, Steady, term-kinds, verb-kinds};
-ghost use Rattle.token.specs.Kind.{strings, kw-a};
+ghost use Rattle.token.specs.Kind.{kind-code, strings, kw-a, semicolon};
 ghost use Rattle.nesting.specs.Nesting.{Skips, Leaf, Awaited, Lists, Objects, Properties, Entered, level-x, level-y, Marked, SomeLevels, Deep, Values, Resumes, Contents, Closing, Predicates, Follows, Elements};
+ghost use Rattle.table.specs.Layout.{word-limit};
 use environment::Layout;
 use state::Words;
+use token::Kind;
 
 // Goes behind the semicolons at the cursor.
 fn skip_semicolons(doc: &&[u8], st: &mut [usize; Layout::WORDS])
-    requires { ⌜ (Cursor (now (now doc)) (now st) × (length (now st) ≡ words-size)) × (getD (now st) kind-word 0 ≡ 21) ⌝ }
+    requires { ⌜ (Cursor (now (now doc)) (now st) × (length (now st) ≡ words-size)) × (kind-in (now st) ≡ kind-code semicolon) ⌝ }
     ensures { λ _. ⌜ Skips (now (now (doc .entry))) (now (st .entry)) (now (st .exit)) ⌝ }
 {
     loop {
         nodes::pass(doc, st);
-        if st[Words::KIND] != 21 {
+        if st[Words::KIND] != Kind::SEMICOLON {
             return;
         }
     }
@@ -42,8 +44,8 @@ pub fn leaf(
     store: &mut &mut [u8],
     st: &mut [usize; Layout::WORDS],
 ) -> u8
-    requires { ⌜ (Ready (now (now doc)) (held (now work) (now rows) (now terms) (now store) (now st)) × Spotted (held (now work) (now rows) (now terms) (now store) (now st))) × (code-among strings (getD (now st) kind-word 0) ≡ false → code-among (kw-a ∷ term-kinds) (getD (now st) kind-word 0) ≡ true) ⌝ }
-    ensures { λ r. ⌜ Leaf (now (now (doc .entry))) (held (now (work .entry)) (now (rows .entry)) (now (terms .entry)) (now (store .entry)) (now (st .entry))) (held (now (work .exit)) (now (rows .exit)) (now (terms .exit)) (now (store .exit)) (now (st .exit))) r ⌝ }
+    requires { ⌜ (Ready (now (now doc)) (at-call work rows terms store st) × Spotted (at-call work rows terms store st)) × (code-among strings (kind-in (now st)) ≡ false → code-among (kw-a ∷ term-kinds) (kind-in (now st)) ≡ true) ⌝ }
+    ensures { λ r. ⌜ Leaf (now (now (doc .entry))) (at-entry work rows terms store st) (at-exit work rows terms store st) r ⌝ }
 {
     if nodes::is_string(st[Words::KIND]) {
         return rdf_literals::put_string(doc, work, rows, terms, store, st);
@@ -60,8 +62,8 @@ fn node(
     store: &mut &mut [u8],
     st: &mut [usize; Layout::WORDS],
 ) -> u8
-    requires { ⌜ (Ready (now (now doc)) (held (now work) (now rows) (now terms) (now store) (now st)) × Spotted (held (now work) (now rows) (now terms) (now store) (now st))) × Awaited (now (now doc)) (held (now work) (now rows) (now terms) (now store) (now st)) ⌝ }
-    ensures { λ r. ⌜ Fills (now (now (doc .entry))) (held (now (work .entry)) (now (rows .entry)) (now (terms .entry)) (now (store .entry)) (now (st .entry))) (held (now (work .exit)) (now (rows .exit)) (now (terms .exit)) (now (store .exit)) (now (st .exit))) r × Steady (held (now (work .entry)) (now (rows .entry)) (now (terms .entry)) (now (store .entry)) (now (st .entry))) (held (now (work .exit)) (now (rows .exit)) (now (terms .exit)) (now (store .exit)) (now (st .exit))) r ⌝ }
+    requires { ⌜ (Ready (now (now doc)) (at-call work rows terms store st) × Spotted (at-call work rows terms store st)) × Awaited (now (now doc)) (at-call work rows terms store st) ⌝ }
+    ensures { λ r. ⌜ Fills (now (now (doc .entry))) (at-entry work rows terms store st) (at-exit work rows terms store st) r × Steady (at-entry work rows terms store st) (at-exit work rows terms store st) r ⌝ }
 {
     mark(st, 0, 0);
     value(doc, work, rows, terms, store, st)
@@ -77,8 +79,8 @@ pub fn properties(
     st: &mut [usize; Layout::WORDS],
     s: usize,
 ) -> u8
-    requires { ⌜ (Ready (now (now doc)) (held (now work) (now rows) (now terms) (now store) (now st)) × (s < 4294967296)) × ((0 < s) × (code-among verb-kinds (getD (now st) kind-word 0) ≡ true)) ⌝ }
-    ensures { λ r. ⌜ Properties (now (now (doc .entry))) (held (now (work .entry)) (now (rows .entry)) (now (terms .entry)) (now (store .entry)) (now (st .entry))) (held (now (work .exit)) (now (rows .exit)) (now (terms .exit)) (now (store .exit)) (now (st .exit))) s r ⌝ }
+    requires { ⌜ (Ready (now (now doc)) (at-call work rows terms store st) × (s < word-limit)) × ((0 < s) × (code-among verb-kinds (kind-in (now st)) ≡ true)) ⌝ }
+    ensures { λ r. ⌜ Properties (now (now (doc .entry))) (at-entry work rows terms store st) (at-exit work rows terms store st) s r ⌝ }
 {
     loop {
         nodes::aim(st, 0, 0, 0, 0, 0);
@@ -91,7 +93,7 @@ pub fn properties(
         if d != 0 {
             return d;
         }
-        if st[Words::KIND] != 21 {
+        if st[Words::KIND] != Kind::SEMICOLON {
             return 0;
         }
         skip_semicolons(doc, st);
@@ -112,8 +114,8 @@ fn objects(
     s: usize,
     p: usize,
 ) -> u8
-    requires { ⌜ (Ready (now (now doc)) (held (now work) (now rows) (now terms) (now store) (now st)) × ((s < 4294967296) × (p < 4294967296))) × ((0 < s) × (0 < p)) ⌝ }
-    ensures { λ r. ⌜ Objects (now (now (doc .entry))) (held (now (work .entry)) (now (rows .entry)) (now (terms .entry)) (now (store .entry)) (now (st .entry))) (held (now (work .exit)) (now (rows .exit)) (now (terms .exit)) (now (store .exit)) (now (st .exit))) s p r ⌝ }
+    requires { ⌜ (Ready (now (now doc)) (at-call work rows terms store st) × ((s < word-limit) × (p < word-limit))) × ((0 < s) × (0 < p)) ⌝ }
+    ensures { λ r. ⌜ Objects (now (now (doc .entry))) (at-entry work rows terms store st) (at-exit work rows terms store st) s p r ⌝ }
 {
     loop {
         nodes::aim(st, 0, s, p, 0, 0);
@@ -121,7 +123,7 @@ fn objects(
         if c != 0 {
             return c;
         }
-        if st[Words::KIND] != 20 {
+        if st[Words::KIND] != Kind::COMMA {
             return 0;
         }
         nodes::pass(doc, st);
@@ -137,8 +139,8 @@ pub fn elements(
     store: &mut &mut [u8],
     st: &mut [usize; Layout::WORDS],
 ) -> u8
-    requires { ⌜ (Ready (now (now doc)) (held (now work) (now rows) (now terms) (now store) (now st)) × Spotted (held (now work) (now rows) (now terms) (now store) (now st))) × (0 < getD (now st) depth-word 0) ⌝ }
-    ensures { λ r. ⌜ Lists (now (now (doc .entry))) (held (now (work .entry)) (now (rows .entry)) (now (terms .entry)) (now (store .entry)) (now (st .entry))) (held (now (work .exit)) (now (rows .exit)) (now (terms .exit)) (now (store .exit)) (now (st .exit))) r ⌝ }
+    requires { ⌜ (Ready (now (now doc)) (at-call work rows terms store st) × Spotted (at-call work rows terms store st)) × (0 < depth-in (now st)) ⌝ }
+    ensures { λ r. ⌜ Lists (now (now (doc .entry))) (at-entry work rows terms store st) (at-exit work rows terms store st) r ⌝ }
 {
     let x = st[Words::X];
     let y = st[Words::Y];
@@ -146,7 +148,7 @@ pub fn elements(
     let mut last: usize = 0;
     loop {
         nodes::aim(st, 1, x, y, opened, last);
-        if st[Words::KIND] == 25 {
+        if st[Words::KIND] == Kind::CLOSE_PAREN {
             return simple_terms::close_list(doc, work, rows, terms, store, st);
         }
         let cell = st[Words::TERMS] + 1;
@@ -161,28 +163,28 @@ pub fn elements(
 // Puts into the level of this depth what is resumed once a node is complete here: behind an object of the subject x and the
 // predicate y; in a list, x being 0, behind the cell y; with zeros the caller goes on.
 fn mark(st: &mut [usize; Layout::WORDS], x: usize, y: usize)
-    requires { ⌜ (length (now st) ≡ words-size) × (getD (now st) depth-word 0 ≤ depth-limit) ⌝ }
+    requires { ⌜ (length (now st) ≡ words-size) × (depth-in (now st) ≤ depth-limit) ⌝ }
     ensures { λ _. ⌜ Marked (now (st .entry)) (now (st .exit)) x y ⌝ }
 {
-    let i = Words::LEVELS + 2 * st[Words::DEPTH];
+    let i = Words::LEVELS + Words::LEVEL_SIZE * st[Words::DEPTH];
     st[i] = x;
     st[i + 1] = y;
 }
 
 // The two words of the level of this depth.
 fn level_x(st: &[usize; Layout::WORDS]) -> usize
-    requires { ⌜ (length (now st) ≡ words-size) × (getD (now st) depth-word 0 ≤ depth-limit) ⌝ }
-    ensures { λ r. ⌜ r ≡ level-x (now (st .entry)) (getD (now (st .entry)) depth-word 0) ⌝ }
+    requires { ⌜ (length (now st) ≡ words-size) × (depth-in (now st) ≤ depth-limit) ⌝ }
+    ensures { λ r. ⌜ r ≡ level-x (now (st .entry)) (depth-in (now (st .entry))) ⌝ }
 {
-    let i = Words::LEVELS + 2 * st[Words::DEPTH];
+    let i = Words::LEVELS + Words::LEVEL_SIZE * st[Words::DEPTH];
     st[i]
 }
 
 fn level_y(st: &[usize; Layout::WORDS]) -> usize
-    requires { ⌜ (length (now st) ≡ words-size) × (getD (now st) depth-word 0 ≤ depth-limit) ⌝ }
-    ensures { λ r. ⌜ r ≡ level-y (now (st .entry)) (getD (now (st .entry)) depth-word 0) ⌝ }
+    requires { ⌜ (length (now st) ≡ words-size) × (depth-in (now st) ≤ depth-limit) ⌝ }
+    ensures { λ r. ⌜ r ≡ level-y (now (st .entry)) (depth-in (now (st .entry))) ⌝ }
 {
-    let i = Words::LEVELS + 2 * st[Words::DEPTH];
+    let i = Words::LEVELS + Words::LEVEL_SIZE * st[Words::DEPTH];
     st[i + 1]
 }
 
@@ -225,8 +227,8 @@ fn value(
     store: &mut &mut [u8],
     st: &mut [usize; Layout::WORDS],
 ) -> u8
-    requires { ⌜ (Ready (now (now doc)) (held (now work) (now rows) (now terms) (now store) (now st)) × Spotted (held (now work) (now rows) (now terms) (now store) (now st))) × (Awaited (now (now doc)) (held (now work) (now rows) (now terms) (now store) (now st)) × SomeLevels (now st) (getD (now st) depth-word 0)) ⌝ }
-    ensures { λ r. ⌜ Values (now (now (doc .entry))) (held (now (work .entry)) (now (rows .entry)) (now (terms .entry)) (now (store .entry)) (now (st .entry))) (held (now (work .exit)) (now (rows .exit)) (now (terms .exit)) (now (store .exit)) (now (st .exit))) r ⌝ }
+    requires { ⌜ (Ready (now (now doc)) (at-call work rows terms store st) × Spotted (at-call work rows terms store st)) × (Awaited (now (now doc)) (at-call work rows terms store st) × SomeLevels (now st) (depth-in (now st))) ⌝ }
+    ensures { λ r. ⌜ Values (now (now (doc .entry))) (at-entry work rows terms store st) (at-exit work rows terms store st) r ⌝ }
 {
     let kind = st[Words::KIND];
     if is_leaf(kind) {
@@ -236,14 +238,14 @@ fn value(
         }
         return resume(doc, work, rows, terms, store, st);
     }
-    if kind == 22 {
+    if kind == Kind::OPEN_BRACKET {
         let c = simple_terms::put_bracket(doc, work, rows, terms, store, st);
         if c != 0 {
             return c;
         }
         return contents(doc, work, rows, terms, store, st);
     }
-    if kind == 24 {
+    if kind == Kind::OPEN_PAREN {
         let at = st[Words::AT];
         let cell = st[Words::TERMS] + 1;
         let c = simple_terms::put_paren(doc, work, rows, terms, store, st);
@@ -265,8 +267,8 @@ fn resume(
     store: &mut &mut [u8],
     st: &mut [usize; Layout::WORDS],
 ) -> u8
-    requires { ⌜ Ready (now (now doc)) (held (now work) (now rows) (now terms) (now store) (now st)) × SomeLevels (now st) (getD (now st) depth-word 0) ⌝ }
-    ensures { λ r. ⌜ Resumes (now (now (doc .entry))) (held (now (work .entry)) (now (rows .entry)) (now (terms .entry)) (now (store .entry)) (now (st .entry))) (held (now (work .exit)) (now (rows .exit)) (now (terms .exit)) (now (store .exit)) (now (st .exit))) r ⌝ }
+    requires { ⌜ Ready (now (now doc)) (at-call work rows terms store st) × SomeLevels (now st) (depth-in (now st)) ⌝ }
+    ensures { λ r. ⌜ Resumes (now (now (doc .entry))) (at-entry work rows terms store st) (at-exit work rows terms store st) r ⌝ }
 {
     if level_x(st) != 0 {
         return after_object(doc, work, rows, terms, store, st);
@@ -288,8 +290,8 @@ fn contents(
     store: &mut &mut [u8],
     st: &mut [usize; Layout::WORDS],
 ) -> u8
-    requires { ⌜ (Ready (now (now doc)) (held (now work) (now rows) (now terms) (now store) (now st)) × (getD (now st) node-word 0 < 4294967296)) × ((0 < getD (now st) node-word 0) × Deep (now st)) ⌝ }
-    ensures { λ r. ⌜ Contents (now (now (doc .entry))) (held (now (work .entry)) (now (rows .entry)) (now (terms .entry)) (now (store .entry)) (now (st .entry))) (held (now (work .exit)) (now (rows .exit)) (now (terms .exit)) (now (store .exit)) (now (st .exit))) r ⌝ }
+    requires { ⌜ (Ready (now (now doc)) (at-call work rows terms store st) × (node-in (now st) < word-limit)) × ((0 < node-in (now st)) × Deep (now st)) ⌝ }
+    ensures { λ r. ⌜ Contents (now (now (doc .entry))) (at-entry work rows terms store st) (at-exit work rows terms store st) r ⌝ }
 {
     if !nodes::is_verb(st[Words::KIND]) {
         return close_bracket(doc, work, rows, terms, store, st);
@@ -308,10 +310,10 @@ fn close_bracket(
     store: &mut &mut [u8],
     st: &mut [usize; Layout::WORDS],
 ) -> u8
-    requires { ⌜ Ready (now (now doc)) (held (now work) (now rows) (now terms) (now store) (now st)) × Deep (now st) ⌝ }
-    ensures { λ r. ⌜ Closing (now (now (doc .entry))) (held (now (work .entry)) (now (rows .entry)) (now (terms .entry)) (now (store .entry)) (now (st .entry))) (held (now (work .exit)) (now (rows .exit)) (now (terms .exit)) (now (store .exit)) (now (st .exit))) r ⌝ }
+    requires { ⌜ Ready (now (now doc)) (at-call work rows terms store st) × Deep (now st) ⌝ }
+    ensures { λ r. ⌜ Closing (now (now (doc .entry))) (at-entry work rows terms store st) (at-exit work rows terms store st) r ⌝ }
 {
-    if st[Words::KIND] != 23 {
+    if st[Words::KIND] != Kind::CLOSE_BRACKET {
         return simulation::unexpected(*doc, st);
     }
     nodes::leave(doc, st);
@@ -327,8 +329,8 @@ fn predicate(
     store: &mut &mut [u8],
     st: &mut [usize; Layout::WORDS],
 ) -> u8
-    requires { ⌜ (Ready (now (now doc)) (held (now work) (now rows) (now terms) (now store) (now st)) × (level-x (now st) (getD (now st) depth-word 0) < 4294967296)) × (((0 < level-x (now st) (getD (now st) depth-word 0)) × (code-among verb-kinds (getD (now st) kind-word 0) ≡ true)) × Deep (now st)) ⌝ }
-    ensures { λ r. ⌜ Predicates (now (now (doc .entry))) (held (now (work .entry)) (now (rows .entry)) (now (terms .entry)) (now (store .entry)) (now (st .entry))) (held (now (work .exit)) (now (rows .exit)) (now (terms .exit)) (now (store .exit)) (now (st .exit))) r ⌝ }
+    requires { ⌜ (Ready (now (now doc)) (at-call work rows terms store st) × (level-x (now st) (depth-in (now st)) < word-limit)) × (((0 < level-x (now st) (depth-in (now st))) × (code-among verb-kinds (kind-in (now st)) ≡ true)) × Deep (now st)) ⌝ }
+    ensures { λ r. ⌜ Predicates (now (now (doc .entry))) (at-entry work rows terms store st) (at-exit work rows terms store st) r ⌝ }
 {
     let s = level_x(st);
     nodes::aim(st, 0, 0, 0, 0, 0);
@@ -351,17 +353,17 @@ fn after_object(
     store: &mut &mut [u8],
     st: &mut [usize; Layout::WORDS],
 ) -> u8
-    requires { ⌜ Ready (now (now doc)) (held (now work) (now rows) (now terms) (now store) (now st)) × ((0 < level-x (now st) (getD (now st) depth-word 0)) × SomeLevels (now st) (getD (now st) depth-word 0)) ⌝ }
-    ensures { λ r. ⌜ Follows (now (now (doc .entry))) (held (now (work .entry)) (now (rows .entry)) (now (terms .entry)) (now (store .entry)) (now (st .entry))) (held (now (work .exit)) (now (rows .exit)) (now (terms .exit)) (now (store .exit)) (now (st .exit))) r ⌝ }
+    requires { ⌜ Ready (now (now doc)) (at-call work rows terms store st) × ((0 < level-x (now st) (depth-in (now st))) × SomeLevels (now st) (depth-in (now st))) ⌝ }
+    ensures { λ r. ⌜ Follows (now (now (doc .entry))) (at-entry work rows terms store st) (at-exit work rows terms store st) r ⌝ }
 {
-    if st[Words::KIND] == 20 {
+    if st[Words::KIND] == Kind::COMMA {
         nodes::pass(doc, st);
         let s = level_x(st);
         let p = level_y(st);
         nodes::aim(st, 0, s, p, 0, 0);
         return value(doc, work, rows, terms, store, st);
     }
-    if st[Words::KIND] != 21 {
+    if st[Words::KIND] != Kind::SEMICOLON {
         return close_bracket(doc, work, rows, terms, store, st);
     }
     skip_semicolons(doc, st);
@@ -380,10 +382,10 @@ fn element(
     store: &mut &mut [u8],
     st: &mut [usize; Layout::WORDS],
 ) -> u8
-    requires { ⌜ (Ready (now (now doc)) (held (now work) (now rows) (now terms) (now store) (now st)) × Spotted (held (now work) (now rows) (now terms) (now store) (now st))) × ((getD (now st) list-word 0 ≡ 1) × Deep (now st)) ⌝ }
-    ensures { λ r. ⌜ Elements (now (now (doc .entry))) (held (now (work .entry)) (now (rows .entry)) (now (terms .entry)) (now (store .entry)) (now (st .entry))) (held (now (work .exit)) (now (rows .exit)) (now (terms .exit)) (now (store .exit)) (now (st .exit))) r ⌝ }
+    requires { ⌜ (Ready (now (now doc)) (at-call work rows terms store st) × Spotted (at-call work rows terms store st)) × ((list-in (now st) ≡ 1) × Deep (now st)) ⌝ }
+    ensures { λ r. ⌜ Elements (now (now (doc .entry))) (at-entry work rows terms store st) (at-exit work rows terms store st) r ⌝ }
 {
-    if st[Words::KIND] == 25 {
+    if st[Words::KIND] == Kind::CLOSE_PAREN {
         let c = simple_terms::close_list(doc, work, rows, terms, store, st);
         if c != 0 {
             return c;

@@ -1,16 +1,15 @@
 -- The array's words after the cursor has moved, and after a place was put into it.
-use mathlib.Core.Path.{_≡_, refl, sym, ap, _∙_, subst}
-use mathlib.Core.Logic.{_⊎_, inl, inr}
-use mathlib.Core.List.{List, [], _∷_}
+use mathlib.Core.Path.{_≡_, sym, ap, _∙_, subst}
+use mathlib.Core.Logic.{inl, inr}
+use mathlib.Core.List.{List}
 use Prim.Native.Nat.{ℕ, _+_, _-_, _≤_, _<_}
 use native.Mathlib.Omega.{arith}
 use lib.ListN.{length, getD, set, length-set}
 use lib.Seq.{getD-set-same, getD-set-other}
 use Rattle.environment.specs.Code.{words-size}
 use Rattle.text.specs.Text.{Text}
-use Rattle.lexer.specs.Rest.{rest}
-use Rattle.state.specs.Words.{kind-word, at-word, len-word, clear-word, depth-word, graph-word, last-word, list-word, opened-word, x-word, y-word}
-use Rattle.state.specs.Cursor.{ahead, remaining, Cursor, TokenHere, Sought}
+use Rattle.state.specs.Words.{kind-word, at-word, len-word, clear-word, depth-word, graph-word, last-word, list-word, opened-word, x-word, y-word, at-in, len-in, depth-in, graph-in}
+use Rattle.state.specs.Cursor.{remaining, Cursor, TokenHere, Sought}
 use Rattle.nodes.specs.Nodes.{Aimed, Passed}
 
 -- The cursor is in four words.
@@ -38,8 +37,8 @@ module _ (doc : Text) (st st' : List ℕ) (same : (k : ℕ) → kind-word ≤ k 
   pub left-words : remaining doc st' ≡ remaining doc st
   left-words = rw (same kind-word (omega arith) (omega arith), same at-word (omega arith) (omega arith), same len-word (omega arith) (omega arith))
 
-module _ (doc : Text) (st st' : List ℕ) (t : TokenHere doc st) (s : Sought doc (getD st at-word 0 + getD st len-word 0) st st') where
-  pub passed : Passed doc st st' (getD st depth-word 0) (getD st graph-word 0)
+module _ (doc : Text) (st st' : List ℕ) (t : TokenHere doc st) (s : Sought doc (at-in st + len-in st) st st') where
+  pub passed : Passed doc st st' (depth-in st) (graph-in st)
   passed =
       record {
         cursor = s .cursor;
@@ -60,7 +59,7 @@ module _ (doc : Text) (st st' : List ℕ) (t : TokenHere doc st) (s : Sought doc
     put-same : getD st'' i 0 ≡ v
     put-same = ap (λ (l : List ℕ). getD l i 0) e ∙ getD-set-same st' i v 0 (omega (arith, s .words))
 
-    passed-put : (d g : ℕ) → getD st'' depth-word 0 ≡ d → getD st'' graph-word 0 ≡ g → Passed doc st st'' d g
+    passed-put : (d g : ℕ) → depth-in st'' ≡ d → graph-in st'' ≡ g → Passed doc st st'' d g
     passed-put d g ed eg =
         record {
           cursor = cursor-words doc st' st'' (λ k x y. other k (λ z. omega arith)) (s .cursor);
@@ -73,15 +72,15 @@ module _ (doc : Text) (st st' : List ℕ) (t : TokenHere doc st) (s : Sought doc
           words = ap length e ∙ (length-set st' i v ∙ s .words);
         }
 
-  pub passed-leave : (st'' : List ℕ) → length st ≡ words-size → st'' ≡ set st' depth-word (getD st' depth-word 0 - 1) → Passed doc st st'' (getD st depth-word 0 - 1) (getD st graph-word 0)
+  pub passed-leave : (st'' : List ℕ) → length st ≡ words-size → st'' ≡ set st' depth-word (depth-in st' - 1) → Passed doc st st'' (depth-in st - 1) (graph-in st)
   passed-leave st'' n e =
-      passed-put st'' depth-word (getD st' depth-word 0 - 1) (omega arith) (omega arith) n e (getD st depth-word 0 - 1) (getD st graph-word 0)
-      (put-same st'' depth-word (getD st' depth-word 0 - 1) (omega arith) (omega arith) n e ∙ ap (λ (x : ℕ). x - 1) (s .beside depth-word (inr (omega arith))))
-      (other st'' depth-word (getD st' depth-word 0 - 1) (omega arith) (omega arith) n e graph-word (λ z. omega arith) ∙ s .beside graph-word (inr (omega arith)))
+      passed-put st'' depth-word (depth-in st' - 1) (omega arith) (omega arith) n e (depth-in st - 1) (graph-in st)
+      (put-same st'' depth-word (depth-in st' - 1) (omega arith) (omega arith) n e ∙ ap (λ (x : ℕ). x - 1) (s .beside depth-word (inr (omega arith))))
+      (other st'' depth-word (depth-in st' - 1) (omega arith) (omega arith) n e graph-word (λ z. omega arith) ∙ s .beside graph-word (inr (omega arith)))
 
-  pub passed-enter : (g : ℕ) (st'' : List ℕ) → length st ≡ words-size → st'' ≡ set st' graph-word g → Passed doc st st'' (getD st depth-word 0) g
+  pub passed-enter : (g : ℕ) (st'' : List ℕ) → length st ≡ words-size → st'' ≡ set st' graph-word g → Passed doc st st'' (depth-in st) g
   passed-enter g st'' n e =
-      passed-put st'' graph-word g (omega arith) (omega arith) n e (getD st depth-word 0) g
+      passed-put st'' graph-word g (omega arith) (omega arith) n e (depth-in st) g
       (other st'' graph-word g (omega arith) (omega arith) n e depth-word (λ z. omega arith) ∙ s .beside depth-word (inr (omega arith)))
       (put-same st'' graph-word g (omega arith) (omega arith) n e)
 

@@ -1,39 +1,30 @@
 -- Tokens that write nothing: what is open after them.
-use mathlib.Core.Path.{_≡_, refl, sym, ap, _∙_, subst}
-use mathlib.Core.Logic.{_⊎_, inl, inr}
+use mathlib.Core.Path.{_≡_, refl, sym, ap, _∙_}
 use mathlib.Core.List.{List, [], _∷_, _++_}
-use mathlib.Core.Bool.{Bool, true, false, _&&_, _||_}
-use mathlib.Core.Option.{Option, none, some}
-use Prim.Native.Nat.{ℕ, _+_, _-_, _≤_, _<_}
+use mathlib.Core.Bool.{true, false}
+use Prim.Native.Nat.{ℕ, _-_, _<_}
 use native.Mathlib.Omega.{arith}
-use borrow.Author.Tests.{le-ltb}
-use lib.Dec.{ltb}
-use lib.ListN.{length, getD, drop}
+use lib.ListN.{length, getD}
 use denote.Ref.{RefT}
-use Rattle.text.specs.Text.{Text, cond}
-use Rattle.limits.specs.Limits.{work-size}
+use Rattle.text.specs.Text.{Text}
 use Rattle.token.specs.Kind.{kind-of-code, among, names, strings, IRIREF, open-bracket, open-paren, close-bracket, close-paren}
 use Rattle.token.specs.Tokens.{Token}
-use Rattle.grammar.specs.Productions.{Mode}
 use Rattle.environment.specs.Code.{environment-in}
 use Rattle.environment.proofs.Directives.{in-force-words}
 use Rattle.dataset.specs.Constructors.{nothing, awaiting}
-use Rattle.machine.specs.Memory.{Memory, Write, enter}
-use Rattle.machine.specs.Frame.{Frame, Open, statement}
-use Rattle.machine.specs.Rules.{find-rule, rules}
-use Rattle.machine.specs.Refusals.{no-character, undeclared, no-base, too-long, too-deep, new-depth}
-use Rattle.machine.specs.Step.{awaited-by}
-use Rattle.machine.specs.Demand.{Fits}
-use Rattle.state.specs.Words.{kind-word, at-word, len-word, depth-word, graph-word, blanks-word, rows-word, terms-word, used-word}
-use Rattle.state.specs.Cursor.{TokenHere}
-use Rattle.state.specs.Represents.{Tables, lent-tables, room-in, Represents}
-use Rattle.simulation.specs.Simulation.{Held, held, tables-of, here, Holding, Ready, Same, Comes, token-refusal, Done, Does}
-use Rattle.simulation.proofs.Compose.{same-all}
-use Rattle.simulation.proofs.Steps.{does-comes, tied-here}
+use Rattle.table.specs.Tables.{or-zero}
+use Rattle.machine.specs.Memory.{Memory, enter}
+use Rattle.machine.specs.Refusals.{no-character, undeclared, no-base, too-long, too-deep, new-depth, escape-tests, iri-tests, depth-tests, room-tests}
+use Rattle.machine.specs.Call.{first-refusal}
+use Rattle.machine.proofs.Firsts.{first-before, fits-passes, passes-fits}
+use Rattle.state.specs.Words.{kind-word, blanks-word, rows-word, terms-word, used-word, kind-in, depth-in, graph-in}
+use Rattle.state.specs.Represents.{Tables, room-in, Represents}
+use Rattle.simulation.specs.Simulation.{Held, held, tables-of, here, token-refusal, Does}
 use Rattle.nodes.specs.Nodes.{Passed}
+use Rattle.table.specs.Layout.{word-limit}
 
 -- Representation depends on the words before the cursor's, and on the graph's.
-pub represents-words : (old : Tables) (m : Memory) (work : Text) (t : Tables) (st st' : List ℕ) → ((k : ℕ) → k < kind-word → getD st' k 0 ≡ getD st k 0) → getD st' graph-word 0 ≡ getD st graph-word 0 → length st' ≡ length st
+pub represents-words : (old : Tables) (m : Memory) (work : Text) (t : Tables) (st st' : List ℕ) → ((k : ℕ) → k < kind-word → getD st' k 0 ≡ getD st k 0) → graph-in st' ≡ graph-in st → length st' ≡ length st
     → Represents old m work t st → Represents old m work t st'
 represents-words old m work t st st' same eg n r =
     let e : environment-in work st' ≡ environment-in work st = in-force-words work st st' (λ k h. same k (omega arith)) in
@@ -52,7 +43,7 @@ represents-words old m work t st st' same eg n r =
     }
 
 -- Another graph.
-represents-graph : (old : Tables) (m : Memory) (work : Text) (t : Tables) (st st' : List ℕ) (g : ℕ) → ((k : ℕ) → k < kind-word → getD st' k 0 ≡ getD st k 0) → getD st' graph-word 0 ≡ g → g < 4294967296 → length st' ≡ length st
+represents-graph : (old : Tables) (m : Memory) (work : Text) (t : Tables) (st st' : List ℕ) (g : ℕ) → ((k : ℕ) → k < kind-word → getD st' k 0 ≡ getD st k 0) → graph-in st' ≡ g → g < word-limit → length st' ≡ length st
     → Represents old m work t st → Represents old (enter g m .1) work t st'
 represents-graph old m work t st st' g same eg small n r =
     let e : environment-in work st' ≡ environment-in work st = in-force-words work st st' (λ k h. same k (omega arith)) in
@@ -64,7 +55,7 @@ represents-graph old m work t st st' g same eg small n r =
       rows-held = rw (same rows-word (omega arith)) (r .rows-held);
       graph = eg;
       graph-small = small;
-      fits = record { rows = r .fits .rows; terms = r .fits .terms; store = r .fits .store };
+      fits = passes-fits (room-in t) (enter g m .1) (fits-passes (room-in t) m (r .fits));
       same-rows = rw (same rows-word (omega arith)) (r .same-rows);
       same-terms = rw (same terms-word (omega arith)) (r .same-terms);
       same-store = rw (same used-word (omega arith)) (r .same-store);
@@ -80,20 +71,22 @@ pub record Quiet (k : ℕ) : Type 0 where
 quiet-refusal : (t : Token) (k : ℕ) → t .kind ≡ kind-of-code k → Quiet k → (old : Tables) (m : Memory) (work : Text) (ts : Tables) (st : List ℕ) (g depth : ℕ) → Represents old m work ts st → 0 ≡ token-refusal (room-in ts) depth (m .environment) t (enter g m .1)
 unfolding token-refusal no-character undeclared no-base too-long too-deep
 quiet-refusal t k e q old m work ts st g depth r =
-    rw (e, q .escapes, q .reference, q .name, q .opening, le-ltb (room-in ts .rows) (length (m .rows)) (r .fits .rows), le-ltb (room-in ts .terms) (length (m .terms)) (r .fits .terms), le-ltb (room-in ts .store) _ (r .fits .store))
+    let own = escape-tests t ++ iri-tests (awaiting nothing (m .environment)) t ++ depth-tests depth t in
+    let z : 0 ≡ or-zero (first-refusal own) = rw (e, q .escapes, q .reference, q .name, q .opening) in
+    z ∙ sym (ap or-zero (first-before own (room-tests (room-in ts) m) (fits-passes (room-in ts) m (r .fits))))
 
-module _ (doc : Text) (work rows terms store : RefT (List ℕ)) (st st' : List ℕ) (k d g : ℕ) (e : getD st kind-word 0 ≡ k) (q : Quiet k) where
+module _ (doc : Text) (work rows terms store : RefT (List ℕ)) (st st' : List ℕ) (k d g : ℕ) (e : kind-in st ≡ k) (q : Quiet k) where
   abbrev a : Held
   a = held work rows terms store st
 
   abbrev b : Held
   b = held work rows terms store st'
 
-  pub passed-does : Passed doc st st' d g → d ≡ new-depth (getD st depth-word 0) (here doc a) → g < 4294967296 → Does doc (λ m. (0, enter g m .1)) a b 0
+  pub passed-does : Passed doc st st' d g → d ≡ new-depth (depth-in st) (here doc a) → g < word-limit → Does doc (λ m. (0, enter g m .1)) a b 0
   passed-does p ed small =
       record {
         same = record { work = refl; rows = refl; terms = refl; store = refl; work-length = refl; rows-length = refl; terms-length = refl; store-length = refl; words = p .words };
-        refusal = λ old m h. quiet-refusal (here doc a) k (ap kind-of-code e) q old m (work .now) (tables-of a) st g (getD st depth-word 0) h;
+        refusal = λ old m h. quiet-refusal (here doc a) k (ap kind-of-code e) q old m (work .now) (tables-of a) st g (depth-in st) h;
         place = λ z. absurd (z refl);
         done = λ z.
             record {
@@ -107,11 +100,11 @@ module _ (doc : Text) (work rows terms store : RefT (List ℕ)) (st st' : List �
       }
 
   -- The graph stays.
-  pub passed-same : Passed doc st st' d (getD st graph-word 0) → d ≡ new-depth (getD st depth-word 0) (here doc a) → Does doc (λ m. (0, m)) a b 0
+  pub passed-same : Passed doc st st' d (graph-in st) → d ≡ new-depth (depth-in st) (here doc a) → Does doc (λ m. (0, m)) a b 0
   passed-same p ed =
       record {
         same = record { work = refl; rows = refl; terms = refl; store = refl; work-length = refl; rows-length = refl; terms-length = refl; store-length = refl; words = p .words };
-        refusal = λ old m h. quiet-refusal (here doc a) k (ap kind-of-code e) q old m (work .now) (tables-of a) st (m .graph) (getD st depth-word 0) h;
+        refusal = λ old m h. quiet-refusal (here doc a) k (ap kind-of-code e) q old m (work .now) (tables-of a) st (m .graph) (depth-in st) h;
         place = λ z. absurd (z refl);
         done = λ z.
             record {
@@ -125,7 +118,7 @@ module _ (doc : Text) (work rows terms store : RefT (List ℕ)) (st st' : List �
       }
 
 -- A closing bracket.
-pub depth-closing : (doc : Text) (a : Held) (k : ℕ) → getD (a .st) kind-word 0 ≡ k → among (open-bracket ∷ open-paren ∷ []) (kind-of-code k) ≡ false → among (close-bracket ∷ close-paren ∷ []) (kind-of-code k) ≡ true
-    → getD (a .st) depth-word 0 - 1 ≡ new-depth (getD (a .st) depth-word 0) (here doc a)
+pub depth-closing : (doc : Text) (a : Held) (k : ℕ) → kind-in (a .st) ≡ k → among (open-bracket ∷ open-paren ∷ []) (kind-of-code k) ≡ false → among (close-bracket ∷ close-paren ∷ []) (kind-of-code k) ≡ true
+    → depth-in (a .st) - 1 ≡ new-depth (depth-in (a .st)) (here doc a)
 unfolding new-depth
 depth-closing doc a k e o c = rw (e, o, c)

@@ -1,33 +1,30 @@
 -- Predicates and objects: the frames that await a predicate, and those behind an object.
 use mathlib.Core.Path.{_≡_, refl, sym, ap, _∙_, subst}
 use mathlib.Core.List.{List, [], _∷_, _++_}
-use mathlib.Core.Bool.{Bool, true, false, not, _&&_, _||_}
-use mathlib.Core.Option.{Option, none, some}
-use Prim.Native.Nat.{ℕ, zero, suc, _+_, _≤_, _<_}
-use native.Mathlib.Omega.{arith}
-use borrow.Author.Tests.{eq-eqb, ne-eqb}
-use lib.Dec.{T, eqb}
-use lib.ListN.{length, getD}
-use Rattle.text.specs.Text.{Text, cond}
+use mathlib.Core.Bool.{Bool, true, false, not, _&&_}
+use mathlib.Core.Option.{none, some}
+use Prim.Native.Nat.{ℕ, _≤_}
+use borrow.Author.Tests.{ne-eqb}
+use lib.Dec.{T}
+use lib.ListN.{getD}
+use Rattle.text.specs.Text.{Text}
 use Rattle.text.proofs.Compare.{by, contrary}
 use Rattle.text.proofs.Booleans.{imp, imp-use, all, is-true}
-use Rattle.table.proofs.Numbers.{not-none}
-use Rattle.token.specs.Kind.{Kind, kinds, kind-code, kind-of-code, among, iris, kw-a, comma, semicolon, open-bracket, close-bracket, open-paren, close-paren, open-brace}
+use Rattle.token.specs.Kind.{Kind, kind-code, kinds, last-kind, end-kind, kind-of-code, among, iris, kw-a, comma, semicolon, open-bracket, close-bracket, open-paren, close-paren, open-brace}
 use Rattle.token.specs.Tokens.{Token}
 use Rattle.token.proofs.KindCodes.{each-kind, all-kinds, same, same-eq}
 use Rattle.dataset.specs.Terms.{iri, rdf-type}
-use Rattle.machine.specs.Memory.{Memory, Write, return, _>>=_, _>>_, term, iri-term}
+use Rattle.machine.specs.Memory.{Memory, Write, return, _>>=_, term, iri-term}
 use Rattle.machine.specs.Frame.{Ending, full-stop, bracket-end, Place, Frame, label-or-subject, verb, verb-or-end, object, after-object, after-semicolon, bracket}
-use Rattle.machine.specs.Rules.{Rule, _⇒_, find-rule, hold, after-properties, end-rules, verb-rules, frame-rules}
+use Rattle.machine.specs.Rules.{Rule, _⇒_, find-rule, after-properties, end-rules, verb-rules}
 use Rattle.machine.specs.Refusals.{new-depth}
-use Rattle.state.specs.Words.{node-word, kind-word, list-word, x-word, y-word}
-use Rattle.state.specs.Represents.{Tables}
-use Rattle.state.specs.Writes.{place-of, begin, placed}
+use Rattle.state.specs.Words.{x-word, y-word, kind-in, node-in, list-in}
+use Rattle.state.specs.Writes.{placed}
 use Rattle.state.specs.Cursor.{TokenHere}
-use Rattle.simulation.specs.Simulation.{code-among, Held, here, Holding, Ready, Reads}
+use Rattle.simulation.specs.Simulation.{code-among, Held, here, Ready, Reads}
 use Rattle.simulation.proofs.Tests.{kinds-of, among-any, no-rule, among-code}
-use Rattle.simulation.proofs.Frames.{FrameDoes, reads-does}
-use Rattle.nodes.specs.Nodes.{term-rules, term-kinds, verb-kinds, spot-of, Numbers, PutsTerm, Verbs, Ends}
+use Rattle.simulation.proofs.Frames.{reads-does}
+use Rattle.nodes.specs.Nodes.{term-rules, term-kinds, verb-kinds, spot-of, PutsTerm, Verbs, Ends}
 use Rattle.nodes.proofs.Slots.{found-made, term-rule, begin-plain}
 
 -- ---- Rules in front of others
@@ -55,7 +52,7 @@ module _ (t : Token) (tied : Bool) (after : ℕ → List Frame) (k : Kind) where
   verb-rules-kinds = each-kind (among-any (kinds-of (verb-rules t tied after))) (among verb-kinds) refl k
 
 -- A token that is no predicate.
-pub no-verb : (t : Token) (tied : Bool) (after : ℕ → List Frame) (k : ℕ) → (k ≡ 0 → ⊥) → k ≤ 30 → code-among verb-kinds k ≡ false → find-rule (kind-of-code k) (verb-rules t tied after) ≡ none
+pub no-verb : (t : Token) (tied : Bool) (after : ℕ → List Frame) (k : ℕ) → (k ≡ end-kind → ⊥) → k ≤ last-kind → code-among verb-kinds k ≡ false → find-rule (kind-of-code k) (verb-rules t tied after) ≡ none
 no-verb t tied after k z h v = no-rule (verb-rules t tied after) (kind-of-code k) (verb-rules-kinds t tied after (kind-of-code k) ∙ (among-code verb-kinds k z h ∙ v))
 
 pub verbs-verb : (s : ℕ) (e : Ending) → Verbs (verb s e) s e []
@@ -100,16 +97,16 @@ unfolding all
 verb-is-term k h = is-true (among (kw-a ∷ term-kinds) k) (imp-use (among verb-kinds k) (among (kw-a ∷ term-kinds) k) (all-kinds (λ j. imp (among verb-kinds j) (among (kw-a ∷ term-kinds) j)) tt k) (subst T (sym h) tt))
 
 -- A predicate is read; its node is no object.
-module _ (doc : Text) (a b : Held) (r : ℕ) (ready : Ready doc a) (here-token : TokenHere doc (a .st)) (z : getD (a .st) kind-word 0 ≡ 0 → ⊥) (list-0 : getD (a .st) list-word 0 ≡ 0) (x-0 : getD (a .st) x-word 0 ≡ 0) where
+module _ (doc : Text) (a b : Held) (r : ℕ) (ready : Ready doc a) (here-token : TokenHere doc (a .st)) (z : kind-in (a .st) ≡ end-kind → ⊥) (list-0 : list-in (a .st) ≡ 0) (x-0 : getD (a .st) x-word 0 ≡ 0) where
   pub alone : (v : Write ℕ) (m : Memory) → placed (spot-of a) v m ≡ v m
   unfolding placed
   alone v m = rw (begin-plain a 0 (getD (a .st) y-word 0) x-0 refl list-0 m)
 
-  pub verb-reads : PutsTerm doc a b r → among verb-kinds (here doc a .kind) ≡ true → (f : Frame) (s : ℕ) (e : Ending) (after : List Frame) → Verbs f s e after → Reads doc (f ∷ []) (object s (getD (b .st) node-word 0) e ∷ after) a b r
+  pub verb-reads : PutsTerm doc a b r → among verb-kinds (here doc a .kind) ≡ true → (f : Frame) (s : ℕ) (e : Ending) (after : List Frame) → Verbs f s e after → Reads doc (f ∷ []) (object s (node-in (b .st)) e ∷ after) a b r
   verb-reads P h f s e after verbs =
       let (v, q) = term-rule (here doc a) (here doc a .kind) (verb-is-term (here doc a .kind) h) in
       let N = P v q .gives in
-      reads-does doc f (object s (getD (b .st) node-word 0) e ∷ after) a b r ready (placed (spot-of a) v) here-token z (N .does)
+      reads-does doc f (object s (node-in (b .st)) e ∷ after) a b r ready (placed (spot-of a) v) here-token z (N .does)
       (λ tied. (
         (v >>= λ p. return (object s p e ∷ after)),
         (
@@ -129,11 +126,11 @@ term-depth t d h =
 
 -- ---- Behind an object
 
-module _ (s : ℕ) (e : Ending) (k : ℕ) (n21 : k ≡ 21 → ⊥) where
-  pub ends-object : (p : ℕ) → (k ≡ 20 → ⊥) → Ends (after-object s p e) e k
-  ends-object p n20 z h t tied = rw (among-code (comma ∷ []) k z h, among-code (semicolon ∷ []) k z h, ne-eqb k 20 n20, ne-eqb k 21 n21)
+module _ (s : ℕ) (e : Ending) (k : ℕ) (n21 : k ≡ kind-code semicolon → ⊥) where
+  pub ends-object : (p : ℕ) → (k ≡ kind-code comma → ⊥) → Ends (after-object s p e) e k
+  ends-object p n20 z h t tied = rw (among-code (comma ∷ []) k z h, among-code (semicolon ∷ []) k z h, ne-eqb k (kind-code comma) n20, ne-eqb k (kind-code semicolon) n21)
 
   pub ends-semicolon : code-among verb-kinds k ≡ false → Ends (after-semicolon s e) e k
   ends-semicolon v z h t tied =
-      rw (among-code (semicolon ∷ []) k z h, ne-eqb k 21 n21)
+      rw (among-code (semicolon ∷ []) k z h, ne-eqb k (kind-code semicolon) n21)
       (front-none (kind-of-code k) (verb-rules t tied (λ p. object s p e ∷ [])) (end-rules t tied e) (verb-rules-kinds t tied (λ p. object s p e ∷ []) (kind-of-code k) ∙ (among-code verb-kinds k z h ∙ v)))

@@ -1,33 +1,33 @@
 -- Objects and elements: the frames that await them, and what their tokens leave open.
 use mathlib.Core.Path.{_≡_, refl, sym, ap, _∙_, subst}
 use mathlib.Core.List.{List, [], _∷_, _++_}
-use mathlib.Core.Bool.{Bool, true, false, not, _&&_, _||_}
-use mathlib.Core.Option.{Option, none, some}
-use Prim.Native.Nat.{ℕ, zero, suc, _+_, _≤_, _<_}
+use mathlib.Core.Bool.{Bool, true, false, not, _||_}
+use mathlib.Core.Option.{none, some}
+use Prim.Native.Nat.{ℕ, zero, suc, _≤_, _<_}
 use native.Mathlib.Omega.{arith}
-use borrow.Author.Tests.{eq-eqb, ne-eqb}
+use borrow.Author.Tests.{ne-eqb}
 use lib.Dec.{T, eqb}
 use lib.ListN.{length, getD}
-use Rattle.text.specs.Text.{Text, cond}
+use Rattle.text.specs.Text.{Text}
 use Rattle.text.proofs.Compare.{by, contrary}
 use Rattle.text.proofs.Booleans.{imp, imp-use, all, is-true}
-use Rattle.token.specs.Kind.{Kind, kind-of-code, kind-code, among, open-bracket, open-paren, close-paren, iris, strings, kw-a}
+use Rattle.token.specs.Kind.{Kind, kind-code, last-kind, end-kind, kind-of-code, among, open-bracket, open-paren, close-paren, strings, kw-a}
 use Rattle.token.specs.Tokens.{Token}
 use Rattle.token.proofs.KindCodes.{each-kind, all-kinds}
 use Rattle.table.proofs.Numbers.{not-none}
 use Rattle.machine.proofs.Made.{some-same}
-use Rattle.dataset.specs.Terms.{Term, blank, cell, iri, rdf-type, rdf-nil, bracket as bracket-node}
-use Rattle.machine.specs.Memory.{Memory, Write, return, _>>=_, _>>_, new-term, term, row, Done}
+use Rattle.dataset.specs.Terms.{blank, cell, iri, rdf-type, rdf-nil, bracket as bracket-node}
+use Rattle.machine.specs.Memory.{Memory, Write, return, _>>=_, _>>_, new-term, term, Done}
 use Rattle.machine.specs.Frame.{Ending, Place, top, subject-before, object-of, element-of, Cells, no-cell, cells, Frame, object, after-object, list, bracket}
-use Rattle.machine.specs.Rules.{Rule, _⇒_, find-rule, hold, new-cell, extended, end-list, Opening, after-node, after-properties, bracket-term, simple, string, object-rules, frame-rules}
-use Rattle.state.specs.Words.{terms-word, node-word, kind-word, at-word, list-word, x-word, y-word, opened-word, last-word}
+use Rattle.machine.specs.Rules.{Rule, _⇒_, find-rule, hold, new-cell, extended, end-list, Opening, after-node, bracket-term, simple, string, object-rules}
+use Rattle.state.specs.Words.{terms-word, x-word, y-word, opened-word, last-word, kind-in, at-in, node-in, list-in}
 use Rattle.state.specs.Represents.{Tables}
 use Rattle.state.specs.Writes.{place-of, cells-of, begin, new-element, placed, opened-at, closed}
 use Rattle.state.specs.Cursor.{TokenHere}
 use Rattle.simulation.specs.Simulation.{Held, here, Holding, Ready, Reads, Does, Gives}
 use Rattle.simulation.proofs.Tests.{kinds-of, among-any, no-rule, among-code}
-use Rattle.simulation.proofs.Frames.{FrameDoes, reads-does}
-use Rattle.nodes.specs.Nodes.{node-rules, term-rules, spot-of, slot-place, object-kinds, term-kinds, Slot, Fills, Numbers, PutsTerm, Belongs, LastCell, InList}
+use Rattle.simulation.proofs.Frames.{reads-does}
+use Rattle.nodes.specs.Nodes.{node-rules, term-rules, spot-of, slot-place, object-kinds, term-kinds, Slot, Fills, PutsTerm, Belongs, LastCell, InList}
 
 -- ---- Kinds
 
@@ -50,25 +50,25 @@ object-not-close k e = go (among (close-paren ∷ []) k) (imp-use (among object-
 -- ---- Places
 
 module _ (a : Held) (x y : ℕ) (ex : getD (a .st) x-word 0 ≡ x) (ey : getD (a .st) y-word 0 ≡ y) where
-  pub slot-plain : getD (a .st) list-word 0 ≡ 0 → slot-place a ≡ place-of x y
+  pub slot-plain : list-in (a .st) ≡ 0 → slot-place a ≡ place-of x y
   unfolding slot-place
   slot-plain el = rw (el, ex, ey)
 
-  pub begin-plain : getD (a .st) list-word 0 ≡ 0 → (m : Memory) → begin (spot-of a) m ≡ (place-of x y, m)
+  pub begin-plain : list-in (a .st) ≡ 0 → (m : Memory) → begin (spot-of a) m ≡ (place-of x y, m)
   unfolding begin
   begin-plain el m = rw (el, ex, ey)
 
-pub slot-list : (a : Held) → (getD (a .st) list-word 0 ≡ 0 → ⊥) → slot-place a ≡ element-of (suc (getD (a .st) terms-word 0))
+pub slot-list : (a : Held) → (list-in (a .st) ≡ 0 → ⊥) → slot-place a ≡ element-of (suc (getD (a .st) terms-word 0))
 unfolding slot-place
-slot-list a z = rw (ne-eqb (getD (a .st) list-word 0) 0 z)
+slot-list a z = rw (ne-eqb (list-in (a .st)) 0 z)
 
-pub begin-list : (a : Held) → (getD (a .st) list-word 0 ≡ 0 → ⊥) → (m : Memory) → begin (spot-of a) m ≡ new-element (spot-of a) m
+pub begin-list : (a : Held) → (list-in (a .st) ≡ 0 → ⊥) → (m : Memory) → begin (spot-of a) m ≡ new-element (spot-of a) m
 unfolding begin
-begin-list a z m = rw (ne-eqb (getD (a .st) list-word 0) 0 z)
+begin-list a z m = rw (ne-eqb (list-in (a .st)) 0 z)
 
 -- ---- An object
 
-pub object-slot : (doc : Text) (a : Held) (s p : ℕ) (e : Ending) → getD (a .st) list-word 0 ≡ 0 → getD (a .st) x-word 0 ≡ s → getD (a .st) y-word 0 ≡ p → 0 < s → 0 < p → Slot doc a (object s p e) (after-object s p e)
+pub object-slot : (doc : Text) (a : Held) (s p : ℕ) (e : Ending) → list-in (a .st) ≡ 0 → getD (a .st) x-word 0 ≡ s → getD (a .st) y-word 0 ≡ p → 0 < s → 0 < p → Slot doc a (object s p e) (after-object s p e)
 object-slot doc a zero p e el ex ey hs hp = absurd (omega arith)
 object-slot doc a (suc s) zero e el ex ey hs hp = absurd (omega arith)
 object-slot doc a (suc s) (suc p) e el ex ey hs hp =
@@ -134,35 +134,35 @@ cell-number : (place : Place) (opened : ℕ) (cs : Cells) (at : ℕ) (m : Memory
 cell-number place opened no-cell at m = refl
 cell-number place opened (cells head last) at m = refl
 
-module _ (doc : Text) (a : Held) (place : Place) (opened : ℕ) (cs : Cells) (z : getD (a .st) list-word 0 ≡ 0 → ⊥) (w : InList a place opened cs) where
+module _ (doc : Text) (a : Held) (place : Place) (opened : ℕ) (cs : Cells) (z : list-in (a .st) ≡ 0 → ⊥) (w : InList a place opened cs) where
   abbrev cell-next : ℕ
   cell-next = suc (getD (a .st) terms-word 0)
 
   abbrev begins-list : Write Opening
-  begins-list = new-cell place opened cs (getD (a .st) at-word 0) >>= λ c. return (record { place = element-of c; after = list place opened (extended cs c) ∷ [] })
+  begins-list = new-cell place opened cs (at-in (a .st)) >>= λ c. return (record { place = element-of c; after = list place opened (extended cs c) ∷ [] })
 
-  same-cell : (m : Memory) → new-cell place opened cs (getD (a .st) at-word 0) m ≡ new-cell (place-of (getD (a .st) x-word 0) (getD (a .st) y-word 0)) (getD (a .st) opened-word 0) (cells-of (getD (a .st) last-word 0)) (getD (a .st) at-word 0) m
-  same-cell m = cell-same a place opened cs (getD (a .st) at-word 0) w m
+  same-cell : (m : Memory) → new-cell place opened cs (at-in (a .st)) m ≡ new-cell (place-of (getD (a .st) x-word 0) (getD (a .st) y-word 0)) (getD (a .st) opened-word 0) (cells-of (getD (a .st) last-word 0)) (at-in (a .st)) m
+  same-cell m = cell-same a place opened cs (at-in (a .st)) w m
 
-  number-next : (old : Tables) (m : Memory) → Holding old m a → new-cell place opened cs (getD (a .st) at-word 0) m .0 ≡ cell-next
-  number-next old m h = cell-number place opened cs (getD (a .st) at-word 0) m ∙ ap suc (sym (count-of old m a h))
+  number-next : (old : Tables) (m : Memory) → Holding old m a → new-cell place opened cs (at-in (a .st)) m .0 ≡ cell-next
+  number-next old m h = cell-number place opened cs (at-in (a .st)) m ∙ ap suc (sym (count-of old m a h))
 
-  pub element-slot : (getD (a .st) kind-word 0 ≡ 25 → ⊥) → Slot doc a (list place opened cs) (list place opened (extended cs cell-next))
+  pub element-slot : (kind-in (a .st) ≡ kind-code close-paren → ⊥) → Slot doc a (list place opened cs) (list place opened (extended cs cell-next))
   element-slot k25 =
       record {
         opening = begins-list;
         rules = λ k tied h. rw (object-not-close k h);
-        others = λ x y tied h. rw (close-not (getD (a .st) kind-word 0) k25 x (y .known)) (no-object (here doc a) tied begins-list (here doc a .kind) h);
+        others = λ x y tied h. rw (close-not (kind-in (a .st)) k25 x (y .known)) (no-object (here doc a) tied begins-list (here doc a .kind) h);
         opens = λ old m h.
             let n = number-next old m h in
-            rw (slot-list a z, begin-list a z m, ← same-cell m) (ap (λ (c : ℕ). (record { place = element-of c; after = list place opened (extended cs c) ∷ [] }, new-cell place opened cs (getD (a .st) at-word 0) m .1)) n);
+            rw (slot-list a z, begin-list a z m, ← same-cell m) (ap (λ (c : ℕ). (record { place = element-of c; after = list place opened (extended cs c) ∷ [] }, new-cell place opened cs (at-in (a .st)) m .1)) n);
         begins = λ old m h. rw (slot-list a z, begin-list a z m, ← same-cell m) (ap element-of (number-next old m h));
         no-node = λ n. rw (slot-list a z);
         no-properties = λ n. rw (slot-list a z);
       }
     where
-      close-not : (k : ℕ) → (k ≡ 25 → ⊥) → (k ≡ 0 → ⊥) → k ≤ 30 → among (close-paren ∷ []) (kind-of-code k) ≡ false
-      close-not k x y w = rw (among-code (close-paren ∷ []) k y w, ne-eqb k 25 x)
+      close-not : (k : ℕ) → (k ≡ kind-code close-paren → ⊥) → (k ≡ end-kind → ⊥) → k ≤ last-kind → among (close-paren ∷ []) (kind-of-code k) ≡ false
+      close-not k x y w = rw (among-code (close-paren ∷ []) k y w, ne-eqb k (kind-code close-paren) x)
 
 -- ---- Nodes of one token
 
@@ -206,7 +206,7 @@ term-rule t k h = some-rule (term-rules t) k (each-kind (among-any (kinds-of (te
     some-rule ((ks ⇒ w) ∷ rs) k e = by (among ks k) (λ p. (w, rw p)) (λ p. let (v, q) = some-rule rs k (rw p at e) in (v, rw p q))
 
 -- A term fills the place that awaits it.
-module _ (doc : Text) (a b : Held) (r : ℕ) (ready : Ready doc a) (here-token : TokenHere doc (a .st)) (z : getD (a .st) kind-word 0 ≡ 0 → ⊥) where
+module _ (doc : Text) (a b : Held) (r : ℕ) (ready : Ready doc a) (here-token : TokenHere doc (a .st)) (z : kind-in (a .st) ≡ end-kind → ⊥) where
   -- What an object's token writes is what the place and the node write.
   simple-placed : (f g : Frame) (s : Slot doc a f g) (tied : Bool) (v : Write ℕ) (old : Tables) (m : Memory) → Holding old m a
       → (simple (here doc a) tied (s .opening) v m .1 ≡ placed (spot-of a) v m .1) × (simple (here doc a) tied (s .opening) v m .0 ≡ g ∷ [])
@@ -233,11 +233,11 @@ module _ (doc : Text) (a b : Held) (r : ℕ) (ready : Ready doc a) (here-token :
       more k h = rw h (or-true (eqb 13 (kind-code k)))
 
   -- A bracket: its node is at its place, and what is in it is open.
-  pub bracket-opens : getD (a .st) kind-word 0 ≡ 22 → Gives doc (placed (spot-of a) (new-term (blank (bracket-node (getD (a .st) at-word 0))))) a b r → (f g : Frame) → Slot doc a f g
-      → Reads doc (f ∷ []) (bracket (slot-place a) (getD (b .st) node-word 0) ∷ g ∷ []) a b r
+  pub bracket-opens : kind-in (a .st) ≡ kind-code open-bracket → Gives doc (placed (spot-of a) (new-term (blank (bracket-node (at-in (a .st)))))) a b r → (f g : Frame) → Slot doc a f g
+      → Reads doc (f ∷ []) (bracket (slot-place a) (node-in (b .st)) ∷ g ∷ []) a b r
   unfolding placed
   bracket-opens k G f g s =
-      reads-does doc f (bracket (slot-place a) (getD (b .st) node-word 0) ∷ g ∷ []) a b r ready (placed (spot-of a) (new-term (blank (bracket-node (getD (a .st) at-word 0))))) here-token z (G .does)
+      reads-does doc f (bracket (slot-place a) (node-in (b .st)) ∷ g ∷ []) a b r ready (placed (spot-of a) (new-term (blank (bracket-node (at-in (a .st)))))) here-token z (G .does)
       (λ tied. (
         (s .opening >>= λ o. (bracket-term (here doc a) tied >>= λ n. (hold (o .place) n (here doc a .start) >> return (bracket (o .place) n ∷ o .after)))),
         (
@@ -250,11 +250,11 @@ module _ (doc : Text) (a b : Held) (r : ℕ) (ready : Ready doc a) (here-token :
       ))
 
   -- A list: its place is known, and its elements are open.
-  pub paren-opens : getD (a .st) kind-word 0 ≡ 24 → Does doc (opened-at (spot-of a)) a b r → (f g : Frame) → Slot doc a f g
-      → Reads doc (f ∷ []) (list (slot-place a) (getD (a .st) at-word 0) no-cell ∷ g ∷ []) a b r
+  pub paren-opens : kind-in (a .st) ≡ kind-code open-paren → Does doc (opened-at (spot-of a)) a b r → (f g : Frame) → Slot doc a f g
+      → Reads doc (f ∷ []) (list (slot-place a) (at-in (a .st)) no-cell ∷ g ∷ []) a b r
   unfolding opened-at
   paren-opens k D f g s =
-      reads-does doc f (list (slot-place a) (getD (a .st) at-word 0) no-cell ∷ g ∷ []) a b r ready (opened-at (spot-of a)) here-token z D
+      reads-does doc f (list (slot-place a) (at-in (a .st)) no-cell ∷ g ∷ []) a b r ready (opened-at (spot-of a)) here-token z D
       (λ tied. (
         (s .opening >>= λ o. return (list (o .place) (here doc a .start) no-cell ∷ o .after)),
         (
@@ -264,18 +264,18 @@ module _ (doc : Text) (a b : Held) (r : ℕ) (ready : Ready doc a) (here-token :
       ))
 
   -- The end of a list.
-  pub list-closes : getD (a .st) kind-word 0 ≡ 25 → Gives doc (closed (spot-of a)) a b r → (place : Place) (opened : ℕ) (cs : Cells) → InList a place opened cs
-      → Reads doc (list place opened cs ∷ []) (after-node place (cell-or-nil cs (getD (b .st) node-word 0))) a b r
+  pub list-closes : kind-in (a .st) ≡ kind-code close-paren → Gives doc (closed (spot-of a)) a b r → (place : Place) (opened : ℕ) (cs : Cells) → InList a place opened cs
+      → Reads doc (list place opened cs ∷ []) (after-node place (cell-or-nil cs (node-in (b .st)))) a b r
   unfolding closed
   list-closes k G place opened cs w =
-      reads-does doc (list place opened cs) (after-node place (cell-or-nil cs (getD (b .st) node-word 0))) a b r ready (closed (spot-of a)) here-token z (G .does)
+      reads-does doc (list place opened cs) (after-node place (cell-or-nil cs (node-in (b .st)))) a b r ready (closed (spot-of a)) here-token z (G .does)
       (λ tied. (
         (end-list place opened cs (here doc a .start) >>= λ n. return (after-node place n)),
         (
           rw k,
-          λ old m x. let e = closes-same a place opened cs (getD (a .st) at-word 0) w m in (
+          λ old m x. let e = closes-same a place opened cs (at-in (a .st)) w m in (
             e .0,
-            λ y. ap (after-node place) (e .1 (getD (b .st) node-word 0) (G .node y old m x)),
+            λ y. ap (after-node place) (e .1 (node-in (b .st)) (G .node y old m x)),
           ),
         ),
       ))

@@ -22,18 +22,7 @@ pub fn place(
     requires { ⌜ Represented (now work) (lent-tables (now rows) (now terms) (now store)) (now st) × (SpotFits spot × NodeFits node (now work) (now back) (now text) (now tag)) ⌝ }
     ensures { λ r. ⌜ Puts (placed spot (node-write node (now (work .entry)) (now (back .entry)) (now (text .entry)) (now (tag .entry)) (spot .at))) (now (work .entry)) (now (work .exit)) (lent-tables (now (rows .entry)) (now (terms .entry)) (now (store .entry))) (lent-tables (now (rows .exit)) (now (terms .exit)) (now (store .exit))) (now (st .entry)) (now (st .exit)) r ⌝ }
 {
-    let r = room::room_to_place(
-        &work[0..],
-        &rows[0..],
-        &terms[0..],
-        &store[0..],
-        st,
-        spot,
-        node,
-        back,
-        text,
-        tag,
-    );
+    let r = room::room_to_place(work, rows, terms, store, st, spot, node, back, text, tag);
     if r != 0 {
         return r;
     }
@@ -53,7 +42,7 @@ pub fn open(
     requires { ⌜ Represented (now work) (lent-tables (now rows) (now terms) (now store)) (now st) × SpotFits spot ⌝ }
     ensures { λ r. ⌜ Puts (opened-at spot) (now (work .entry)) (now (work .exit)) (lent-tables (now (rows .entry)) (now (terms .entry)) (now (store .entry))) (lent-tables (now (rows .exit)) (now (terms .exit)) (now (store .exit))) (now (st .entry)) (now (st .exit)) r ⌝ }
 {
-    let r = room::room_to_open(&work[0..], &rows[0..], &terms[0..], &store[0..], st, spot);
+    let r = room::room_to_open(work, rows, terms, store, st, spot);
     if r != 0 {
         return r;
     }
@@ -73,7 +62,7 @@ pub fn close(
     requires { ⌜ Represented (now work) (lent-tables (now rows) (now terms) (now store)) (now st) × SpotFits spot ⌝ }
     ensures { λ r. ⌜ Puts (closed spot) (now (work .entry)) (now (work .exit)) (lent-tables (now (rows .entry)) (now (terms .entry)) (now (store .entry))) (lent-tables (now (rows .exit)) (now (terms .exit)) (now (store .exit))) (now (st .entry)) (now (st .exit)) r ⌝ }
 {
-    let r = room::room_to_close(&work[0..], &rows[0..], &terms[0..], &store[0..], st, spot);
+    let r = room::room_to_close(work, rows, terms, store, st, spot);
     if r != 0 {
         return r;
     }

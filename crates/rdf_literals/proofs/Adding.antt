@@ -3,14 +3,14 @@ use mathlib.Core.Path.{_≡_, refl, sym, _∙_, subst}
 use mathlib.Core.List.{List}
 use Prim.Native.Nat.{ℕ}
 use native.Mathlib.Omega.{arith}
-use lib.ListN.{length, getD, set, length-set}
+use lib.ListN.{length, set, length-set}
 use lib.Seq.{getD-set-same}
 use denote.Ref.{RefT, at-last}
 use Rattle.text.specs.Text.{Text}
 use Rattle.lexer.specs.Rest.{rest}
 use Rattle.machine.specs.Memory.{Memory, Write}
 use Rattle.machine.specs.Refusals.{new-depth}
-use Rattle.state.specs.Words.{at-word, depth-word, graph-word, len-word}
+use Rattle.state.specs.Words.{at-word, depth-word, len-word, at-in, depth-in, graph-in}
 use Rattle.state.specs.Cursor.{remaining}
 use Rattle.state.specs.Represents.{Tables, lent-tables, room-in, Represented, room-refusal, Puts}
 use Rattle.simulation.specs.Simulation.{Held, held, tables-of, here, Holding, Same, token-refusal, Does}
@@ -31,9 +31,9 @@ module _ (doc : Text) (work rows terms store : RefT (List ℕ)) (st st1 : List �
   abbrev a1 : Held
   a1 = held work rows terms store st1
 
-  pub adds-does : Passed doc st st1 (getD st depth-word 0) (getD st graph-word 0) → Adds w a1 b (getD st at-word 0) r
-      → ((m : Memory) → token-refusal (room-in (tables-of a)) (getD st depth-word 0) (m .environment) (here doc a) (w m .1) ≡ room-refusal (room-in (tables-of a)) (w m .1))
-      → new-depth (getD st depth-word 0) (here doc a) ≡ getD st depth-word 0 → Does doc w a b r
+  pub adds-does : Passed doc st st1 (depth-in st) (graph-in st) → Adds w a1 b (at-in st) r
+      → ((m : Memory) → token-refusal (room-in (tables-of a)) (depth-in st) (m .environment) (here doc a) (w m .1) ≡ room-refusal (room-in (tables-of a)) (w m .1))
+      → new-depth (depth-in st) (here doc a) ≡ depth-in st → Does doc w a b r
   adds-does p A q d =
       record {
         same = same-both a a1 b (same-words work rows terms store st st1 (p .words)) (A .same);
@@ -72,7 +72,7 @@ module _ (a : Held) (work rows terms store st1 : List ℕ) (lw : length work ≡
     pub obeys-stop : (r ≡ 0 → ⊥) → Does doc w a later-held r
     obeys-stop z = record { same = same-after (O .words); refusal = λ old m h. O .refusal old m h; place = λ e. O .stays at-word (omega arith); done = λ e. absurd (z e) }
 
-    pub obeys-does : r ≡ 0 → (st2 : List ℕ) → Passed doc st1 st2 (getD st1 depth-word 0) (getD st1 graph-word 0) → new-depth (getD (a .st) depth-word 0) (here doc a) ≡ getD (a .st) depth-word 0
+    pub obeys-does : r ≡ 0 → (st2 : List ℕ) → Passed doc st1 st2 (depth-in st1) (graph-in st1) → new-depth (depth-in (a .st)) (here doc a) ≡ depth-in (a .st)
         → Does doc w a (after a work rows terms store st2) 0
     obeys-does z st2 p d =
         record {

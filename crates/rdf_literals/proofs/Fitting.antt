@@ -1,17 +1,17 @@
 -- The nodes of string literals: they may be placed, and what is placed is what the machine writes.
 use mathlib.Core.Path.{_≡_, refl, sym, ap, _∙_, subst}
-use mathlib.Core.List.{List, [], _∷_}
+use mathlib.Core.List.{List, [], _∷_, _++_}
 use mathlib.Core.Bool.{Bool, true, false}
 use Prim.Native.Nat.{ℕ, zero, suc, _+_, _-_, _≤_, _<_}
 use native.Mathlib.Omega.{arith}
 use borrow.Author.Tests.{eqb-true}
-use lib.Dec.{eqb, ltb}
+use lib.Dec.{eqb}
 use lib.ListN.{length, getD, take, drop, length-drop}
 use lib.Seq.{getD-take, drop-drop, take-all}
 use Rattle.text.specs.Text.{Text}
 use Rattle.text.proofs.Compare.{by, contrary}
 use Rattle.limits.specs.Limits.{document-limit, iri-limit}
-use Rattle.token.specs.Kind.{iris}
+use Rattle.token.specs.Kind.{kind-code, iris, IRIREF, «PNAME_NS», «PNAME_LN», LANGTAG}
 use Rattle.token.specs.Tokens.{Token}
 use Rattle.escape.specs.Escape.{unescape, bad-escape}
 use Rattle.escape.proofs.Walk.{unescape-short}
@@ -20,11 +20,12 @@ use Rattle.spelling.specs.declared.Form.the-variants.{Plain, Escaped}
 use Rattle.environment.specs.Environment.{Environment}
 use Rattle.dataset.specs.Terms.{tagged, xsd-string}
 use Rattle.dataset.specs.Constructors.{inner, tag, iri-of, nothing, awaiting}
-use Rattle.table.specs.Tables.{or-zero, store-size}
+use Rattle.table.specs.Tables.{or-zero}
 use Rattle.machine.specs.Memory.{Memory, Write, term, typed, typed-by}
-use Rattle.machine.specs.Refusals.{no-character, undeclared, no-base, too-long, too-deep}
-use Rattle.machine.specs.Step.{Room, Test, _when_, first-refusal}
-use Rattle.state.specs.Words.{kind-word, at-word, len-word, depth-word}
+use Rattle.machine.specs.Refusals.{no-character, undeclared, no-base, too-long, too-deep, escape-tests, iri-tests, depth-tests, room-tests}
+use Rattle.machine.specs.Call.{Room, Test}
+use Rattle.machine.proofs.Firsts.{first-past, number-past, number-stands}
+use Rattle.state.specs.Words.{kind-in, at-in, len-in, depth-in}
 use Rattle.state.specs.Cursor.{token-of, TokenHere}
 use Rattle.state.specs.Represents.{Tables, room-in, Represents, Represented, room-refusal, Puts}
 use Rattle.state.specs.Writes.{node-write, begin, placed, opened-at, SpotFits, NodeFits}
@@ -185,7 +186,7 @@ open-puts work work' t t' st st' at r spot g p = subst (λ (s : Spot). Puts (ope
 
 -- ---- At a tag
 
-tag-refusal : (room : Room) (d : ℕ) (e : Environment) (i : ℕ) (x : Text) (m : Memory) (k : ℕ) → k ≡ 7 → token-refusal room d e (token-as k i x) m ≡ room-refusal room m
+tag-refusal : (room : Room) (d : ℕ) (e : Environment) (i : ℕ) (x : Text) (m : Memory) (k : ℕ) → k ≡ kind-code LANGTAG → token-refusal room d e (token-as k i x) m ≡ room-refusal room m
 unfolding token-refusal room-refusal no-character undeclared no-base too-long too-deep
 tag-refusal room d e i x m k h = rw h
 
@@ -206,29 +207,29 @@ tag-size doc at len n i j q = omega (arith, short-take i (drop j doc), length-dr
 
 module _ (doc : Text) (x y at len n : ℕ) (work work' : Text) (t t' : Tables) (st st' : List ℕ) (r : ℕ) where
   abbrev here : Token
-  here = token-of doc (getD st kind-word 0) (getD st at-word 0) (getD st len-word 0)
+  here = token-of doc (kind-in st) (at-in st) (len-in st)
 
-  pub obeys-tag : (back text tag' : Text) → getD st kind-word 0 ≡ 7 → text ≡ between doc at len n → tag' ≡ drop 1 (take (getD st len-word 0) (drop (getD st at-word 0) doc))
+  pub obeys-tag : (back text tag' : Text) → kind-in st ≡ kind-code LANGTAG → text ≡ between doc at len n → tag' ≡ drop 1 (take (len-in st) (drop (at-in st) doc))
       → Puts (placed (own-spot x y at) (node-write (literal-node 4) work back text tag' at)) work work' t t' st st' r
       → Obeys doc (placed (own-spot x y at) (term (tagged (text-of doc at len n) (tag here)))) work work' t t' st st' r
   obeys-tag back text tag' k e g p =
       let q = puts-tag (own-spot x y at) work work' t t' st st' r doc at len n back text tag' here e g p in
       record {
-        refusal = λ old m h. q .room old m h ∙ sym (tag-refusal (room-in t) (getD st depth-word 0) (m .environment) (getD st at-word 0) (take (getD st len-word 0) (drop (getD st at-word 0) doc)) (placed (own-spot x y at) (term (tagged (text-of doc at len n) (tag here))) m .1) (getD st kind-word 0) k);
+        refusal = λ old m h. q .room old m h ∙ sym (tag-refusal (room-in t) (depth-in st) (m .environment) (at-in st) (take (len-in st) (drop (at-in st) doc)) (placed (own-spot x y at) (term (tagged (text-of doc at len n) (tag here))) m .1) (kind-in st) k);
         wrote = q .wrote;
         stays = q .stays;
         words = q .words;
       }
 
-module _ (doc work : Text) (t : Tables) (st : List ℕ) (at len n end from to x y : ℕ) (text : Text) (e : end ≡ at + len) (f : text ≡ inner n (take (end - at) (drop at doc))) (g : from ≡ getD st at-word 0 + 1) (h : to ≡ getD st at-word 0 + getD st len-word 0) where
+module _ (doc work : Text) (t : Tables) (st : List ℕ) (at len n end from to x y : ℕ) (text : Text) (e : end ≡ at + len) (f : text ≡ inner n (take (end - at) (drop at doc))) (g : from ≡ at-in st + 1) (h : to ≡ at-in st + len-in st) where
   pub tag-asks : Represented work t st × (SpotFits (own-spot x y at) × Quoted doc at len n) → Represented work t st × (SpotFits (own-spot x y at) × NodeFits (literal-node 4) work (take 0 (drop 0 doc)) text (take (to - from) (drop from doc)))
   tag-asks (i, (s, q)) = (i, (s, literal-fits 4 (omega arith) (omega arith) doc at len n q work (take 0 (drop 0 doc)) text (take (to - from) (drop from doc)) (inside-is doc at len n end text e f) (omega arith) (tag-size doc at len n (to - from) from q)))
 
-  pub tag-puts : (work' : Text) (t' : Tables) (st' : List ℕ) (r : ℕ) → getD st kind-word 0 ≡ 7 → Puts (placed (own-spot x y at) (node-write (literal-node 4) work (take 0 (drop 0 doc)) text (take (to - from) (drop from doc)) at)) work work' t t' st st' r
-      → Obeys doc (placed (own-spot x y at) (term (tagged (text-of doc at len n) (tag (token-of doc (getD st kind-word 0) (getD st at-word 0) (getD st len-word 0)))))) work work' t t' st st' r
+  pub tag-puts : (work' : Text) (t' : Tables) (st' : List ℕ) (r : ℕ) → kind-in st ≡ kind-code LANGTAG → Puts (placed (own-spot x y at) (node-write (literal-node 4) work (take 0 (drop 0 doc)) text (take (to - from) (drop from doc)) at)) work work' t t' st st' r
+      → Obeys doc (placed (own-spot x y at) (term (tagged (text-of doc at len n) (tag (token-of doc (kind-in st) (at-in st) (len-in st)))))) work work' t t' st st' r
   tag-puts work' t' st' r k p =
       obeys-tag doc x y at len n work work' t t' st st' r (take 0 (drop 0 doc)) text (take (to - from) (drop from doc)) k (inside-is doc at len n end text e f)
-      (rw (g, h) (tag-bytes doc (getD st at-word 0) (getD st len-word 0))) p
+      (rw (g, h) (tag-bytes doc (at-in st) (len-in st))) p
 
 -- ---- At an IRI
 
@@ -238,76 +239,60 @@ typed-same s l v u j o m e f = rw (l, e, f)
 
 pub each-iri : (P : ℕ → Type 0) → P 1 → P 2 → P 3 → (k : ℕ) → code-among iris k ≡ true → P k
 each-iri P a b c k e =
-    by (eqb k 1) (λ p. subst P (sym (eqb-true k 1 p)) a)
-    (λ p. by (eqb k 2) (λ q. subst P (sym (eqb-true k 2 q)) b)
-    (λ q. by (eqb k 3) (λ r. subst P (sym (eqb-true k 3 r)) c)
+    by (eqb k (kind-code IRIREF)) (λ p. subst P (sym (eqb-true k (kind-code IRIREF) p)) a)
+    (λ p. by (eqb k (kind-code «PNAME_NS»)) (λ q. subst P (sym (eqb-true k (kind-code «PNAME_NS») q)) b)
+    (λ q. by (eqb k (kind-code «PNAME_LN»)) (λ r. subst P (sym (eqb-true k (kind-code «PNAME_LN») r)) c)
     (λ r. contrary (sym (rw (p, q, r) at e)))))
-
-abbrev four : Bool → Bool → Bool → Bool → List Test → List Test
-four c1 c2 c3 c4 ts = 7 when c1 ∷ 9 when c2 ∷ 10 when c3 ∷ 11 when c4 ∷ ts
-
-some-of-four : (c1 c2 c3 c4 : Bool) (ts : List Test) → (or-zero (first-refusal (four c1 c2 c3 c4 [])) ≡ 0 → ⊥) → or-zero (first-refusal (four c1 c2 c3 c4 ts)) ≡ or-zero (first-refusal (four c1 c2 c3 c4 []))
-some-of-four true c2 c3 c4 ts z = refl
-some-of-four false true c3 c4 ts z = refl
-some-of-four false false true c4 ts z = refl
-some-of-four false false false true ts z = refl
-some-of-four false false false false ts z = absurd (z refl)
-
-none-of-four : (c1 c2 c3 c4 : Bool) (ts : List Test) → or-zero (first-refusal (four c1 c2 c3 c4 [])) ≡ 0 → or-zero (first-refusal (four c1 c2 c3 c4 ts)) ≡ or-zero (first-refusal ts)
-none-of-four true c2 c3 c4 ts z = absurd (omega arith)
-none-of-four false true c3 c4 ts z = absurd (omega arith)
-none-of-four false false true c4 ts z = absurd (omega arith)
-none-of-four false false false true ts z = absurd (omega arith)
-none-of-four false false false false ts z = refl
 
 module _ (room : Room) (d : ℕ) (e : Environment) (i : ℕ) (x : Text) (m : Memory) (k : ℕ) (h : code-among iris k ≡ true) where
   shallow : too-deep d (token-as k i x) ≡ false
   unfolding too-deep
   shallow = each-iri (λ (j : ℕ). too-deep d (token-as j i x) ≡ false) refl refl refl k h
 
+  abbrev first-tests : List Test
+  first-tests = escape-tests (token-as k i x) ++ iri-tests (awaiting nothing e) (token-as k i x)
+
+  abbrev later-tests : List Test
+  later-tests = depth-tests d (token-as k i x) ++ room-tests room m
+
   iri-stop : (iri-refusal (awaiting nothing e) (token-as k i x) ≡ 0 → ⊥) → token-refusal room d e (token-as k i x) m ≡ iri-refusal (awaiting nothing e) (token-as k i x)
   unfolding token-refusal iri-refusal
-  iri-stop z =
-      some-of-four (no-character (token-as k i x)) (undeclared (awaiting nothing e) (token-as k i x)) (no-base (awaiting nothing e) (token-as k i x)) (too-long (awaiting nothing e) (token-as k i x))
-      (13 when too-deep d (token-as k i x) ∷ 14 when ltb (room .rows) (length (m .rows)) ∷ 15 when ltb (room .terms) (length (m .terms)) ∷ 16 when ltb (room .store) (store-size (m .terms)) ∷ []) z
+  iri-stop z = number-stands first-tests later-tests z
 
   iri-room : iri-refusal (awaiting nothing e) (token-as k i x) ≡ 0 → token-refusal room d e (token-as k i x) m ≡ room-refusal room m
   unfolding token-refusal iri-refusal room-refusal
-  iri-room z =
-      none-of-four (no-character (token-as k i x)) (undeclared (awaiting nothing e) (token-as k i x)) (no-base (awaiting nothing e) (token-as k i x)) (too-long (awaiting nothing e) (token-as k i x))
-      (13 when too-deep d (token-as k i x) ∷ 14 when ltb (room .rows) (length (m .rows)) ∷ 15 when ltb (room .terms) (length (m .terms)) ∷ 16 when ltb (room .store) (store-size (m .terms)) ∷ []) z
-      ∙ rw shallow
+  iri-room z = number-past first-tests later-tests refl z ∙ ap or-zero (first-past (depth-tests d (token-as k i x)) (room-tests room m) (shallow, tt))
 
 whole : (x : Text) → take (length x - 0) (drop 0 x) ≡ x
 whole x = take-all (length x - 0) x (omega arith)
 
-pub iri-range : (k : ℕ) → code-among iris k ≡ true → (1 ≤ k) × (k ≤ 3)
+pub iri-range : (k : ℕ) → code-among iris k ≡ true → (kind-code IRIREF ≤ k) × (k ≤ kind-code «PNAME_LN»)
 iri-range k h = each-iri (λ (j : ℕ). (1 ≤ j) × (j ≤ 3)) (omega arith, omega arith) (omega arith, omega arith) (omega arith, omega arith) k h
 
-module _ (doc work : Text) (t : Tables) (st : List ℕ) (buffer : Text) (a : Address) (here-token : TokenHere doc st) (k : code-among iris (getD st kind-word 0) ≡ true)
-    (A : Addresses (getD st kind-word 0) (take (getD st len-word 0) (drop (getD st at-word 0) doc)) work st buffer a) where
+module _ (doc work : Text) (t : Tables) (st : List ℕ) (buffer : Text) (a : Address) (here-token : TokenHere doc st) (k : code-among iris (kind-in st) ≡ true)
+    (A : Addresses (kind-in st) (take (len-in st) (drop (at-in st) doc)) work st buffer a) where
   abbrev token-text : Text
-  token-text = take (getD st len-word 0) (drop (getD st at-word 0) doc)
+  token-text = take (len-in st) (drop (at-in st) doc)
 
   abbrev token-here : Token
-  token-here = token-as (getD st kind-word 0) (getD st at-word 0) token-text
+  token-here = token-as (kind-in st) (at-in st) token-text
 
-  first-byte : getD st kind-word 0 ≡ 1 → getD token-text 0 0 ≡ 60
+  first-byte : kind-in st ≡ kind-code IRIREF → getD token-text 0 0 ≡ 60
   first-byte e =
-      getD-take (getD st len-word 0) (drop (getD st at-word 0) doc) 0 0 (here-token .some-byte)
-      ∙ iriref-begins (drop (getD st at-word 0) doc) (here-token .here-valid) (getD st len-word 0) (subst (λ (j : ℕ). token-at (decode (drop (getD st at-word 0) doc)) ≡ hit j (getD st len-word 0)) e (here-token .matched))
+      getD-take (len-in st) (drop (at-in st) doc) 0 0 (here-token .some-byte)
+      ∙ iriref-begins (drop (at-in st) doc) (here-token .here-valid) (len-in st) (subst (λ (j : ℕ). token-at (decode (drop (at-in st) doc)) ≡ hit j (len-in st)) e (here-token .matched))
 
   stands-for : (old : Tables) (m : Memory) → Represents old m work t st → StandsFor (m .environment) token-here a (front-of a work) (back-of a token-text buffer)
   stands-for old m h =
       subst (λ (e : Environment). StandsFor e token-here a (front-of a work) (back-of a token-text buffer)) (h .environment)
-      (A .stands (h .usable) (subst (λ (e : Environment). Sound e) (sym (h .environment)) (h .base)) first-byte (getD st at-word 0))
+      (A .stands (h .usable) (subst (λ (e : Environment). Sound e) (sym (h .environment)) (h .base)) first-byte (at-in st))
 
   typed-refused : (s : Spot) (v : Text) → (a .refused ≡ 0 → ⊥) → Obeys doc (placed s (typed-by v token-here)) work work t t st st (a .refused)
   typed-refused s v z =
       record {
         refusal = λ old m h.
             let f = stands-for old m h .refusal in
-            f ∙ sym (iri-stop (room-in t) (getD st depth-word 0) (m .environment) (getD st at-word 0) token-text (placed s (typed-by v token-here) m .1) (getD st kind-word 0) k (λ e. z (f ∙ e)));
+            f ∙ sym (iri-stop (room-in t) (depth-in st) (m .environment) (at-in st) token-text (placed s (typed-by v token-here) m .1) (kind-in st) k (λ e. z (f ∙ e)));
         wrote = λ e. absurd (z e);
         stays = λ i h. refl;
         words = refl;
@@ -336,7 +321,7 @@ module _ (doc work : Text) (t : Tables) (st : List ℕ) (buffer : Text) (a : Add
         record {
           refusal = λ old m h.
               q .room old m h
-              ∙ sym (iri-room (room-in t) (getD st depth-word 0) (m .environment) (getD st at-word 0) token-text (placed (own-spot x y at) (typed-by (text-of doc at len n) token-here) m .1) (getD st kind-word 0) k (sym (stands-for old m h .refusal) ∙ z));
+              ∙ sym (iri-room (room-in t) (depth-in st) (m .environment) (at-in st) token-text (placed (own-spot x y at) (typed-by (text-of doc at len n) token-here) m .1) (kind-in st) k (sym (stands-for old m h .refusal) ∙ z));
           wrote = q .wrote;
           stays = q .stays;
           words = q .words;
@@ -346,19 +331,19 @@ module _ (doc work : Text) (t : Tables) (st : List ℕ) (buffer : Text) (a : Add
         same old m h = typed-same (own-spot x y at) refl (text-of doc at len n) (unescape text) (joined (front-of a work) (a .form) (back-of a token-text buffer)) token-here m (ap unescape e) (sym (stands-for old m h .iri z))
 
 -- The same for the slices as they are lent.
-module _ (doc work : Text) (t : Tables) (st : List ℕ) (buffer : Text) (a : Address) (here-token : TokenHere doc st) (k : code-among iris (getD st kind-word 0) ≡ true)
-    (A : Addresses (getD st kind-word 0) (take (getD st at-word 0 + getD st len-word 0 - getD st at-word 0) (drop (getD st at-word 0) doc)) (take (length work - 0) (drop 0 work)) st buffer a) where
+module _ (doc work : Text) (t : Tables) (st : List ℕ) (buffer : Text) (a : Address) (here-token : TokenHere doc st) (k : code-among iris (kind-in st) ≡ true)
+    (A : Addresses (kind-in st) (take (at-in st + len-in st - at-in st) (drop (at-in st) doc)) (take (length work - 0) (drop 0 work)) st buffer a) where
   abbrev lent-token : Text
-  lent-token = take (getD st at-word 0 + getD st len-word 0 - getD st at-word 0) (drop (getD st at-word 0) doc)
+  lent-token = take (at-in st + len-in st - at-in st) (drop (at-in st) doc)
 
-  lent-is : lent-token ≡ take (getD st len-word 0) (drop (getD st at-word 0) doc)
-  lent-is = let e : getD st at-word 0 + getD st len-word 0 - getD st at-word 0 ≡ getD st len-word 0 = omega arith in rw e
+  lent-is : lent-token ≡ take (len-in st) (drop (at-in st) doc)
+  lent-is = let e : at-in st + len-in st - at-in st ≡ len-in st = omega arith in rw e
 
-  address-there : Addresses (getD st kind-word 0) (take (getD st len-word 0) (drop (getD st at-word 0) doc)) work st buffer a
-  address-there = subst (λ (x : Text). Addresses (getD st kind-word 0) (take (getD st len-word 0) (drop (getD st at-word 0) doc)) x st buffer a) (whole work)
-      (subst (λ (x : Text). Addresses (getD st kind-word 0) x (take (length work - 0) (drop 0 work)) st buffer a) lent-is A)
+  address-there : Addresses (kind-in st) (take (len-in st) (drop (at-in st) doc)) work st buffer a
+  address-there = subst (λ (x : Text). Addresses (kind-in st) (take (len-in st) (drop (at-in st) doc)) x st buffer a) (whole work)
+      (subst (λ (x : Text). Addresses (kind-in st) x (take (length work - 0) (drop 0 work)) st buffer a) lent-is A)
 
-  pub written-refused : (s : Spot) (v : Text) → (a .refused ≡ 0 → ⊥) → Obeys doc (placed s (typed-by v (token-of doc (getD st kind-word 0) (getD st at-word 0) (getD st len-word 0)))) work work t t st st (a .refused)
+  pub written-refused : (s : Spot) (v : Text) → (a .refused ≡ 0 → ⊥) → Obeys doc (placed s (typed-by v (token-of doc (kind-in st) (at-in st) (len-in st)))) work work t t st st (a .refused)
   written-refused s v z = typed-refused doc work t st buffer a here-token k address-there s v z
 
   module _ (z : a .refused ≡ 0) (x y at len n end : ℕ) (text : Text) (e : end ≡ at + len) (f : text ≡ inner n (take (end - at) (drop at doc))) where
@@ -374,7 +359,7 @@ module _ (doc work : Text) (t : Tables) (st : List ℕ) (buffer : Text) (a : Add
 
     pub written-puts : (work' : Text) (t' : Tables) (st' : List ℕ) (r : ℕ)
         → Puts (placed (own-spot x y at) (typed (unescape text) (joined (front-of a work) (a .form) (back-of a lent-token (take (length buffer - 0) (drop 0 buffer)))))) work work' t t' st st' r
-        → Obeys doc (placed (own-spot x y at) (typed-by (text-of doc at len n) (token-of doc (getD st kind-word 0) (getD st at-word 0) (getD st len-word 0)))) work work' t t' st st' r
+        → Obeys doc (placed (own-spot x y at) (typed-by (text-of doc at len n) (token-of doc (kind-in st) (at-in st) (len-in st)))) work work' t t' st st' r
     written-puts work' t' st' r p =
         typed-obeys doc work t st buffer a here-token k address-there z x y at len n work' t' st' r text (inside-is doc at len n end text e f)
         (subst (λ (u : Text). Puts (placed (own-spot x y at) (typed (unescape text) (joined (front-of a work) (a .form) (back-of a u buffer)))) work work' t t' st st' r) lent-is

@@ -14,19 +14,19 @@ use Rattle.text.specs.Text.{Text, cond, is}
 use Rattle.text.proofs.Compare.{by, contrary, and-left, and-right}
 use Rattle.utf8.specs.Utf8.{decode, first-bad, encodes, width}
 use Rattle.utf8.proofs.Decoding.{valid-encoded}
-use Rattle.token.specs.Kind.{strings, long-strings}
+use Rattle.token.specs.Kind.{kind-code, strings, long-strings, «STRING_LITERAL_QUOTE», «STRING_LITERAL_SINGLE_QUOTE», «STRING_LITERAL_LONG_QUOTE», «STRING_LITERAL_LONG_SINGLE_QUOTE»}
 use Rattle.token.specs.Regular.{Item, item, Some, Match, hit, Hit, Longest}
 use Rattle.token.specs.Terminals.{terminals, long-terminals, tripled, terminals-at, token-at}
 use Rattle.token.proofs.Longest.{token-longest}
 use Rattle.escape.specs.Escape.{outside, pieces, bad-pieces, bad-escape}
 use Rattle.escape.proofs.Steps.{at-plain}
 use Rattle.dataset.specs.Constructors.{inner}
-use Rattle.state.specs.Words.{kind-word, at-word, len-word}
+use Rattle.state.specs.Words.{kind-in, at-in, len-in}
 use Rattle.state.specs.Cursor.{Cursor, TokenHere}
 use Rattle.token_iri.proofs.Begins.{text-begins}
 use Rattle.token_iri.proofs.Between.{bad-take}
 use Rattle.simulation.specs.Simulation.{code-among}
-use Rattle.rdf_literals.specs.Literals.{quotes-of, between, Quoted}
+use Rattle.rdf_literals.specs.Literals.{quotes-of, Quoted}
 
 -- No backslash is among the first n bytes.
 abbrev pub Fronts : ℕ → Text → Type 0
@@ -94,10 +94,10 @@ three-fronts (a ∷ b ∷ c ∷ t) e =
 -- One of the four kinds.
 pub each-string : (P : ℕ → Type 0) → P 11 → P 12 → P 29 → P 30 → (k : ℕ) → code-among strings k ≡ true → P k
 each-string P a b c d k e =
-    by (eqb k 11) (λ p. subst P (sym (eqb-true k 11 p)) a)
-    (λ p. by (eqb k 12) (λ q. subst P (sym (eqb-true k 12 q)) b)
-    (λ q. by (eqb k 29) (λ r. subst P (sym (eqb-true k 29 r)) c)
-    (λ r. by (eqb k 30) (λ s. subst P (sym (eqb-true k 30 s)) d)
+    by (eqb k (kind-code «STRING_LITERAL_QUOTE»)) (λ p. subst P (sym (eqb-true k (kind-code «STRING_LITERAL_QUOTE») p)) a)
+    (λ p. by (eqb k (kind-code «STRING_LITERAL_SINGLE_QUOTE»)) (λ q. subst P (sym (eqb-true k (kind-code «STRING_LITERAL_SINGLE_QUOTE») q)) b)
+    (λ q. by (eqb k (kind-code «STRING_LITERAL_LONG_QUOTE»)) (λ r. subst P (sym (eqb-true k (kind-code «STRING_LITERAL_LONG_QUOTE») r)) c)
+    (λ r. by (eqb k (kind-code «STRING_LITERAL_LONG_SINGLE_QUOTE»)) (λ s. subst P (sym (eqb-true k (kind-code «STRING_LITERAL_LONG_SINGLE_QUOTE») s)) d)
     (λ s. contrary (sym (rw (p, q, r, s) at e))))))
 
 string-fronts : (s : Text) → first-bad s ≡ none → (n k : ℕ) → code-among strings k ≡ true → token-at (decode s) ≡ hit k n → Fronts (quotes-of k) s
@@ -118,14 +118,14 @@ few-quotes : (k : ℕ) → quotes-of k ≤ 3
 few-quotes k = by (code-among long-strings k) (λ p. rw p (omega arith)) (λ p. rw p (omega arith))
 
 -- What is kept of the string at the cursor.
-pub string-quoted : (doc : Text) (st : List ℕ) → Cursor doc st → TokenHere doc st → code-among strings (getD st kind-word 0) ≡ true → bad-escape (take (getD st len-word 0) (drop (getD st at-word 0) doc)) ≡ false
-    → Quoted doc (getD st at-word 0) (getD st len-word 0) (quotes-of (getD st kind-word 0))
+pub string-quoted : (doc : Text) (st : List ℕ) → Cursor doc st → TokenHere doc st → code-among strings (kind-in st) ≡ true → bad-escape (take (len-in st) (drop (at-in st) doc)) ≡ false
+    → Quoted doc (at-in st) (len-in st) (quotes-of (kind-in st))
 string-quoted doc st c t k g = record {
   size = c .size;
   inside = c .inside;
-  few = few-quotes (getD st kind-word 0);
-  right = good-inside (quotes-of (getD st kind-word 0)) (take (getD st len-word 0) (drop (getD st at-word 0) doc))
-      (fronts-take (quotes-of (getD st kind-word 0)) (getD st len-word 0) (drop (getD st at-word 0) doc) (string-fronts (drop (getD st at-word 0) doc) (t .here-valid) (getD st len-word 0) (getD st kind-word 0) k (t .matched))) g;
+  few = few-quotes (kind-in st);
+  right = good-inside (quotes-of (kind-in st)) (take (len-in st) (drop (at-in st) doc))
+      (fronts-take (quotes-of (kind-in st)) (len-in st) (drop (at-in st) doc) (string-fronts (drop (at-in st) doc) (t .here-valid) (len-in st) (kind-in st) k (t .matched))) g;
 }
 
 -- The inside as the code reads it.

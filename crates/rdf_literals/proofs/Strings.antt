@@ -10,7 +10,7 @@ use lib.Dec.{eqb}
 use lib.ListN.{getD}
 use Rattle.text.specs.Text.{Text}
 use Rattle.text.proofs.Compare.{by}
-use Rattle.token.specs.Kind.{kind-of-code, among, strings, iris}
+use Rattle.token.specs.Kind.{kind-code, end-kind, unreadable-kind, kind-of-code, among, strings, iris, LANGTAG, carets}
 use Rattle.token.specs.Tokens.{Token}
 use Rattle.escape.specs.Escape.{bad-escape}
 use Rattle.dataset.specs.Terms.{tagged, xsd-string}
@@ -21,7 +21,7 @@ use Rattle.machine.specs.Rules.{find-rule, hold, Opening, simple, string, objec
 use Rattle.machine.specs.Refusals.{no-character, undeclared, no-base, too-long, too-deep, new-depth}
 use Rattle.machine.specs.Step.{Room, tied-to}
 use Rattle.environment.specs.Environment.{Environment}
-use Rattle.state.specs.Words.{terms-word, kind-word, at-word, len-word, list-word, x-word, y-word}
+use Rattle.state.specs.Words.{terms-word, x-word, y-word, kind-in, at-in, len-in, list-in}
 use Rattle.state.specs.Cursor.{token-of, remaining, Cursor, TokenHere}
 use Rattle.state.specs.Represents.{Tables, room-refusal}
 use Rattle.state.specs.Writes.{place-of, begin, placed, opened-at}
@@ -62,16 +62,16 @@ unfolding string-text
 text-same doc at len k h = each-string (λ (j : ℕ). string-text (token-of doc j at len) ≡ text-of doc at len (quotes-of j)) refl refl refl refl k h
 
 -- Does what the cursor holds tie the token before it?
-pub tied-left : (doc : Text) (st : List ℕ) → Cursor doc st → tied-to (remaining doc st) ≡ code-among ties (getD st kind-word 0)
+pub tied-left : (doc : Text) (st : List ℕ) → Cursor doc st → tied-to (remaining doc st) ≡ code-among ties (kind-in st)
 tied-left doc st c =
-    by (eqb (getD st kind-word 0) 0) (λ p. let e = eqb-true (getD st kind-word 0) 0 p in rw (e, ahead-end doc (getD st at-word 0) (getD st len-word 0)))
-    (λ p. by (eqb (getD st kind-word 0) 31) (λ q. let e = eqb-true (getD st kind-word 0) 31 q in rw (e, ahead-none doc (getD st at-word 0) (getD st len-word 0)))
-    (λ q. let z = eqb-false (getD st kind-word 0) 0 p in
-    let t = c .token z (eqb-false (getD st kind-word 0) 31 q) in
-    rw (ahead-token doc (getD st kind-word 0) (getD st at-word 0) (getD st len-word 0) z (t .known)) (among-code ties (getD st kind-word 0) z (t .known))))
+    by (eqb (kind-in st) end-kind) (λ p. let e = eqb-true (kind-in st) end-kind p in rw (e, ahead-end doc (at-in st) (len-in st)))
+    (λ p. by (eqb (kind-in st) unreadable-kind) (λ q. let e = eqb-true (kind-in st) unreadable-kind q in rw (e, ahead-none doc (at-in st) (len-in st)))
+    (λ q. let z = eqb-false (kind-in st) end-kind p in
+    let t = c .token z (eqb-false (kind-in st) unreadable-kind q) in
+    rw (ahead-token doc (kind-in st) (at-in st) (len-in st) z (t .known)) (among-code ties (kind-in st) z (t .known))))
 
 -- As reads-does, where the rule is known for what follows the token.
-module _ (doc : Text) (f : Frame) (gs : List Frame) (a b : Held) (r : ℕ) (ready : Ready doc a) (h : TokenHere doc (a .st)) (z : getD (a .st) kind-word 0 ≡ 0 → ⊥) where
+module _ (doc : Text) (f : Frame) (gs : List Frame) (a b : Held) (r : ℕ) (ready : Ready doc a) (h : TokenHere doc (a .st)) (z : kind-in (a .st) ≡ end-kind → ⊥) where
   reads-tied : (w : Write ℕ) → Does doc w a b r → (v : Write (List Frame)) → find-rule (here doc a .kind) (frame-rules (here doc a) (tied-here doc a h z) f) ≡ some v
       → ((old : Tables) (m : Memory) → Holding old m a → (v m .1 ≡ w m .1) × (r ≡ 0 → v m .0 ≡ gs)) → Reads doc (f ∷ []) gs a b r
   unfolding rules
@@ -85,15 +85,15 @@ module _ (doc : Text) (f : Frame) (gs : List Frame) (a b : Held) (r : ℕ) (read
         ),
       ))
 
-module _ (doc : Text) (a b : Held) (r : ℕ) (ready : Ready doc a) (h : TokenHere doc (a .st)) (z : getD (a .st) kind-word 0 ≡ 0 → ⊥) (k : code-among strings (getD (a .st) kind-word 0) ≡ true) where
+module _ (doc : Text) (a b : Held) (r : ℕ) (ready : Ready doc a) (h : TokenHere doc (a .st)) (z : kind-in (a .st) ≡ end-kind → ⊥) (k : code-among strings (kind-in (a .st)) ≡ true) where
   abbrev own-text : Text
-  own-text = text-of doc (getD (a .st) at-word 0) (getD (a .st) len-word 0) (quotes-of (getD (a .st) kind-word 0))
+  own-text = text-of doc (at-in (a .st)) (len-in (a .st)) (quotes-of (kind-in (a .st)))
 
   text-here : string-text (here doc a) ≡ own-text
-  text-here = text-same doc (getD (a .st) at-word 0) (getD (a .st) len-word 0) (getD (a .st) kind-word 0) k
+  text-here = text-same doc (at-in (a .st)) (len-in (a .st)) (kind-in (a .st)) k
 
   slot-found : (f g : Frame) (s : Slot doc a f g) (tied : Bool) → find-rule (here doc a .kind) (frame-rules (here doc a) tied f) ≡ some (string (here doc a) tied (s .opening) tied)
-  slot-found f g s tied = s .rules (here doc a .kind) tied (string-object (getD (a .st) kind-word 0) k) ∙ string-found (here doc a) tied (s .opening) (getD (a .st) kind-word 0) k
+  slot-found f g s tied = s .rules (here doc a .kind) tied (string-object (kind-in (a .st)) k) ∙ string-found (here doc a) tied (s .opening) (kind-in (a .st)) k
 
   -- Complete at its own token.
   pub plain-reads : tied-here doc a h z ≡ false → Does doc (placed (spot-of a) (typed own-text xsd-string)) a b r → (f g : Frame) → Slot doc a f g → Reads doc (f ∷ []) (g ∷ []) a b r
@@ -104,10 +104,10 @@ module _ (doc : Text) (a b : Held) (r : ℕ) (ready : Ready doc a) (h : TokenHer
       (λ old m x. (rw (s .opens old m x, s .begins old m x, text-here), λ y. rw (s .opens old m x)))
 
   -- Not complete: its place is known.
-  pub tied-reads : tied-here doc a h z ≡ true → Does doc (opened-at (spot-of a)) a b r → (f g : Frame) → Slot doc a f g → Reads doc (f ∷ []) (suffix (slot-place a) (getD (a .st) at-word 0) own-text ∷ g ∷ []) a b r
+  pub tied-reads : tied-here doc a h z ≡ true → Does doc (opened-at (spot-of a)) a b r → (f g : Frame) → Slot doc a f g → Reads doc (f ∷ []) (suffix (slot-place a) (at-in (a .st)) own-text ∷ g ∷ []) a b r
   unfolding opened-at
   tied-reads e D f g s =
-      reads-tied doc f (suffix (slot-place a) (getD (a .st) at-word 0) own-text ∷ g ∷ []) a b r ready h z (opened-at (spot-of a)) D (string (here doc a) (tied-here doc a h z) (s .opening) true)
+      reads-tied doc f (suffix (slot-place a) (at-in (a .st)) own-text ∷ g ∷ []) a b r ready h z (opened-at (spot-of a)) D (string (here doc a) (tied-here doc a h z) (s .opening) true)
       (slot-found f g s (tied-here doc a h z) ∙ ap (λ (x : Bool). some (string (here doc a) (tied-here doc a h z) (s .opening) x)) e)
       (λ old m x. (rw (s .opens old m x), λ y. rw (s .opens old m x, text-here)))
 
@@ -120,45 +120,45 @@ module _ (doc : Text) (a b : Held) (r : ℕ) (ready : Ready doc a) (h : TokenHer
 -- The place that the string got.
 pub own-place : (a : Held) → slot-place a ≡ place-of (own-x (a .st)) (own-y (a .st))
 own-place a =
-    by (eqb (getD (a .st) list-word 0) 0) (λ e. rw e (slot-plain a (getD (a .st) x-word 0) (getD (a .st) y-word 0) refl refl (eqb-true (getD (a .st) list-word 0) 0 e)))
-    (λ e. rw e (slot-list a (eqb-false (getD (a .st) list-word 0) 0 e) ∙ next (getD (a .st) terms-word 0)))
+    by (eqb (list-in (a .st)) 0) (λ e. rw e (slot-plain a (getD (a .st) x-word 0) (getD (a .st) y-word 0) refl refl (eqb-true (list-in (a .st)) 0 e)))
+    (λ e. rw e (slot-list a (eqb-false (list-in (a .st)) 0 e) ∙ next (getD (a .st) terms-word 0)))
   where
     next : (n : ℕ) → element-of (suc n) ≡ place-of (n + 1) 0
     next n = let e : n + 1 ≡ suc n = omega arith in rw e
 
 module _ (st : List ℕ) where
-  pub own-x-node : getD st list-word 0 ≡ 0 → getD st x-word 0 ≡ own-x st
+  pub own-x-node : list-in st ≡ 0 → getD st x-word 0 ≡ own-x st
   own-x-node e = rw e
 
-  pub own-x-cell : (getD st list-word 0 ≡ 0 → ⊥) → getD st terms-word 0 + 1 ≡ own-x st
-  own-x-cell z = rw (ne-eqb (getD st list-word 0) 0 z)
+  pub own-x-cell : (list-in st ≡ 0 → ⊥) → getD st terms-word 0 + 1 ≡ own-x st
+  own-x-cell z = rw (ne-eqb (list-in st) 0 z)
 
-  pub own-y-node : getD st list-word 0 ≡ 0 → getD st y-word 0 ≡ own-y st
+  pub own-y-node : list-in st ≡ 0 → getD st y-word 0 ≡ own-y st
   own-y-node e = rw e
 
-  pub own-y-cell : (getD st list-word 0 ≡ 0 → ⊥) → 0 ≡ own-y st
-  own-y-cell z = rw (ne-eqb (getD st list-word 0) 0 z)
+  pub own-y-cell : (list-in st ≡ 0 → ⊥) → 0 ≡ own-y st
+  own-y-cell z = rw (ne-eqb (list-in st) 0 z)
 
 -- ---- What follows it
 
 module _ (doc : Text) (a b : Held) (r : ℕ) (ready : Ready doc a) (x y at : ℕ) (s : Text) where
-  pub tag-reads : getD (a .st) kind-word 0 ≡ 7 → TokenHere doc (a .st) → Does doc (placed (own-spot x y at) (term (tagged s (tag (here doc a))))) a b r → Reads doc (suffix (place-of x y) at s ∷ []) [] a b r
+  pub tag-reads : kind-in (a .st) ≡ kind-code LANGTAG → TokenHere doc (a .st) → Does doc (placed (own-spot x y at) (term (tagged s (tag (here doc a))))) a b r → Reads doc (suffix (place-of x y) at s ∷ []) [] a b r
   unfolding placed begin
   tag-reads k h D =
       reads-does doc (suffix (place-of x y) at s) [] a b r ready (placed (own-spot x y at) (term (tagged s (tag (here doc a))))) h (λ e. omega arith) D
       (λ tied. ((term (tagged s (tag (here doc a))) >>= λ n. (hold (place-of x y) n at >> return [])), (rw k, λ old m q. (refl, λ e. refl))))
 
-  pub carets-reads : getD (a .st) kind-word 0 ≡ 28 → TokenHere doc (a .st) → Does doc (λ m. (0, m)) a b r → Reads doc (suffix (place-of x y) at s ∷ []) (datatype (place-of x y) at s ∷ []) a b r
+  pub carets-reads : kind-in (a .st) ≡ kind-code carets → TokenHere doc (a .st) → Does doc (λ m. (0, m)) a b r → Reads doc (suffix (place-of x y) at s ∷ []) (datatype (place-of x y) at s ∷ []) a b r
   carets-reads k h D =
       reads-does doc (suffix (place-of x y) at s) (datatype (place-of x y) at s ∷ []) a b r ready (λ m. (0, m)) h (λ e. omega arith) D
       (λ tied. (return (datatype (place-of x y) at s ∷ []), (rw k, λ old m q. (refl, λ e. refl))))
 
-  pub datatype-reads : code-among iris (getD (a .st) kind-word 0) ≡ true → (getD (a .st) kind-word 0 ≡ 0 → ⊥) → TokenHere doc (a .st) → Does doc (placed (own-spot x y at) (typed-by s (here doc a))) a b r → Reads doc (datatype (place-of x y) at s ∷ []) [] a b r
+  pub datatype-reads : code-among iris (kind-in (a .st)) ≡ true → (kind-in (a .st) ≡ end-kind → ⊥) → TokenHere doc (a .st) → Does doc (placed (own-spot x y at) (typed-by s (here doc a))) a b r → Reads doc (datatype (place-of x y) at s ∷ []) [] a b r
   unfolding placed begin
   datatype-reads k z h D =
       reads-does doc (datatype (place-of x y) at s) [] a b r ready (placed (own-spot x y at) (typed-by s (here doc a))) h z D
-      (λ tied. ((typed-by s (here doc a) >>= λ n. (hold (place-of x y) n at >> return [])), (rw (among-code iris (getD (a .st) kind-word 0) z (h .known), k), λ old m q. (refl, λ e. refl))))
+      (λ tied. ((typed-by s (here doc a) >>= λ n. (hold (place-of x y) n at >> return [])), (rw (among-code iris (kind-in (a .st)) z (h .known), k), λ old m q. (refl, λ e. refl))))
 
-pub datatype-none : (doc : Text) (a : Held) (r : ℕ) (ready : Ready doc a) (p : Place) (at : ℕ) (s : Text) → code-among iris (getD (a .st) kind-word 0) ≡ false → r ≡ refusal-here doc (a .st) → Reads doc (datatype p at s ∷ []) [] a a r
+pub datatype-none : (doc : Text) (a : Held) (r : ℕ) (ready : Ready doc a) (p : Place) (at : ℕ) (s : Text) → code-among iris (kind-in (a .st)) ≡ false → r ≡ refusal-here doc (a .st) → Reads doc (datatype p at s ∷ []) [] a a r
 datatype-none doc a r ready p at s k e =
-    reads-none doc (datatype p at s) [] [] a r ready (λ z h tied. rw (among-code iris (getD (a .st) kind-word 0) z (h .known), k)) e
+    reads-none doc (datatype p at s) [] [] a r ready (λ z h tied. rw (among-code iris (kind-in (a .st)) z (h .known), k)) e

@@ -12,7 +12,7 @@ use Rattle.escape.specs.Escape.{unescape, bad-escape}
 use Rattle.spelling.specs.Form.{bad, joined}
 use Rattle.dataset.specs.Constructors.{inner}
 use Rattle.machine.specs.Memory.{Memory, Write}
-use Rattle.state.specs.Words.{terms-word, kind-word, at-word, len-word, depth-word, list-word, x-word, y-word, opened-word, last-word, Stays}
+use Rattle.state.specs.Words.{terms-word, x-word, y-word, opened-word, last-word, Stays, kind-in, at-in, len-in, depth-in, list-in}
 use Rattle.state.specs.Cursor.{token-of}
 use Rattle.state.specs.Represents.{Tables, room-in, Represents, room-refusal, Wrote}
 use Rattle.state.specs.declared.Spot.{Spot}
@@ -46,7 +46,7 @@ pub record Quoted (doc : Text) (at len quotes : ℕ) : Type 0 where
 abbrev pub spot-at : List ℕ → ℕ → Spot
 spot-at st at =
     record {
-      list = not (eqb (getD st list-word 0) 0);
+      list = not (eqb (list-in st) 0);
       x = getD st x-word 0;
       y = getD st y-word 0;
       opened = getD st opened-word 0;
@@ -56,10 +56,10 @@ spot-at st at =
 
 -- The place that is got there: an element's is its new cell.
 abbrev pub own-x : List ℕ → ℕ
-own-x st = cond (eqb (getD st list-word 0) 0) (getD st x-word 0) (getD st terms-word 0 + 1)
+own-x st = cond (eqb (list-in st) 0) (getD st x-word 0) (getD st terms-word 0 + 1)
 
 abbrev pub own-y : List ℕ → ℕ
-own-y st = cond (eqb (getD st list-word 0) 0) (getD st y-word 0) 0
+own-y st = cond (eqb (list-in st) 0) (getD st y-word 0) 0
 
 abbrev pub own-spot : ℕ → ℕ → ℕ → Spot
 own-spot x y at = record { list = false; x = x; y = y; opened = 0; last = 0; at = at }
@@ -79,14 +79,14 @@ pub record Located (a : Address) (token text buffer work : Text) : Type 0 where
 pub record Adds (w : Write ℕ) (a b : Held) (at r : ℕ) : Type 0 where
   pub same : Same a b
   pub room : (old : Tables) (m : Memory) → Holding old m a → r ≡ room-refusal (room-in (tables-of a)) (w m .1)
-  pub place : (r ≡ 0 → ⊥) → getD (b .st) at-word 0 ≡ at
+  pub place : (r ≡ 0 → ⊥) → at-in (b .st) ≡ at
   pub stays : r ≡ 0 → Stays (a .st) (b .st)
   pub holding : r ≡ 0 → (old : Tables) (m : Memory) → Holding old m a → Holding old (w m .1) b
 
 -- w was done at the token of the cursor, with all refusals that it may meet.
 pub record Obeys (doc : Text) (w : Write ℕ) (work work' : Text) (t t' : Tables) (st st' : List ℕ) (r : ℕ) : Type 0 where
   pub refusal : (old : Tables) (m : Memory) → Represents old m work t st
-      → r ≡ token-refusal (room-in t) (getD st depth-word 0) (m .environment) (token-of doc (getD st kind-word 0) (getD st at-word 0) (getD st len-word 0)) (w m .1)
+      → r ≡ token-refusal (room-in t) (depth-in st) (m .environment) (token-of doc (kind-in st) (at-in st) (len-in st)) (w m .1)
   pub wrote : r ≡ 0 → Wrote w work work' t t' st st'
   pub stays : Stays st st'
   pub words : length st' ≡ length st

@@ -6,7 +6,7 @@ ghost use mathlib.Core.Bool.{true};
 ghost use Prim.Native.Nat.{_+_, _≤_, _<_};
 ghost use lib.ListN.{length, getD, take, drop};
 ghost use Rattle.limits.specs.Limits.{iri-limit};
-ghost use Rattle.token.specs.Kind.{strings, iris};
+ghost use Rattle.token.specs.Kind.{kind-code, strings, iris, LANGTAG};
 ghost use Rattle.escape.specs.Escape.{unescape, bad-escape};
 ghost use Rattle.spelling.specs.Form.{joined};
 ghost use Rattle.environment.specs.Code.{words-size};
@@ -14,20 +14,23 @@ ghost use Rattle.dataset.specs.Terms.{tagged, xsd-string};
 ghost use Rattle.dataset.specs.Constructors.{inner, tag};
 ghost use Rattle.machine.specs.Memory.{term, typed, typed-by};
 ghost use Rattle.machine.specs.Frame.{suffix, datatype};
-ghost use Rattle.state.specs.Words.{terms-word, kind-word, at-word, len-word};
+ghost use Rattle.state.specs.Words.{terms-word, kind-in, at-in, len-in};
 ghost use Rattle.state.specs.Cursor.{token-of, Cursor, TokenHere};
 ghost use Rattle.state.specs.Represents.{lent-tables, Represented, Puts};
 ghost use Rattle.state.specs.Writes.{place-of, placed, opened-at, SpotFits};
 ghost use Rattle.token_iri.specs.Addresses.{front-of, back-of};
-ghost use Rattle.simulation.specs.Simulation.{code-among, held, here, Ready, Reads, Does};
+ghost use Rattle.simulation.specs.Simulation.{code-among, here, Ready, Reads, Does, at-call, at-entry, at-exit};
 ghost use Rattle.nodes.specs.Nodes.{Spotted, Fills, Settled};
 ghost use Rattle.rdf_literals.specs.Literals.{ties, quotes-of, text-of, Quoted, Located, spot-at, own-x, own-y, own-spot, Adds, Obeys};
+ghost use Rattle.table.specs.Layout.{word-limit};
 use environment::Layout;
+use limits::Answer;
 use limits::Limits;
 use spelling::Form;
 use state::Node;
 use state::Spot;
 use state::Words;
+use token::Kind;
 use token_iri::Address;
 
 // How many quotes stand on each side of a string of this kind.
@@ -35,8 +38,8 @@ fn quotes_of(kind: usize) -> usize
     ensures { λ r. ⌜ r ≡ quotes-of kind ⌝ }
 {
     match kind {
-        29 => 3,
-        30 => 3,
+        Kind::STRING_LITERAL_LONG_QUOTE => 3,
+        Kind::STRING_LITERAL_LONG_SINGLE_QUOTE => 3,
         _ => 1,
     }
 }
@@ -45,23 +48,14 @@ fn quotes_of(kind: usize) -> usize
 fn is_tie(kind: usize) -> bool
     ensures { λ r. ⌜ r ≡ code-among ties kind ⌝ }
 {
-    match kind {
-        7 => true,
-        28 => true,
-        _ => false,
-    }
+    (kind == Kind::LANGTAG) | (kind == Kind::CARETS)
 }
 
 // Whether a token of this kind stands for an IRI.
 fn is_iri(kind: usize) -> bool
     ensures { λ r. ⌜ r ≡ code-among iris kind ⌝ }
 {
-    match kind {
-        1 => true,
-        2 => true,
-        3 => true,
-        _ => false,
-    }
+    (kind == Kind::IRIREF) | (kind == Kind::PNAME_NS) | (kind == Kind::PNAME_LN)
 }
 
 // What stands between the quotes.
@@ -93,7 +87,7 @@ fn spot_at(st: &[usize; Layout::WORDS], at: usize) -> Spot
 
 // The place that the next node gets.
 fn own_x(st: &[usize; Layout::WORDS]) -> usize
-    requires { ⌜ (length (now st) ≡ words-size) × (getD (now st) terms-word 0 + 1 < 4294967296) ⌝ }
+    requires { ⌜ (length (now st) ≡ words-size) × (getD (now st) terms-word 0 + 1 < word-limit) ⌝ }
     ensures { λ r. ⌜ r ≡ own-x (now (st .entry)) ⌝ }
 {
     if st[Words::LIST] == 0 {
@@ -131,7 +125,7 @@ fn place_plain(
     let text = inside(&doc[at..end], quotes);
     let spot = spot_at(st, at);
     let node = Node {
-        kind: 3,
+        kind: Node::LITERAL,
         start: 0,
         end: 0,
         form: Form::Plain,
@@ -165,8 +159,8 @@ fn place_tagged(
     x: usize,
     y: usize,
 ) -> u8
-    requires { ⌜ (Represented (now work) (lent-tables (now rows) (now terms) (now store)) (now st) × (SpotFits (own-spot x y at) × Quoted (now doc) at len quotes)) × ((Cursor (now doc) (now st) × TokenHere (now doc) (now st)) × (getD (now st) kind-word 0 ≡ 7)) ⌝ }
-    ensures { λ r. ⌜ Obeys (now (doc .entry)) (placed (own-spot x y at) (term (tagged (text-of (now (doc .entry)) at len quotes) (tag (token-of (now (doc .entry)) (getD (now (st .entry)) kind-word 0) (getD (now (st .entry)) at-word 0) (getD (now (st .entry)) len-word 0)))))) (now (work .entry)) (now (work .exit)) (lent-tables (now (rows .entry)) (now (terms .entry)) (now (store .entry))) (lent-tables (now (rows .exit)) (now (terms .exit)) (now (store .exit))) (now (st .entry)) (now (st .exit)) r ⌝ }
+    requires { ⌜ (Represented (now work) (lent-tables (now rows) (now terms) (now store)) (now st) × (SpotFits (own-spot x y at) × Quoted (now doc) at len quotes)) × ((Cursor (now doc) (now st) × TokenHere (now doc) (now st)) × (kind-in (now st) ≡ kind-code LANGTAG)) ⌝ }
+    ensures { λ r. ⌜ Obeys (now (doc .entry)) (placed (own-spot x y at) (term (tagged (text-of (now (doc .entry)) at len quotes) (tag (token-of (now (doc .entry)) (kind-in (now (st .entry))) (at-in (now (st .entry))) (len-in (now (st .entry)))))))) (now (work .entry)) (now (work .exit)) (lent-tables (now (rows .entry)) (now (terms .entry)) (now (store .entry))) (lent-tables (now (rows .exit)) (now (terms .exit)) (now (store .exit))) (now (st .entry)) (now (st .exit)) r ⌝ }
 {
     let end = at + len;
     let text = inside(&doc[at..end], quotes);
@@ -181,7 +175,7 @@ fn place_tagged(
         at: at,
     };
     let node = Node {
-        kind: 4,
+        kind: Node::TAGGED,
         start: 0,
         end: 0,
         form: Form::Plain,
@@ -219,7 +213,7 @@ fn place_address(
 {
     let form = a.form;
     let node = Node {
-        kind: 3,
+        kind: Node::LITERAL,
         start: a.start,
         end: a.end,
         form: form,
@@ -270,8 +264,8 @@ fn place_written(
     y: usize,
     buffer: &mut [u8],
 ) -> u8
-    requires { ⌜ ((Represented (now work) (lent-tables (now rows) (now terms) (now store)) (now st) × (SpotFits (own-spot x y at) × Quoted (now doc) at len quotes)) × ((Cursor (now doc) (now st) × TokenHere (now doc) (now st)) × (code-among iris (getD (now st) kind-word 0) ≡ true))) × (length (now buffer) ≡ iri-limit) ⌝ }
-    ensures { λ r. ⌜ Obeys (now (doc .entry)) (placed (own-spot x y at) (typed-by (text-of (now (doc .entry)) at len quotes) (token-of (now (doc .entry)) (getD (now (st .entry)) kind-word 0) (getD (now (st .entry)) at-word 0) (getD (now (st .entry)) len-word 0)))) (now (work .entry)) (now (work .exit)) (lent-tables (now (rows .entry)) (now (terms .entry)) (now (store .entry))) (lent-tables (now (rows .exit)) (now (terms .exit)) (now (store .exit))) (now (st .entry)) (now (st .exit)) r ⌝ }
+    requires { ⌜ ((Represented (now work) (lent-tables (now rows) (now terms) (now store)) (now st) × (SpotFits (own-spot x y at) × Quoted (now doc) at len quotes)) × ((Cursor (now doc) (now st) × TokenHere (now doc) (now st)) × (code-among iris (kind-in (now st)) ≡ true))) × (length (now buffer) ≡ iri-limit) ⌝ }
+    ensures { λ r. ⌜ Obeys (now (doc .entry)) (placed (own-spot x y at) (typed-by (text-of (now (doc .entry)) at len quotes) (token-of (now (doc .entry)) (kind-in (now (st .entry))) (at-in (now (st .entry))) (len-in (now (st .entry)))))) (now (work .entry)) (now (work .exit)) (lent-tables (now (rows .entry)) (now (terms .entry)) (now (store .entry))) (lent-tables (now (rows .exit)) (now (terms .exit)) (now (store .exit))) (now (st .entry)) (now (st .exit)) r ⌝ }
 {
     let from = st[Words::AT];
     let to = from + st[Words::LEN];
@@ -317,8 +311,8 @@ fn place_typed(
     x: usize,
     y: usize,
 ) -> u8
-    requires { ⌜ (Represented (now work) (lent-tables (now rows) (now terms) (now store)) (now st) × (SpotFits (own-spot x y at) × Quoted (now doc) at len quotes)) × ((Cursor (now doc) (now st) × TokenHere (now doc) (now st)) × (code-among iris (getD (now st) kind-word 0) ≡ true)) ⌝ }
-    ensures { λ r. ⌜ Obeys (now (doc .entry)) (placed (own-spot x y at) (typed-by (text-of (now (doc .entry)) at len quotes) (token-of (now (doc .entry)) (getD (now (st .entry)) kind-word 0) (getD (now (st .entry)) at-word 0) (getD (now (st .entry)) len-word 0)))) (now (work .entry)) (now (work .exit)) (lent-tables (now (rows .entry)) (now (terms .entry)) (now (store .entry))) (lent-tables (now (rows .exit)) (now (terms .exit)) (now (store .exit))) (now (st .entry)) (now (st .exit)) r ⌝ }
+    requires { ⌜ (Represented (now work) (lent-tables (now rows) (now terms) (now store)) (now st) × (SpotFits (own-spot x y at) × Quoted (now doc) at len quotes)) × ((Cursor (now doc) (now st) × TokenHere (now doc) (now st)) × (code-among iris (kind-in (now st)) ≡ true)) ⌝ }
+    ensures { λ r. ⌜ Obeys (now (doc .entry)) (placed (own-spot x y at) (typed-by (text-of (now (doc .entry)) at len quotes) (token-of (now (doc .entry)) (kind-in (now (st .entry))) (at-in (now (st .entry))) (len-in (now (st .entry)))))) (now (work .entry)) (now (work .exit)) (lent-tables (now (rows .entry)) (now (terms .entry)) (now (store .entry))) (lent-tables (now (rows .exit)) (now (terms .exit)) (now (store .exit))) (now (st .entry)) (now (st .exit)) r ⌝ }
 {
     let mut buffer = [0u8; Limits::IRI];
     place_written(
@@ -350,7 +344,7 @@ fn put_plain(
     quotes: usize,
 ) -> u8
     requires { ⌜ Represented (now (now work)) (lent-tables (now (now rows)) (now (now terms)) (now (now store))) (now st) × (SpotFits (spot-at (now st) at) × Quoted (now (now doc)) at len quotes) ⌝ }
-    ensures { λ r. ⌜ Adds (placed (spot-at (now (st .entry)) at) (typed (text-of (now (now (doc .entry))) at len quotes) xsd-string)) (held (now (work .entry)) (now (rows .entry)) (now (terms .entry)) (now (store .entry)) (now (st .entry))) (held (now (work .exit)) (now (rows .exit)) (now (terms .exit)) (now (store .exit)) (now (st .exit))) at r ⌝ }
+    ensures { λ r. ⌜ Adds (placed (spot-at (now (st .entry)) at) (typed (text-of (now (now (doc .entry))) at len quotes) xsd-string)) (at-entry work rows terms store st) (at-exit work rows terms store st) at r ⌝ }
 {
     let r = place_plain(*doc, *work, *rows, *terms, *store, st, at, len, quotes);
     if r != 0 {
@@ -370,7 +364,7 @@ fn put_place(
     at: usize,
 ) -> u8
     requires { ⌜ Represented (now (now work)) (lent-tables (now (now rows)) (now (now terms)) (now (now store))) (now st) × SpotFits (spot-at (now st) at) ⌝ }
-    ensures { λ r. ⌜ Adds (opened-at (spot-at (now (st .entry)) at)) (held (now (work .entry)) (now (rows .entry)) (now (terms .entry)) (now (store .entry)) (now (st .entry))) (held (now (work .exit)) (now (rows .exit)) (now (terms .exit)) (now (store .exit)) (now (st .exit))) at r ⌝ }
+    ensures { λ r. ⌜ Adds (opened-at (spot-at (now (st .entry)) at)) (at-entry work rows terms store st) (at-exit work rows terms store st) at r ⌝ }
 {
     let spot = spot_at(st, at);
     let r = placing::open(*work, *rows, *terms, *store, st, spot);
@@ -394,8 +388,8 @@ fn put_tagged(
     x: usize,
     y: usize,
 ) -> u8
-    requires { ⌜ (Ready (now (now doc)) (held (now work) (now rows) (now terms) (now store) (now st)) × (SpotFits (own-spot x y at) × Quoted (now (now doc)) at len quotes)) × (getD (now st) kind-word 0 ≡ 7) ⌝ }
-    ensures { λ r. ⌜ Does (now (now (doc .entry))) (placed (own-spot x y at) (term (tagged (text-of (now (now (doc .entry))) at len quotes) (tag (here (now (now (doc .entry))) (held (now (work .entry)) (now (rows .entry)) (now (terms .entry)) (now (store .entry)) (now (st .entry)))))))) (held (now (work .entry)) (now (rows .entry)) (now (terms .entry)) (now (store .entry)) (now (st .entry))) (held (now (work .exit)) (now (rows .exit)) (now (terms .exit)) (now (store .exit)) (now (st .exit))) r ⌝ }
+    requires { ⌜ (Ready (now (now doc)) (at-call work rows terms store st) × (SpotFits (own-spot x y at) × Quoted (now (now doc)) at len quotes)) × (kind-in (now st) ≡ kind-code LANGTAG) ⌝ }
+    ensures { λ r. ⌜ Does (now (now (doc .entry))) (placed (own-spot x y at) (term (tagged (text-of (now (now (doc .entry))) at len quotes) (tag (here (now (now (doc .entry))) (at-entry work rows terms store st)))))) (at-entry work rows terms store st) (at-exit work rows terms store st) r ⌝ }
 {
     let r = place_tagged(
         *doc,
@@ -430,8 +424,8 @@ fn put_typed(
     x: usize,
     y: usize,
 ) -> u8
-    requires { ⌜ (Ready (now (now doc)) (held (now work) (now rows) (now terms) (now store) (now st)) × (SpotFits (own-spot x y at) × Quoted (now (now doc)) at len quotes)) × (code-among iris (getD (now st) kind-word 0) ≡ true) ⌝ }
-    ensures { λ r. ⌜ Does (now (now (doc .entry))) (placed (own-spot x y at) (typed-by (text-of (now (now (doc .entry))) at len quotes) (here (now (now (doc .entry))) (held (now (work .entry)) (now (rows .entry)) (now (terms .entry)) (now (store .entry)) (now (st .entry)))))) (held (now (work .entry)) (now (rows .entry)) (now (terms .entry)) (now (store .entry)) (now (st .entry))) (held (now (work .exit)) (now (rows .exit)) (now (terms .exit)) (now (store .exit)) (now (st .exit))) r ⌝ }
+    requires { ⌜ (Ready (now (now doc)) (at-call work rows terms store st) × (SpotFits (own-spot x y at) × Quoted (now (now doc)) at len quotes)) × (code-among iris (kind-in (now st)) ≡ true) ⌝ }
+    ensures { λ r. ⌜ Does (now (now (doc .entry))) (placed (own-spot x y at) (typed-by (text-of (now (now (doc .entry))) at len quotes) (here (now (now (doc .entry))) (at-entry work rows terms store st)))) (at-entry work rows terms store st) (at-exit work rows terms store st) r ⌝ }
 {
     let r = place_typed(
         *doc,
@@ -467,8 +461,8 @@ fn put_datatype(
     x: usize,
     y: usize,
 ) -> u8
-    requires { ⌜ Ready (now (now doc)) (held (now work) (now rows) (now terms) (now store) (now st)) × (SpotFits (own-spot x y at) × Quoted (now (now doc)) at len quotes) ⌝ }
-    ensures { λ r. ⌜ Reads (now (now (doc .entry))) (datatype (place-of x y) at (text-of (now (now (doc .entry))) at len quotes) ∷ []) [] (held (now (work .entry)) (now (rows .entry)) (now (terms .entry)) (now (store .entry)) (now (st .entry))) (held (now (work .exit)) (now (rows .exit)) (now (terms .exit)) (now (store .exit)) (now (st .exit))) r × Settled (held (now (work .entry)) (now (rows .entry)) (now (terms .entry)) (now (store .entry)) (now (st .entry))) (held (now (work .exit)) (now (rows .exit)) (now (terms .exit)) (now (store .exit)) (now (st .exit))) r ⌝ }
+    requires { ⌜ Ready (now (now doc)) (at-call work rows terms store st) × (SpotFits (own-spot x y at) × Quoted (now (now doc)) at len quotes) ⌝ }
+    ensures { λ r. ⌜ Reads (now (now (doc .entry))) (datatype (place-of x y) at (text-of (now (now (doc .entry))) at len quotes) ∷ []) [] (at-entry work rows terms store st) (at-exit work rows terms store st) r × Settled (at-entry work rows terms store st) (at-exit work rows terms store st) r ⌝ }
 {
     if is_iri(st[Words::KIND]) {
         return put_typed(doc, work, rows, terms, store, st, at, len, quotes, x, y);
@@ -490,10 +484,10 @@ fn put_suffix(
     x: usize,
     y: usize,
 ) -> u8
-    requires { ⌜ (Ready (now (now doc)) (held (now work) (now rows) (now terms) (now store) (now st)) × (SpotFits (own-spot x y at) × Quoted (now (now doc)) at len quotes)) × (code-among ties (getD (now st) kind-word 0) ≡ true) ⌝ }
-    ensures { λ r. ⌜ Reads (now (now (doc .entry))) (suffix (place-of x y) at (text-of (now (now (doc .entry))) at len quotes) ∷ []) [] (held (now (work .entry)) (now (rows .entry)) (now (terms .entry)) (now (store .entry)) (now (st .entry))) (held (now (work .exit)) (now (rows .exit)) (now (terms .exit)) (now (store .exit)) (now (st .exit))) r × Settled (held (now (work .entry)) (now (rows .entry)) (now (terms .entry)) (now (store .entry)) (now (st .entry))) (held (now (work .exit)) (now (rows .exit)) (now (terms .exit)) (now (store .exit)) (now (st .exit))) r ⌝ }
+    requires { ⌜ (Ready (now (now doc)) (at-call work rows terms store st) × (SpotFits (own-spot x y at) × Quoted (now (now doc)) at len quotes)) × (code-among ties (kind-in (now st)) ≡ true) ⌝ }
+    ensures { λ r. ⌜ Reads (now (now (doc .entry))) (suffix (place-of x y) at (text-of (now (now (doc .entry))) at len quotes) ∷ []) [] (at-entry work rows terms store st) (at-exit work rows terms store st) r × Settled (at-entry work rows terms store st) (at-exit work rows terms store st) r ⌝ }
 {
-    if st[Words::KIND] == 7 {
+    if st[Words::KIND] == Kind::LANGTAG {
         return put_tagged(doc, work, rows, terms, store, st, at, len, quotes, x, y);
     }
     nodes::pass(doc, st);
@@ -503,7 +497,7 @@ fn put_suffix(
 // Whether an escape of the string at the cursor names no character.
 fn is_bad(doc: &[u8], st: &[usize; Layout::WORDS]) -> bool
     requires { ⌜ Cursor (now doc) (now st) × (length (now st) ≡ words-size) ⌝ }
-    ensures { λ r. ⌜ r ≡ bad-escape (take (getD (now (st .entry)) len-word 0) (drop (getD (now (st .entry)) at-word 0) (now (doc .entry)))) ⌝ }
+    ensures { λ r. ⌜ r ≡ bad-escape (take (len-in (now (st .entry))) (drop (at-in (now (st .entry))) (now (doc .entry)))) ⌝ }
 {
     let at = st[Words::AT];
     let end = at + st[Words::LEN];
@@ -519,11 +513,11 @@ pub fn put_string(
     store: &mut &mut [u8],
     st: &mut [usize; Layout::WORDS],
 ) -> u8
-    requires { ⌜ (Ready (now (now doc)) (held (now work) (now rows) (now terms) (now store) (now st)) × Spotted (held (now work) (now rows) (now terms) (now store) (now st))) × (code-among strings (getD (now st) kind-word 0) ≡ true) ⌝ }
-    ensures { λ r. ⌜ Fills (now (now (doc .entry))) (held (now (work .entry)) (now (rows .entry)) (now (terms .entry)) (now (store .entry)) (now (st .entry))) (held (now (work .exit)) (now (rows .exit)) (now (terms .exit)) (now (store .exit)) (now (st .exit))) r × Settled (held (now (work .entry)) (now (rows .entry)) (now (terms .entry)) (now (store .entry)) (now (st .entry))) (held (now (work .exit)) (now (rows .exit)) (now (terms .exit)) (now (store .exit)) (now (st .exit))) r ⌝ }
+    requires { ⌜ (Ready (now (now doc)) (at-call work rows terms store st) × Spotted (at-call work rows terms store st)) × (code-among strings (kind-in (now st)) ≡ true) ⌝ }
+    ensures { λ r. ⌜ Fills (now (now (doc .entry))) (at-entry work rows terms store st) (at-exit work rows terms store st) r × Settled (at-entry work rows terms store st) (at-exit work rows terms store st) r ⌝ }
 {
     if is_bad(*doc, st) {
-        return 7;
+        return Answer::ESCAPE;
     }
     let at = st[Words::AT];
     let len = st[Words::LEN];

@@ -2,20 +2,21 @@
 use mathlib.Core.Path.{_≡_, refl, sym, ap, ap₂, _∙_}
 use mathlib.Core.Bool.{Bool, true, false, _||_}
 use mathlib.Core.List.{List, [], _∷_, _++_, append-assoc}
-use Prim.Native.Nat.{ℕ, zero, suc, _+_, _-_}
+use Prim.Native.Nat.{ℕ, _+_, _-_}
 use native.Mathlib.Omega.{arith}
 use native.Mathlib.Nat.{add-zero}
 use lib.ListN.{length, take, drop, length-append}
 use lib.Seq.{take-at, drop-at}
 use Rattle.text.specs.Text.{Text, cond, is}
 use Rattle.utf8.specs.Utf8.{width, encode, encodes}
-use Rattle.utf8.proofs.Encoding.{length-encode, width-pos}
+use Rattle.utf8.proofs.Encoding.{length-encode}
 use Rattle.utf8.specs.Scalar.{Scalars}
 use Rattle.utf8.proofs.Decoding.{encodes-append, decode-encodes}
 use Rattle.token.specs.Kind.{Kind, kind-code, kind-of-code}
 use Rattle.token.specs.Regular.{Match, nothing, hit, size}
 use Rattle.token.specs.Terminals.{token-at}
-use Rattle.token.specs.Tokens.{Token, Lexeme, token, unreadable, between, comment, passed, white-space, lexemes-from, lexemes, tokens-of, readable}
+use Rattle.token.specs.Tokens.{Token, Lexeme, token, unreadable, between, comment, passed, white-space, trig-cuts, lexemes-from, lexemes, tokens-of, readable}
+use Rattle.token.proofs.Cutting.{lexemes-inside}
 use Rattle.token.proofs.KindCodes.{kind-back}
 
 -- A token of a kind, or white space.
@@ -59,51 +60,36 @@ unfolding encodes
 size-bytes [] = refl
 size-bytes (c ∷ cs) = ap₂ _+_ (sym (length-encode c)) (size-bytes cs) ∙ sym (length-append (encode c) (encodes cs))
 
--- ---- Over a token
-
-skip : (doc : Text) (cs ds : List ℕ) (at : ℕ) → lexemes-from doc (passed (size width cs)) at (cs ++ ds) ≡ lexemes-from doc between (at + size width cs) ds
-unfolding lexemes-from
-skip doc [] ds at = ap (λ (n : ℕ). lexemes-from doc between n ds) (sym (add-zero at))
-skip doc (c ∷ cs) ds at = go (width c + size width cs) refl (λ n. skip doc cs ds n)
-  where
-    go : (n : ℕ) → width c + size width cs ≡ n → ((m : ℕ) → lexemes-from doc (passed (size width cs)) m (cs ++ ds) ≡ lexemes-from doc between (m + size width cs) ds)
-        → lexemes-from doc (passed n) at (c ∷ (cs ++ ds)) ≡ lexemes-from doc between (at + n) ds
-    go zero e f = let w = width-pos c in absurd (omega arith)
-    go (suc n) e f =
-        let m : suc n - width c ≡ size width cs = omega arith in
-        let o : at + width c + size width cs ≡ at + suc n = omega arith in
-        ap (λ (k : ℕ). lexemes-from doc (passed k) (at + width c) (cs ++ ds)) m ∙ f (at + width c) ∙ ap (λ (k : ℕ). lexemes-from doc between k ds) o
-
 -- ---- Between tokens
 
 -- What stands at a place between tokens, by the tests of its first code point.
 abbrev front-of : Text → ℕ → ℕ → List ℕ → Bool → Match → List Lexeme
 front-of doc at c cs b o =
     elim b [
-      | true ↦ lexemes-from doc (cond (is "#" c) comment between) (at + 1) cs
+      | true ↦ lexemes-from trig-cuts doc (cond (is "#" c) comment between) (at + width c) cs
       | false ↦
           elim o [
             | nothing ↦ unreadable at ∷ []
             | hit k n ↦
                 token (record { kind = kind-of-code k; start = at; text = take n (drop at doc) })
-                ∷ lexemes-from doc (passed (n - width c)) (at + width c) cs
+                ∷ lexemes-from trig-cuts doc (passed (n - width c)) (at + width c) cs
           ]
     ]
 
-front-eq : (doc : Text) (at c : ℕ) (cs : List ℕ) → lexemes-from doc between at (c ∷ cs) ≡ front-of doc at c cs (white-space c || is "#" c) (token-at (c ∷ cs))
+front-eq : (doc : Text) (at c : ℕ) (cs : List ℕ) → lexemes-from trig-cuts doc between at (c ∷ cs) ≡ front-of doc at c cs (white-space c || is "#" c) (token-at (c ∷ cs))
 unfolding lexemes-from
 front-eq doc at c cs = refl
 
 over-gap : (doc : Text) (at c : ℕ) (cs : List ℕ) → white-space c ≡ true → is "#" c ≡ false
-    → lexemes-from doc between at (c ∷ cs) ≡ lexemes-from doc between (at + 1) cs
+    → lexemes-from trig-cuts doc between at (c ∷ cs) ≡ lexemes-from trig-cuts doc between (at + width c) cs
 over-gap doc at c cs w h =
     front-eq doc at c cs ∙ ap (λ (b : Bool). front-of doc at c cs (b || is "#" c) (token-at (c ∷ cs))) w
-    ∙ ap (λ (b : Bool). lexemes-from doc (cond b comment between) (at + 1) cs) h
+    ∙ ap (λ (b : Bool). lexemes-from trig-cuts doc (cond b comment between) (at + width c) cs) h
 
 -- A token, and what is cut after it.
 over-token : (doc : Text) (k : Kind) (at : ℕ) (cs ds : List ℕ) → begins-token cs ≡ true → token-at (cs ++ ds) ≡ hit (kind-code k) (size width cs)
-    → lexemes-from doc between at (cs ++ ds)
-    ≡ token (record { kind = k; start = at; text = take (size width cs) (drop at doc) }) ∷ lexemes-from doc between (at + size width cs) ds
+    → lexemes-from trig-cuts doc between at (cs ++ ds)
+    ≡ token (record { kind = k; start = at; text = take (size width cs) (drop at doc) }) ∷ lexemes-from trig-cuts doc between (at + size width cs) ds
 over-token doc k at [] ds b e = let z : _≡_ {A = ℕ} 0 1 = cc in absurd (omega arith)
 over-token doc k at (c ∷ cs) ds b e =
     let m : width c + size width cs - width c ≡ size width cs = omega arith in
@@ -111,8 +97,8 @@ over-token doc k at (c ∷ cs) ds b e =
     front-eq doc at c (cs ++ ds) ∙ ap (λ (v : Bool). front-of doc at c (cs ++ ds) v (token-at (c ∷ (cs ++ ds)))) (closed (white-space c || is "#" c) b)
     ∙ ap (front-of doc at c (cs ++ ds) false) e
     ∙ ap₂ (λ (j : Kind) (ls : List Lexeme). token (record { kind = j; start = at; text = take (width c + size width cs) (drop at doc) }) ∷ ls) (kind-back k)
-    (ap (λ (n : ℕ). lexemes-from doc (passed n) (at + width c) (cs ++ ds)) m ∙ skip doc cs ds (at + width c)
-    ∙ ap (λ (n : ℕ). lexemes-from doc between n ds) o)
+    (ap (λ (n : ℕ). lexemes-from trig-cuts doc (passed n) (at + width c) (cs ++ ds)) m ∙ lexemes-inside trig-cuts doc cs ds (at + width c) (size width cs) refl
+    ∙ ap (λ (n : ℕ). lexemes-from trig-cuts doc between n ds) o)
   where
     closed : (v : Bool) → cond v false true ≡ true → v ≡ false
     closed true e = sym e
@@ -127,7 +113,7 @@ as-lexemes (t ∷ ts) = token t ∷ as-lexemes ts
 
 -- The document's bytes from a place on are those of the parts.
 module _ (doc : Text) where
-  cut-from : (ps : List Part) (pre : Text) → Cut ps → doc ≡ pre ++ bytes ps → lexemes-from doc between (length pre) (points ps) ≡ as-lexemes (tokens-at (length pre) ps)
+  cut-from : (ps : List Part) (pre : Text) → Cut ps → doc ≡ pre ++ bytes ps → lexemes-from trig-cuts doc between (length pre) (points ps) ≡ as-lexemes (tokens-at (length pre) ps)
   unfolding points bytes tokens-at lexemes-from encodes
   cut-from [] pre c e = refl
   cut-from (printed k cs ∷ ps) pre c e =
@@ -141,15 +127,14 @@ module _ (doc : Text) where
       let n : length pre + size width cs ≡ length (pre ++ encodes cs) = omega arith in
       over-token doc k (length pre) cs (points ps) (c .0) (c .1)
       ∙ ap₂ (λ (x : Text) (ls : List Lexeme). token (record { kind = k; start = length pre; text = x }) ∷ ls) t
-      (ap (λ (i : ℕ). lexemes-from doc between i (points ps)) n
+      (ap (λ (i : ℕ). lexemes-from trig-cuts doc between i (points ps)) n
       ∙ cut-from ps (pre ++ encodes cs) (c .2) (d ∙ sym (append-assoc pre (encodes cs) (encodes (points ps))))
       ∙ ap (λ (i : ℕ). as-lexemes (tokens-at i ps)) l)
   cut-from (gap b ∷ ps) pre c e =
       let d : doc ≡ (pre ++ encode b) ++ encodes (points ps) = e ∙ sym (append-assoc pre (encode b) (encodes (points ps))) in
       let l : length (pre ++ encode b) ≡ length pre + width b = length-append pre (encode b) ∙ ap (λ (i : ℕ). length pre + i) (length-encode b) in
-      let w : length pre + 1 ≡ length (pre ++ encode b) = sym (l ∙ ap (λ (i : ℕ). length pre + i) (c .2)) in
       over-gap doc (length pre) b (points ps) (c .0) (c .1)
-      ∙ ap (λ (i : ℕ). lexemes-from doc between i (points ps)) w
+      ∙ ap (λ (i : ℕ). lexemes-from trig-cuts doc between i (points ps)) (sym l)
       ∙ cut-from ps (pre ++ encode b) (c .3) d
       ∙ ap (λ (i : ℕ). as-lexemes (tokens-at i ps)) l
 
@@ -169,7 +154,7 @@ unfolding lexemes bytes
 cut-whole ps c s = (ap tokens-of e ∙ tokens-lexemes (tokens-at 0 ps), ap readable e ∙ readable-lexemes (tokens-at 0 ps))
   where
     e : lexemes (bytes ps) ≡ as-lexemes (tokens-at 0 ps)
-    e = ap (lexemes-from (bytes ps) between 0) (decode-encodes (points ps) s) ∙ cut-from (bytes ps) ps [] c refl
+    e = ap (lexemes-from trig-cuts (bytes ps) between 0) (decode-encodes (points ps) s) ∙ cut-from (bytes ps) ps [] c refl
 
 -- ---- Parts in a row
 

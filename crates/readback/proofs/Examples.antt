@@ -7,9 +7,9 @@ use Rattle.text.specs.Text.{Text, ascii}
 use Rattle.utf8.specs.Utf8.{encodes}
 use Rattle.limits.specs.Limits.{work-size}
 use Rattle.table.specs.Layout.{Slices}
-use Rattle.table.specs.Usable.{usable}
+use Rattle.table.specs.Usable.{for-long-form, usable}
 use Rattle.table.specs.LongForm.{long-form}
-use Rattle.machine.specs.Read.{Lent, read, computing}
+use Rattle.machine.specs.Read.{Lent, lends, read, computing}
 use Rattle.readback.specs.ReadBack.{long-form-mode, slices-after, RoundTrip}
 use Rattle.readback.proofs.RoundTrip.{written-again}
 
@@ -21,7 +21,7 @@ lines [] = []
 lines (s ∷ ss) = utf8 s ++ 10 ∷ lines ss
 
 abbrev lent : Lent
-lent = record { work = work-size; rows = 1000; terms = 1000; store = 10000 }
+lent = lends work-size 1000 1000 10000
 
 -- The tables that a document makes.
 abbrev tables-of : Text → Slices
@@ -45,7 +45,7 @@ form =
     ∷ "_:b0 { _:b2 <x:p> <http://www.w3.org/1999/02/22-rdf-syntax-ns#nil> . }"
     ∷ [])
 
-takes : usable (tables-of document) ≡ true
+takes : usable for-long-form (tables-of document) ≡ true
 unfolding computing
 takes = refl
 

@@ -11,19 +11,18 @@ use Rattle.utf8.specs.Utf8.{encodes, decode, first-bad}
 use Rattle.utf8.proofs.Decoding.{encodes-append, valid-encoded}
 use Rattle.utf8.proofs.Tests.{by}
 use Rattle.token.specs.Kind.{Kind, IRIREF, «STRING_LITERAL_QUOTE», «BLANK_NODE_LABEL», LANGTAG, carets, dot, open-brace, close-brace}
-use Rattle.iri.specs.Iri.{has-scheme}
 use Rattle.dataset.specs.Terms.{Blank, label, bracket, cell, numbered, Term, iri, blank, literal, tagged, Triple, Quad, xsd-string}
-use Rattle.table.specs.Usable.{is-tag}
+use Rattle.table.specs.Usable.{is-tag, Takes, for-long-form}
 use Rattle.table.specs.LongForm.{decimal, iri-byte, string-byte, escaped, iri-form, string-form, type-form}
 use Rattle.readback.proofs.Cutting.{Part, printed, gap, points, bytes, bytes-append}
 use Rattle.readback.proofs.Undone.{Rule, iri-rule, string-rule, lows-encodes, escaped-encodes}
 use Rattle.readback.proofs.Printed.{marked, label-points, label-lows}
 use Rattle.readback.proofs.Tags.{tag-token}
 
--- ---- Statements that the writer takes
+-- ---- Statements that a writer takes
 
-pub record GoodIri (s : Text) : Type 0 where
-  pub scheme : has-scheme s ≡ true
+pub record GoodIri (v : Takes) (s : Text) : Type 0 where
+  pub taken : v .iri s ≡ true
   pub short : length s ≤ iri-limit
   pub utf8 : first-bad s ≡ none
 
@@ -33,50 +32,50 @@ Numbered (bracket p) = ⊥
 Numbered (cell p) = ⊥
 Numbered (numbered n) = Unit {0}
 
-abbrev pub Good : Term → Type 0
-Good (iri s) = GoodIri s
-Good (blank b) = Numbered b
-Good (literal s d) = (first-bad s ≡ none) × GoodIri d
-Good (tagged s g) = (first-bad s ≡ none) × (is-tag g ≡ true)
+abbrev pub Good : Takes → Term → Type 0
+Good v (iri s) = GoodIri v s
+Good v (blank b) = Numbered b
+Good v (literal s d) = (first-bad s ≡ none) × GoodIri v d
+Good v (tagged s g) = (first-bad s ≡ none) × (v .tag g ≡ true)
 
 -- An IRI; an IRI or a blank node.
-abbrev pub GoodPredicate : Term → Type 0
-GoodPredicate (iri s) = GoodIri s
-GoodPredicate (blank b) = ⊥
-GoodPredicate (literal s d) = ⊥
-GoodPredicate (tagged s g) = ⊥
+abbrev pub GoodPredicate : Takes → Term → Type 0
+GoodPredicate v (iri s) = GoodIri v s
+GoodPredicate v (blank b) = ⊥
+GoodPredicate v (literal s d) = ⊥
+GoodPredicate v (tagged s g) = ⊥
 
-abbrev pub GoodResource : Term → Type 0
-GoodResource (iri s) = GoodIri s
-GoodResource (blank b) = Numbered b
-GoodResource (literal s d) = ⊥
-GoodResource (tagged s g) = ⊥
+abbrev pub GoodResource : Takes → Term → Type 0
+GoodResource v (iri s) = GoodIri v s
+GoodResource v (blank b) = Numbered b
+GoodResource v (literal s d) = ⊥
+GoodResource v (tagged s g) = ⊥
 
-abbrev pub GoodGraph : Option Term → Type 0
-GoodGraph none = Unit {0}
-GoodGraph (some g) = GoodResource g
+abbrev pub GoodGraph : Takes → Option Term → Type 0
+GoodGraph v none = Unit {0}
+GoodGraph v (some g) = GoodResource v g
 
-pub record GoodQuad (q : Quad) : Type 0 where
-  pub graph : GoodGraph (q .graph)
-  pub subject : GoodResource (q .triple .subject)
-  pub predicate : GoodPredicate (q .triple .predicate)
-  pub object : Good (q .triple .object)
+pub record GoodQuad (v : Takes) (q : Quad) : Type 0 where
+  pub graph : GoodGraph v (q .graph)
+  pub subject : GoodResource v (q .triple .subject)
+  pub predicate : GoodPredicate v (q .triple .predicate)
+  pub object : Good v (q .triple .object)
 
-abbrev pub GoodQuads : List Quad → Type 0
-GoodQuads [] = Unit {0}
-GoodQuads (q ∷ qs) = GoodQuad q × GoodQuads qs
+abbrev pub GoodQuads : Takes → List Quad → Type 0
+GoodQuads v [] = Unit {0}
+GoodQuads v (q ∷ qs) = GoodQuad v q × GoodQuads v qs
 
-pub predicate-good : (t : Term) → GoodPredicate t → Good t
-predicate-good (iri s) g = g
-predicate-good (blank b) g = absurd g
-predicate-good (literal s d) g = absurd g
-predicate-good (tagged s h) g = absurd g
+pub predicate-good : (v : Takes) (t : Term) → GoodPredicate v t → Good v t
+predicate-good v (iri s) g = g
+predicate-good v (blank b) g = absurd g
+predicate-good v (literal s d) g = absurd g
+predicate-good v (tagged s h) g = absurd g
 
-pub resource-good : (t : Term) → GoodResource t → Good t
-resource-good (iri s) g = g
-resource-good (blank b) g = g
-resource-good (literal s d) g = absurd g
-resource-good (tagged s h) g = absurd g
+pub resource-good : (v : Takes) (t : Term) → GoodResource v t → Good v t
+resource-good v (iri s) g = g
+resource-good v (blank b) g = g
+resource-good v (literal s d) g = absurd g
+resource-good v (tagged s h) g = absurd g
 
 -- ---- Their parts
 
@@ -171,13 +170,13 @@ bytes-printed : (k : Kind) (cs : List ℕ) (ps : List Part) → bytes (printed k
 unfolding bytes points
 bytes-printed k cs ps = encodes-append cs (points ps)
 
-type-bytes : (d : Text) → GoodIri d → bytes (type-parts d) ≡ type-form d
+type-bytes : (d : Text) → GoodIri for-long-form d → bytes (type-parts d) ≡ type-form d
 unfolding bytes points encodes
 type-bytes d g =
     by (same-text d xsd-string) (λ e. rw e refl)
     (λ e. rw e (ap (λ (x : Text). 94 ∷ 94 ∷ x) (ap encodes (append-nil (iri-points d)) ∙ iri-bytes d (g .utf8))))
 
-pub term-bytes : (t : Term) → Good t → bytes (term-parts t) ≡ form t
+pub term-bytes : (t : Term) → Good for-long-form t → bytes (term-parts t) ≡ form t
 unfolding bytes points encodes
 term-bytes (iri s) g = ap encodes (append-nil (iri-points s)) ∙ iri-bytes s (g .utf8)
 term-bytes (blank b) g = ap encodes (append-nil (label-points (number-of b))) ∙ label-bytes (number-of b)
@@ -188,11 +187,11 @@ term-bytes (tagged s t) g =
     ∙ sym (append-assoc (string-form s) (64 ∷ []) t)
 
 -- A term and a blank.
-blank-bytes : (t : Term) → Good t → (rest : List Part) → bytes (term-parts t ++ gap 32 ∷ rest) ≡ form t ++ 32 ∷ bytes rest
+blank-bytes : (t : Term) → Good for-long-form t → (rest : List Part) → bytes (term-parts t ++ gap 32 ∷ rest) ≡ form t ++ 32 ∷ bytes rest
 unfolding bytes points encodes
 blank-bytes t g rest = bytes-append (term-parts t) (gap 32 ∷ rest) ∙ ap (λ (x : Text). x ++ 32 ∷ bytes rest) (term-bytes t g)
 
-module _ (t : Triple) (s : Good (t .subject)) (p : Good (t .predicate)) (o : Good (t .object)) where
+module _ (t : Triple) (s : Good for-long-form (t .subject)) (p : Good for-long-form (t .predicate)) (o : Good for-long-form (t .object)) where
   triple-bytes : (rest : List Part) → bytes (triple-parts t rest) ≡ triple-text t ++ bytes rest
   unfolding bytes points encodes
   triple-bytes rest =
@@ -205,21 +204,21 @@ module _ (t : Triple) (s : Good (t .subject)) (p : Good (t .predicate)) (o : Goo
       join : (a b c r : Text) → a ++ 32 ∷ (b ++ 32 ∷ (c ++ 32 ∷ 46 ∷ r)) ≡ a ++ ascii " " ++ b ++ ascii " " ++ c ++ ascii " ." ++ r
       join a b c r = simp append-assoc
 
-  line-bytes : (g : Option Term) → GoodGraph g → (rest : List Part) → bytes (line-parts g t rest) ≡ line-text g t ++ bytes rest
+  line-bytes : (g : Option Term) → GoodGraph for-long-form g → (rest : List Part) → bytes (line-parts g t rest) ≡ line-text g t ++ bytes rest
   unfolding bytes points encodes
   line-bytes none h rest = triple-bytes (gap 10 ∷ rest) ∙ sym (append-assoc (triple-text t) (10 ∷ []) (bytes rest))
   line-bytes (some g) h rest =
-      blank-bytes g (resource-good g h) (printed open-brace (123 ∷ []) ∷ gap 32 ∷ triple-parts t (gap 32 ∷ printed close-brace (125 ∷ []) ∷ gap 10 ∷ rest))
+      blank-bytes g (resource-good for-long-form g h) (printed open-brace (123 ∷ []) ∷ gap 32 ∷ triple-parts t (gap 32 ∷ printed close-brace (125 ∷ []) ∷ gap 10 ∷ rest))
       ∙ ap (λ (x : Text). form g ++ 32 ∷ 123 ∷ 32 ∷ x) (triple-bytes (gap 32 ∷ printed close-brace (125 ∷ []) ∷ gap 10 ∷ rest))
       ∙ join (form g) (triple-text t) (bytes rest)
     where
       join : (a b r : Text) → a ++ 32 ∷ 123 ∷ 32 ∷ (b ++ 32 ∷ 125 ∷ 10 ∷ r) ≡ (a ++ ascii " { " ++ b ++ ascii " }") ++ ascii "\n" ++ r
       join a b r = simp append-assoc
 
-pub parts-bytes : (qs : List Quad) → GoodQuads qs → bytes (parts qs) ≡ text-of qs
+pub parts-bytes : (qs : List Quad) → GoodQuads for-long-form qs → bytes (parts qs) ≡ text-of qs
 unfolding bytes points encodes parts text-of
 parts-bytes [] g = refl
 parts-bytes (q ∷ qs) g =
     let h = g .0 in
-    line-bytes (q .triple) (resource-good (q .triple .subject) (h .subject)) (predicate-good (q .triple .predicate) (h .predicate)) (h .object) (q .graph) (h .graph) (parts qs)
+    line-bytes (q .triple) (resource-good for-long-form (q .triple .subject) (h .subject)) (predicate-good for-long-form (q .triple .predicate) (h .predicate)) (h .object) (q .graph) (h .graph) (parts qs)
     ∙ ap (λ (x : Text). line-text (q .graph) (q .triple) ++ x) (parts-bytes qs (g .1))

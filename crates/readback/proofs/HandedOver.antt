@@ -5,7 +5,7 @@ use Prim.Native.Nat.{ℕ}
 use Rattle.text.specs.Text.{Text}
 use Rattle.grammar.proofs.Grammar.{one-derivation}
 use Rattle.dataset.specs.Terms.{Quad}
-use Rattle.table.specs.Usable.{quads-held}
+use Rattle.table.specs.Usable.{for-long-form, quads-held}
 use Rattle.machine.specs.Read.{Lent, Answer, mode-of, read}
 use Rattle.machine.proofs.Constructed.{tables-hold}
 use Rattle.machine.proofs.Demands.{meets-answer, zero-meets}
@@ -30,6 +30,6 @@ handed-over doc mode base lent e rows terms store =
       apart = numbers-differ (m .terms);
       same =
           ap (λ (a : Answer). quads-held (slices-after a rows terms store)) (meets-answer doc mode base lent x)
-          ∙ held-numbered (m .terms) (m .rows) _ _ _ (k .terms) (k .rows) (one-number doc mode base lent x)
+          ∙ held-numbered for-long-form (m .terms) (m .rows) _ _ _ (k .terms) (k .rows) (one-number doc mode base lent x)
           ∙ ap (λ (qs : List Quad). map (with-blanks (by-number (m .terms))) qs) (tables-hold (mode-of mode) (x .derivation .0) base);
     }

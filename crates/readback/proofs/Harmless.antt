@@ -17,6 +17,7 @@ use Rattle.environment.specs.Environment.{start-environment}
 use Rattle.dataset.specs.Constructors.{InForce, nothing, awaiting, after-token, after-tokens, in-force}
 use Rattle.machine.specs.Refusals.{no-character, undeclared, no-base, too-long, one-prefix-more, too-deep}
 use Rattle.machine.specs.Demand.{depth-after, Nowhere, Fair}
+use Rattle.table.specs.Usable.{for-long-form}
 use Rattle.readback.proofs.Undone.{iri-rule, string-rule, good-escaped}
 use Rattle.readback.proofs.Forms.{iri-points, string-points, GoodIri, iri-bytes, string-bytes}
 use Rattle.readback.proofs.Values.{token-of, iri-reference}
@@ -35,13 +36,13 @@ pub record Harmless (t : Token) : Type 0 where
   pub shallow : (d : ℕ) → too-deep d t ≡ false
   pub plain : after-token start t ≡ start
 
-pub harmless-iri : (at : ℕ) (s : Text) → GoodIri s → Harmless (token-of IRIREF at (iri-points s))
+pub harmless-iri : (at : ℕ) (s : Text) → GoodIri for-long-form s → Harmless (token-of IRIREF at (iri-points s))
 unfolding no-character undeclared no-base too-long too-deep
 harmless-iri at s g = record {
   character = ap bad-escape (iri-bytes s (g .utf8)) ∙ good-escaped iri-rule 60 62 s refl refl;
   declared = refl;
-  based = let e = ap has-scheme (iri-reference at s (g .utf8)) ∙ g .scheme in simp e;
-  short = let e = iri-reference at s (g .utf8) in let l = le-ltb iri-limit (length s) (g .short) in simp (e, l, g .scheme);
+  based = let e = ap has-scheme (iri-reference at s (g .utf8)) ∙ g .taken in simp e;
+  short = let e = iri-reference at s (g .utf8) in let l = le-ltb iri-limit (length s) (g .short) in simp (e, l, g .taken);
   shallow = λ d. refl;
   plain = refl;
 }

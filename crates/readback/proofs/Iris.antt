@@ -17,7 +17,7 @@ use Rattle.iri.specs.Dots.{remove-dot-segments}
 use Rattle.iri.specs.Resolve.{parts, transform, recompose, resolve-by, resolve, resolved}
 use Rattle.environment.specs.Environment.{Binding, Environment, lookup, bound}
 use Rattle.dataset.specs.Constructors.{string-text, tag, node-label, reference, prefix, local, or-empty, resolved-reference, joined-name, iri-of, Awaited, nothing, awaiting}
-use Rattle.table.specs.Usable.{is-tag}
+use Rattle.table.specs.Usable.{is-tag, for-long-form}
 use Rattle.machine.specs.Refusals.{no-character, undeclared, no-base, too-long}
 use Rattle.machine.proofs.Sizes.{iri-short}
 use Rattle.readback.proofs.Forms.{GoodIri}
@@ -135,12 +135,12 @@ module _ (e : Environment) (t : Token) (d : Declared e) (l : Lexed t) (c : no-ch
 
   -- Nor does 11.
   module _ (u : undeclared (awaiting nothing e) t ≡ false) (n : no-base (awaiting nothing e) t ≡ false) (s : too-long (awaiting nothing e) t ≡ false) where
-    iri-good : among iris (t .kind) ≡ true → GoodIri (iri-of e t)
+    iri-good : among iris (t .kind) ≡ true → GoodIri for-long-form (iri-of e t)
     unfolding iri-of
     iri-good k =
         let a : Absolute (iri-of e t) =
         by (has-kind (IRIREF ∷ []) t) (λ f. rw f (reference-absolute nothing n f)) (λ f. rw f (name-absolute u (name-of (eqb (kind-code IRIREF) (kind-code (t .kind))) f k))) in
-        record { scheme = a .scheme; short = iri-short e t s k; utf8 = a .utf8 }
+        record { taken = a .scheme; short = iri-short e t s k; utf8 = a .utf8 }
       where
         name-of : {b : Bool} (a : Bool) → (a || false) ≡ false → (a || b) ≡ true → b ≡ true
         name-of true f k = contrary f

@@ -1,4 +1,4 @@
--- Rows and terms that the writer takes, and writes that keep them so.
+-- Rows and terms that a writer takes, and writes that keep them so.
 use mathlib.Core.Path.{_≡_, refl, sym, ap, _∙_, subst}
 use mathlib.Core.Logic.{_⊎_, inl, inr}
 use mathlib.Core.Bool.{Bool, true, false}
@@ -16,7 +16,7 @@ use Rattle.dataset.specs.Terms.{Term, iri, blank, literal, tagged}
 use Rattle.dataset.specs.Constructors.{iri-of}
 use Rattle.table.specs.Layout.{Row}
 use Rattle.table.specs.Tables.{number, label-of}
-use Rattle.table.specs.Usable.{is-tag}
+use Rattle.table.specs.Usable.{Takes}
 use Rattle.table.proofs.Numbers.{Known, known-more, known-last, found-known}
 use Rattle.table.proofs.Finding.{number-more, number-last, number-within}
 use Rattle.machine.specs.Memory.{Memory, Write, return, _>>=_, _>>_, term, term-by, new-term, typed, typed-by, iri-term, row, enter}
@@ -83,7 +83,7 @@ has-resource h = record { it = h .it; known = h .known; passes = iri-resource (h
 pub has-found : {p : Term → Bool} {ts : List Term} {n : ℕ} (t : Term) → T (p t) → number t ts ≡ some n → Has p ts n
 has-found {ts = ts} {n = n} t h e = record { it = t; known = found-known t ts n e; passes = h }
 
--- ---- Terms and rows that the writer takes
+-- ---- Terms and rows that a writer takes
 
 -- "a datatype is numbered before its literal"
 pub record Earlier (ts : List Term) (n : ℕ) (d : Text) : Type 0 where
@@ -92,30 +92,30 @@ pub record Earlier (ts : List Term) (n : ℕ) (d : Text) : Type 0 where
   pub before : place < n
 
 -- The term n of ts.
-abbrev pub Fine : List Term → ℕ → Term → Type 0
-Fine ts n (iri s) = GoodIri s
-Fine ts n (blank b) = first-bad (label-of b) ≡ none
-Fine ts n (literal s d) = (first-bad s ≡ none) × Earlier ts n d
-Fine ts n (tagged s g) = (first-bad s ≡ none) × (is-tag g ≡ true)
+abbrev pub Fine : Takes → List Term → ℕ → Term → Type 0
+Fine v ts n (iri s) = GoodIri v s
+Fine v ts n (blank b) = first-bad (label-of b) ≡ none
+Fine v ts n (literal s d) = (first-bad s ≡ none) × Earlier ts n d
+Fine v ts n (tagged s g) = (first-bad s ≡ none) × (v .tag g ≡ true)
 
-fine-more : {ts us : List Term} (n : ℕ) (t : Term) → More ts us → Fine ts n t → Fine us n t
-fine-more n (iri s) o h = h
-fine-more n (blank b) o h = h
-fine-more n (literal s d) o h = (h .0, record { place = h .1 .place; found = number-stays o (iri d) (h .1 .place) (h .1 .found); before = h .1 .before })
-fine-more n (tagged s g) o h = h
+fine-more : (v : Takes) {ts us : List Term} (n : ℕ) (t : Term) → More ts us → Fine v ts n t → Fine v us n t
+fine-more v n (iri s) o h = h
+fine-more v n (blank b) o h = h
+fine-more v n (literal s d) o h = (h .0, record { place = h .1 .place; found = number-stays o (iri d) (h .1 .place) (h .1 .found); before = h .1 .before })
+fine-more v n (tagged s g) o h = h
 
 -- The terms us, the first of which has the number n.
-abbrev pub AllFine : List Term → ℕ → List Term → Type 0
-AllFine ts n [] = Unit {0}
-AllFine ts n (u ∷ us) = Fine ts n u × AllFine ts (suc n) us
+abbrev pub AllFine : Takes → List Term → ℕ → List Term → Type 0
+AllFine v ts n [] = Unit {0}
+AllFine v ts n (u ∷ us) = Fine v ts n u × AllFine v ts (suc n) us
 
-all-fine-more : {ts ts′ : List Term} → More ts ts′ → (n : ℕ) (us : List Term) → AllFine ts n us → AllFine ts′ n us
-all-fine-more o n [] h = tt
-all-fine-more o n (u ∷ us) (f, h) = (fine-more n u o f, all-fine-more o (suc n) us h)
+all-fine-more : (v : Takes) {ts ts′ : List Term} → More ts ts′ → (n : ℕ) (us : List Term) → AllFine v ts n us → AllFine v ts′ n us
+all-fine-more v o n [] h = tt
+all-fine-more v o n (u ∷ us) (f, h) = (fine-more v n u o f, all-fine-more v o (suc n) us h)
 
-all-fine-last : (ts : List Term) (n : ℕ) (us : List Term) (u : Term) → AllFine ts n us → Fine ts (n + length us) u → AllFine ts n (us ++ u ∷ [])
-all-fine-last ts n [] u h f = (subst (λ (k : ℕ). Fine ts k u) (omega arith) f, tt)
-all-fine-last ts n (v ∷ us) u (g, h) f = (g, all-fine-last ts (suc n) us u h (subst (λ (k : ℕ). Fine ts k u) (omega arith) f))
+all-fine-last : (v : Takes) (ts : List Term) (n : ℕ) (us : List Term) (u : Term) → AllFine v ts n us → Fine v ts (n + length us) u → AllFine v ts n (us ++ u ∷ [])
+all-fine-last v ts n [] u h f = (subst (λ (k : ℕ). Fine v ts k u) (omega arith) f, tt)
+all-fine-last v ts n (t ∷ us) u (g, h) f = (g, all-fine-last v ts (suc n) us u h (subst (λ (k : ℕ). Fine v ts k u) (omega arith) f))
 
 -- 0 or a resource
 abbrev pub GraphFine : List Term → ℕ → Type 0
@@ -145,8 +145,8 @@ rows-last ts [] r h f = (f, tt)
 rows-last ts (x ∷ rs) r (g, h) f = (g, rows-last ts rs r h f)
 
 -- The memory, where e is in force.
-pub record Kept (e : Environment) (m : Memory) : Type 0 where
-  pub terms : AllFine (m .terms) 1 (m .terms)
+pub record Kept (v : Takes) (e : Environment) (m : Memory) : Type 0 where
+  pub terms : AllFine v (m .terms) 1 (m .terms)
   pub rows : RowsFine (m .terms) (m .rows)
   pub graph : GraphFine (m .terms) (m .graph)
   pub same : m .environment ≡ e
@@ -154,24 +154,24 @@ pub record Kept (e : Environment) (m : Memory) : Type 0 where
 -- ---- Writes
 
 -- What a write leaves, where the terms were ts.
-pub record Result {A : Type 0} (e : Environment) (Q : List Term → A → Type 0) (ts : List Term) (r : A × Memory) : Type 0 where
+pub record Result {A : Type 0} (v : Takes) (e : Environment) (Q : List Term → A → Type 0) (ts : List Term) (r : A × Memory) : Type 0 where
   pub more : More ts (r .1 .terms)
-  pub kept : Kept e (r .1)
+  pub kept : Kept v e (r .1)
   pub post : Q (r .1 .terms) (r .0)
 
 -- Where the terms are ts or more, the write keeps the memory fine, and Q holds of its result.
-pub record Safe {A : Type 0} (e : Environment) (ts : List Term) (Q : List Term → A → Type 0) (w : Write A) : Type 0 where
-  pub run : (m : Memory) → More ts (m .terms) → Kept e m → Result e Q (m .terms) (w m)
+pub record Safe {A : Type 0} (v : Takes) (e : Environment) (ts : List Term) (Q : List Term → A → Type 0) (w : Write A) : Type 0 where
+  pub run : (m : Memory) → More ts (m .terms) → Kept v e m → Result v e Q (m .terms) (w m)
 
 abbrev pub Nothing : {A : Type 0} → List Term → A → Type 0
 Nothing ts a = Unit {0}
 
-module _ {e : Environment} where
-  pub safe-return : {A : Type 0} {ts : List Term} {Q : List Term → A → Type 0} (a : A) → ((us : List Term) → More ts us → Q us a) → Safe e ts Q (return a)
+module _ {v : Takes} {e : Environment} where
+  pub safe-return : {A : Type 0} {ts : List Term} {Q : List Term → A → Type 0} (a : A) → ((us : List Term) → More ts us → Q us a) → Safe v e ts Q (return a)
   safe-return a q = record { run = λ m o k. record { more = more-same (m .terms); kept = k; post = q (m .terms) o } }
 
   pub safe-bind : {A B : Type 0} {ts : List Term} {Q : List Term → A → Type 0} {R : List Term → B → Type 0} {w : Write A} {f : A → Write B}
-      → Safe e ts Q w → ((us : List Term) (a : A) → More ts us → Q us a → Safe e us R (f a)) → Safe e ts R (w >>= f)
+      → Safe v e ts Q w → ((us : List Term) (a : A) → More ts us → Q us a → Safe v e us R (f a)) → Safe v e ts R (w >>= f)
   safe-bind {w = w} x y =
       record {
         run =
@@ -181,8 +181,8 @@ module _ {e : Environment} where
             record { more = more-both (r .more) (s .more); kept = s .kept; post = s .post };
       }
 
-  pub safe-then : {A B : Type 0} {ts : List Term} {Q : List Term → A → Type 0} {R : List Term → B → Type 0} {w : Write A} {v : Write B}
-      → Safe e ts Q w → ((us : List Term) → More ts us → Safe e us R v) → Safe e ts R (w >> v)
+  pub safe-then : {A B : Type 0} {ts : List Term} {Q : List Term → A → Type 0} {R : List Term → B → Type 0} {w : Write A} {x : Write B}
+      → Safe v e ts Q w → ((us : List Term) → More ts us → Safe v e us R x) → Safe v e ts R (w >> x)
   safe-then {w = w} x y =
       record {
         run =
@@ -192,34 +192,34 @@ module _ {e : Environment} where
             record { more = more-both (r .more) (s .more); kept = s .kept; post = s .post };
       }
 
-  pub safe-as : {A : Type 0} {ts : List Term} {Q R : List Term → A → Type 0} {w : Write A} → Safe e ts Q w → ((us : List Term) (a : A) → More ts us → Q us a → R us a) → Safe e ts R w
+  pub safe-as : {A : Type 0} {ts : List Term} {Q R : List Term → A → Type 0} {w : Write A} → Safe v e ts Q w → ((us : List Term) (a : A) → More ts us → Q us a → R us a) → Safe v e ts R w
   safe-as {w = w} x f =
       record {
         run = λ m o k. let r = x .run m o k in record { more = r .more; kept = r .kept; post = f (w m .1 .terms) (w m .0) (more-both o (r .more)) (r .post) };
       }
 
   -- One term more.
-  kept-last : (m : Memory) (t : Term) → Fine (m .terms ++ t ∷ []) (suc (length (m .terms))) t → Kept e m → Kept e (new-term t m .1)
+  kept-last : (m : Memory) (t : Term) → Fine v (m .terms ++ t ∷ []) (suc (length (m .terms))) t → Kept v e m → Kept v e (new-term t m .1)
   kept-last m t f k =
       let o = more-last (m .terms) t in
       record {
-        terms = all-fine-last (m .terms ++ t ∷ []) 1 (m .terms) t (all-fine-more o 1 (m .terms) (k .terms)) (subst (λ (n : ℕ). Fine (m .terms ++ t ∷ []) n t) (omega arith) f);
+        terms = all-fine-last v (m .terms ++ t ∷ []) 1 (m .terms) t (all-fine-more v o 1 (m .terms) (k .terms)) (subst (λ (n : ℕ). Fine v (m .terms ++ t ∷ []) n t) (omega arith) f);
         rows = rows-more o (m .rows) (k .rows);
         graph = graph-more o (k .graph);
         same = k .same;
       }
 
-  pub safe-new : {ts : List Term} (t : Term) → ((us : List Term) → More ts us → Fine (us ++ t ∷ []) (suc (length us)) t) → Safe e ts (λ us n. Known us n t) (new-term t)
+  pub safe-new : {ts : List Term} (t : Term) → ((us : List Term) → More ts us → Fine v (us ++ t ∷ []) (suc (length us)) t) → Safe v e ts (λ us n. Known us n t) (new-term t)
   safe-new t f = record { run = λ m o k. record { more = more-last (m .terms) t; kept = kept-last m t (f (m .terms) o) k; post = known-last (m .terms) t } }
 
-  pub safe-term : {ts : List Term} (t : Term) → ((us : List Term) → More ts us → Fine (us ++ t ∷ []) (suc (length us)) t) → Safe e ts (λ us n. number t us ≡ some n) (term t)
+  pub safe-term : {ts : List Term} (t : Term) → ((us : List Term) → More ts us → Fine v (us ++ t ∷ []) (suc (length us)) t) → Safe v e ts (λ us n. number t us ≡ some n) (term t)
   safe-term {ts} t f = record { run = λ m o k. go m o k (number t (m .terms)) refl }
     where
-      go : (m : Memory) → More ts (m .terms) → Kept e m → (x : Option ℕ) → number t (m .terms) ≡ x → Result e (λ us n. number t us ≡ some n) (m .terms) (term-by x t m)
+      go : (m : Memory) → More ts (m .terms) → Kept v e m → (x : Option ℕ) → number t (m .terms) ≡ x → Result v e (λ us n. number t us ≡ some n) (m .terms) (term-by x t m)
       go m o k (some n) p = record { more = more-same (m .terms); kept = k; post = p }
       go m o k none p = record { more = more-last (m .terms) t; kept = kept-last m t (f (m .terms) o) k; post = number-last t (m .terms) p }
 
-  pub safe-row : {ts : List Term} (s p o at : ℕ) → Has is-resource ts s → Has is-iri ts p → Has any ts o → Safe e ts Nothing (row s p o at)
+  pub safe-row : {ts : List Term} (s p o at : ℕ) → Has is-resource ts s → Has is-iri ts p → Has any ts o → Safe v e ts Nothing (row s p o at)
   safe-row s p o at hs hp ho =
       record {
         run =
@@ -239,18 +239,18 @@ module _ {e : Environment} where
             };
       }
 
-  pub safe-enter : {ts : List Term} (g : ℕ) → GraphFine ts g → Safe e ts Nothing (enter g)
+  pub safe-enter : {ts : List Term} (g : ℕ) → GraphFine ts g → Safe v e ts Nothing (enter g)
   safe-enter g h =
       record {
         run = λ m o k. record { more = more-same (m .terms); kept = record { terms = k .terms; rows = k .rows; graph = graph-more o h; same = k .same }; post = tt };
       }
 
   -- An IRI.
-  pub safe-iri : {ts : List Term} (s : Text) → GoodIri s → Safe e ts (Has is-iri) (term (iri s))
+  pub safe-iri : {ts : List Term} (s : Text) → GoodIri v s → Safe v e ts (Has is-iri) (term (iri s))
   safe-iri s g = safe-as (safe-term (iri s) (λ us o. g)) (λ us n o q. has-found (iri s) tt q)
 
   -- A literal: its datatype is numbered before it.
-  pub safe-typed : {ts : List Term} (s d : Text) → first-bad s ≡ none → GoodIri d → Safe e ts (Has any) (typed s d)
+  pub safe-typed : {ts : List Term} (s d : Text) → first-bad s ≡ none → GoodIri v d → Safe v e ts (Has any) (typed s d)
   safe-typed s d u g =
       safe-bind (safe-term (iri d) (λ us o. g))
       (λ us n o q.
@@ -267,10 +267,10 @@ module _ {e : Environment} where
       (λ vs k p r. has-found (literal s d) tt r))
 
   -- The same of a token.
-  pub safe-iri-term : {ts : List Term} (t : Token) → GoodIri (iri-of e t) → Safe e ts (Has is-iri) (iri-term t)
+  pub safe-iri-term : {ts : List Term} (t : Token) → GoodIri v (iri-of e t) → Safe v e ts (Has is-iri) (iri-term t)
   safe-iri-term t g =
-      record { run = λ m o k. safe-iri (iri-of (m .environment) t) (subst (λ (x : Environment). GoodIri (iri-of x t)) (sym (k .same)) g) .run m o k }
+      record { run = λ m o k. safe-iri (iri-of (m .environment) t) (subst (λ (x : Environment). GoodIri v (iri-of x t)) (sym (k .same)) g) .run m o k }
 
-  pub safe-typed-by : {ts : List Term} (s : Text) (t : Token) → first-bad s ≡ none → GoodIri (iri-of e t) → Safe e ts (Has any) (typed-by s t)
+  pub safe-typed-by : {ts : List Term} (s : Text) (t : Token) → first-bad s ≡ none → GoodIri v (iri-of e t) → Safe v e ts (Has any) (typed-by s t)
   safe-typed-by s t u g =
-      record { run = λ m o k. safe-typed s (iri-of (m .environment) t) u (subst (λ (x : Environment). GoodIri (iri-of x t)) (sym (k .same)) g) .run m o k }
+      record { run = λ m o k. safe-typed s (iri-of (m .environment) t) u (subst (λ (x : Environment). GoodIri v (iri-of x t)) (sym (k .same)) g) .run m o k }

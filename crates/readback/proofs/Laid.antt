@@ -1,4 +1,4 @@
--- Terms and rows as they lie in slices: tables that were kept as the writer takes them are usable, whatever stood in the slices before.
+-- Terms and rows as they lie in slices: tables that were kept as a writer takes them are usable, whatever stood in the slices before.
 use mathlib.Core.Path.{_≡_, refl, sym, ap, ap₂, _∙_, subst}
 use mathlib.Core.Logic.{_⊎_, inl, inr}
 use mathlib.Core.Bool.{Bool, true, false, _&&_, _||_}
@@ -14,11 +14,10 @@ use Rattle.text.specs.Text.{Text, cond, is-none}
 use Rattle.limits.specs.Limits.{iri-limit}
 use Rattle.utf8.specs.Utf8.{first-bad}
 use Rattle.utf8.proofs.Tests.{by}
-use Rattle.iri.specs.Iri.{has-scheme}
 use Rattle.dataset.specs.Terms.{Term, iri, blank, literal, tagged}
-use Rattle.table.specs.Layout.{Row, row-words, row-at, Entry, entry-words, entry-at, iri-kind, blank-kind, literal-kind, tagged-kind, Slices, span}
+use Rattle.table.specs.Layout.{Row, row-size, row-words, row-at, Entry, term-size, entry-words, entry-at, iri-kind, blank-kind, literal-kind, tagged-kind, Slices, span}
 use Rattle.table.specs.Tables.{or-zero, term-at, is-blank, text-of, tag-of, term-bytes, entry-of, words-from, terms-words, store-bytes, store-size, rows-words}
-use Rattle.table.specs.Usable.{each, the, text, tag, inside, counts-fit, has-kind, good-iri, good-datatype, good-tag, good-term, present, resource, good-row, usable}
+use Rattle.table.specs.Usable.{each, Takes, the, text, tag, inside, counts-fit, has-kind, good-iri, good-datatype, good-tag, good-term, present, resource, good-row, usable}
 use Rattle.table.proofs.Numbers.{Known, not-none, found-known}
 use Rattle.table.proofs.Finding.{number-positive}
 use Rattle.table.proofs.Store.{rows-length, bytes-length, text-span, tag-span, inside as spans-inside}
@@ -39,9 +38,9 @@ row-first r w = refl
 row-later : (r : Row) (w : List ℕ) (i : ℕ) → row-at (row-words r ++ w) (suc i) ≡ row-at w i
 unfolding row-at row-words
 row-later r w i =
-    let f : (k : ℕ) → getD (row-words r ++ w) (5 * suc i + k) 0 ≡ getD w (5 * i + k) 0 =
-    λ k. five (r .graph) (r .subject) (r .predicate) (r .object) (r .position) w (5 * suc i + k) (5 * i + k) (omega arith) in
-    let g = five (r .graph) (r .subject) (r .predicate) (r .object) (r .position) w (5 * suc i) (5 * i) (omega arith) in
+    let f : (k : ℕ) → getD (row-words r ++ w) (row-size * suc i + k) 0 ≡ getD w (row-size * i + k) 0 =
+    λ k. five (r .graph) (r .subject) (r .predicate) (r .object) (r .position) w (row-size * suc i + k) (row-size * i + k) (omega arith) in
+    let g = five (r .graph) (r .subject) (r .predicate) (r .object) (r .position) w (row-size * suc i) (row-size * i) (omega arith) in
     λ j. record { graph = g j; subject = f 1 j; predicate = f 2 j; object = f 3 j; position = f 4 j }
 
 pub row-here : (rs : List Row) (w : List ℕ) (i : ℕ) → i < length rs → row-at (rows-words rs ++ w) i ≡ getD rs i no-row
@@ -58,9 +57,9 @@ entry-first t w = refl
 entry-later : (t : Entry) (w : List ℕ) (i : ℕ) → entry-at (entry-words t ++ w) (suc (suc i)) ≡ entry-at w (suc i)
 unfolding entry-at entry-words
 entry-later t w i =
-    let f : (k : ℕ) → getD (entry-words t ++ w) (5 * suc i + k) 0 ≡ getD w (5 * i + k) 0 =
-    λ k. five (t .kind) (t .start) (t .size) (t .fourth) (t .fifth) w (5 * suc i + k) (5 * i + k) (omega arith) in
-    let g = five (t .kind) (t .start) (t .size) (t .fourth) (t .fifth) w (5 * suc i) (5 * i) (omega arith) in
+    let f : (k : ℕ) → getD (entry-words t ++ w) (term-size * suc i + k) 0 ≡ getD w (term-size * i + k) 0 =
+    λ k. five (t .kind) (t .start) (t .size) (t .fourth) (t .fifth) w (term-size * suc i + k) (term-size * i + k) (omega arith) in
+    let g = five (t .kind) (t .start) (t .size) (t .fourth) (t .fifth) w (term-size * suc i) (term-size * i) (omega arith) in
     λ j. record { kind = g j; start = f 1 j; size = f 2 j; fourth = f 3 j; fifth = f 4 j }
 
 -- How many blank nodes there are.
@@ -103,10 +102,10 @@ place-known [] i h = absurd (omega arith)
 place-known (t ∷ ts) zero h = refl
 place-known (t ∷ ts) (suc i) h = place-known ts i (omega arith)
 
-pub fine-at : (all : List Term) (n : ℕ) (ts : List Term) (i : ℕ) → AllFine all n ts → i < length ts → Fine all (n + i) (getD ts i (iri []))
-fine-at all n [] i h l = absurd (omega arith)
-fine-at all n (t ∷ ts) zero h l = subst (λ (k : ℕ). Fine all k t) (omega arith) (h .0)
-fine-at all n (t ∷ ts) (suc i) h l = subst (λ (k : ℕ). Fine all k (getD ts i (iri []))) (omega arith) (fine-at all (suc n) ts i (h .1) (omega arith))
+pub fine-at : (v : Takes) (all : List Term) (n : ℕ) (ts : List Term) (i : ℕ) → AllFine v all n ts → i < length ts → Fine v all (n + i) (getD ts i (iri []))
+fine-at v all n [] i h l = absurd (omega arith)
+fine-at v all n (t ∷ ts) zero h l = subst (λ (k : ℕ). Fine v all k t) (omega arith) (h .0)
+fine-at v all n (t ∷ ts) (suc i) h l = subst (λ (k : ℕ). Fine v all k (getD ts i (iri []))) (omega arith) (fine-at v all (suc n) ts i (h .1) (omega arith))
 
 pub rows-fine-at : (ts : List Term) (rs : List Row) (i : ℕ) → RowsFine ts rs → i < length rs → RowFine ts (getD rs i no-row)
 rows-fine-at ts [] i h l = absurd (omega arith)
@@ -204,48 +203,49 @@ module _ (ts : List Term) (rs : List Row) (x y : List ℕ) (z : Text) where
 
   -- ---- Good terms
 
-  -- What is said of each kind.
-  kind-good : (n : ℕ) (u : Term) → Known ts n u → Fine ts n u
-      → ((has-kind s iri-kind n && good-iri s n) || has-kind s blank-kind n || (has-kind s literal-kind n && good-datatype s n) || (has-kind s tagged-kind n && good-tag s n)) ≡ true
-  kind-good n (iri t) k f =
-      let a = ap has-scheme (text-is n (iri t) k) ∙ f .scheme in
-      let b = ap (λ (i : ℕ). leb i iri-limit) (size-is n (iri t) k) ∙ le-leb (length t) iri-limit (f .short) in
-      rw (kind-test n (iri t) k iri-kind, a, b)
-  kind-good n (blank b) k f = rw (kind-test n (blank b) k iri-kind, kind-test n (blank b) k blank-kind)
-  kind-good n (literal t d) k f =
-      let e = f .1 in
-      let p = e .place in
-      let q : the s n .fourth ≡ p = ap (λ (x : Entry). x .fourth) (l n (literal t d) k .entry) ∙ ap or-zero (e .found) in
-      let h : good-datatype s n ≡ true =
-      rw (q, le-leb 1 p (number-positive (iri d) ts p (e .found)), lt-ltb p n (e .before), kind-test p (iri d) (found-known (iri d) ts p (e .found)) iri-kind) in
-      rw (kind-test n (literal t d) k iri-kind, kind-test n (literal t d) k blank-kind, kind-test n (literal t d) k literal-kind, h)
-  kind-good n (tagged t g) k f =
-      let m = l n (tagged t g) k in
-      let p : the s n .fourth ≡ m .start + length t = ap (λ (x : Entry). x .fourth) (m .entry) in
-      let q : the s n .fifth ≡ length g = ap (λ (x : Entry). x .fifth) (m .entry) in
-      let i : inside s (the s n .fourth) (the s n .fifth) ≡ true = ap₂ (λ (a b : ℕ). inside s a b) p q ∙ le-leb (m .start + length t + length g) (store-size ts) (omega (arith, m .ends)) in
-      let v : tag s n ≡ g = ap₂ (λ (a b : ℕ). span (store-bytes ts ++ z) a b) p q ∙ m .tag-there in
-      rw (
-        kind-test n (tagged t g) k iri-kind,
-        kind-test n (tagged t g) k blank-kind,
-        kind-test n (tagged t g) k literal-kind,
-        kind-test n (tagged t g) k tagged-kind,
-        i,
-        v,
-        f .1,
-      )
+  module _ (v : Takes) where
+    -- What is said of each kind.
+    kind-good : (n : ℕ) (u : Term) → Known ts n u → Fine v ts n u
+        → ((has-kind s iri-kind n && good-iri v s n) || has-kind s blank-kind n || (has-kind s literal-kind n && good-datatype s n) || (has-kind s tagged-kind n && good-tag v s n)) ≡ true
+    kind-good n (iri t) k f =
+        let a = ap (v .iri) (text-is n (iri t) k) ∙ f .taken in
+        let b = ap (λ (i : ℕ). leb i iri-limit) (size-is n (iri t) k) ∙ le-leb (length t) iri-limit (f .short) in
+        rw (kind-test n (iri t) k iri-kind, a, b)
+    kind-good n (blank b) k f = rw (kind-test n (blank b) k iri-kind, kind-test n (blank b) k blank-kind)
+    kind-good n (literal t d) k f =
+        let e = f .1 in
+        let p = e .place in
+        let q : the s n .fourth ≡ p = ap (λ (x : Entry). x .fourth) (l n (literal t d) k .entry) ∙ ap or-zero (e .found) in
+        let h : good-datatype s n ≡ true =
+        rw (q, le-leb 1 p (number-positive (iri d) ts p (e .found)), lt-ltb p n (e .before), kind-test p (iri d) (found-known (iri d) ts p (e .found)) iri-kind) in
+        rw (kind-test n (literal t d) k iri-kind, kind-test n (literal t d) k blank-kind, kind-test n (literal t d) k literal-kind, h)
+    kind-good n (tagged t g) k f =
+        let m = l n (tagged t g) k in
+        let p : the s n .fourth ≡ m .start + length t = ap (λ (x : Entry). x .fourth) (m .entry) in
+        let q : the s n .fifth ≡ length g = ap (λ (x : Entry). x .fifth) (m .entry) in
+        let i : inside s (the s n .fourth) (the s n .fifth) ≡ true = ap₂ (λ (a b : ℕ). inside s a b) p q ∙ le-leb (m .start + length t + length g) (store-size ts) (omega (arith, m .ends)) in
+        let v : tag s n ≡ g = ap₂ (λ (a b : ℕ). span (store-bytes ts ++ z) a b) p q ∙ m .tag-there in
+        rw (
+          kind-test n (tagged t g) k iri-kind,
+          kind-test n (tagged t g) k blank-kind,
+          kind-test n (tagged t g) k literal-kind,
+          kind-test n (tagged t g) k tagged-kind,
+          i,
+          v,
+          f .1,
+        )
 
-  fine-text : (n : ℕ) (u : Term) → Fine ts n u → first-bad (text-of u) ≡ none
-  fine-text n (iri t) f = f .utf8
-  fine-text n (blank b) f = f
-  fine-text n (literal t d) f = f .0
-  fine-text n (tagged t g) f = f .0
+    fine-text : (n : ℕ) (u : Term) → Fine v ts n u → first-bad (text-of u) ≡ none
+    fine-text n (iri t) f = f .utf8
+    fine-text n (blank b) f = f
+    fine-text n (literal t d) f = f .0
+    fine-text n (tagged t g) f = f .0
 
-  term-fine : (n : ℕ) (u : Term) → Known ts n u → Fine ts n u → good-term s n ≡ true
-  unfolding good-term
-  term-fine n u k f =
-      let a = ap (λ (o : Option ℕ). is-none o) (ap first-bad (text-is n u k) ∙ fine-text n u f) in
-      rw (text-fits n u k, a) (kind-good n u k f)
+    term-fine : (n : ℕ) (u : Term) → Known ts n u → Fine v ts n u → good-term v s n ≡ true
+    unfolding good-term
+    term-fine n u k f =
+        let a = ap (λ (o : Option ℕ). is-none o) (ap first-bad (text-is n u k) ∙ fine-text n u f) in
+        rw (text-fits n u k, a) (kind-good n u k f)
 
   -- ---- Good rows
 
@@ -280,7 +280,7 @@ module _ (ts : List Term) (rs : List Row) (x y : List ℕ) (z : Text) where
 
   -- ---- Usable tables
 
-  terms-length : (all : List Term) (used blanks : ℕ) (us : List Term) → length (words-from all used blanks us) ≡ 5 * length us
+  terms-length : (all : List Term) (used blanks : ℕ) (us : List Term) → length (words-from all used blanks us) ≡ term-size * length us
   unfolding words-from entry-words
   terms-length all used blanks [] = refl
   terms-length all used blanks (u ∷ us) =
@@ -291,19 +291,19 @@ module _ (ts : List Term) (rs : List Row) (x y : List ℕ) (z : Text) where
   unfolding counts-fit terms-words
   counts-fine =
       rw (
-        le-leb (5 * length rs) (length (rows-words rs ++ x)) (omega (arith, length-append (rows-words rs) x, rows-length rs)),
-        le-leb (5 * length ts) (length (words-from ts 0 0 ts ++ y)) (omega (arith, length-append (words-from ts 0 0 ts) y, terms-length ts 0 0 ts)),
+        le-leb (row-size * length rs) (length (rows-words rs ++ x)) (omega (arith, length-append (rows-words rs) x, rows-length rs)),
+        le-leb (term-size * length ts) (length (words-from ts 0 0 ts ++ y)) (omega (arith, length-append (words-from ts 0 0 ts) y, terms-length ts 0 0 ts)),
         le-leb (store-size ts) (length (store-bytes ts ++ z)) (omega (arith, length-append (store-bytes ts) z, bytes-length ts)),
       )
 
-  pub laid-usable : AllFine ts 1 ts → RowsFine ts rs → usable s ≡ true
+  pub laid-usable : (v : Takes) → AllFine v ts 1 ts → RowsFine ts rs → usable v s ≡ true
   unfolding usable
-  laid-usable f g =
+  laid-usable v f g =
       let one : (i : ℕ) → 1 + i ≡ suc i = λ i. omega arith in
       let none-more : (i : ℕ) → 0 + i ≡ i = λ i. omega arith in
       let a =
-      each-true (good-term s) (length ts) 1
-      (λ i h. ap (good-term s) (one i) ∙ term-fine (suc i) (getD ts i (iri [])) (place-known ts i h) (subst (λ (n : ℕ). Fine ts n (getD ts i (iri []))) (one i) (fine-at ts 1 ts i f h))) in
+      each-true (good-term v s) (length ts) 1
+      (λ i h. ap (good-term v s) (one i) ∙ term-fine v (suc i) (getD ts i (iri [])) (place-known ts i h) (subst (λ (n : ℕ). Fine v ts n (getD ts i (iri []))) (one i) (fine-at v ts 1 ts i f h))) in
       let b =
       each-true (λ i. good-row s (row-at (s .rows) i)) (length rs) 0
       (λ i h. ap (λ (j : ℕ). good-row s (row-at (s .rows) j)) (none-more i) ∙ ap (good-row s) (row-here rs x i h) ∙ row-fine (getD rs i no-row) (rows-fine-at ts rs i g h)) in

@@ -1,6 +1,6 @@
 -- The tokens of a document that is UTF-8: their texts are cut at token ends, and their values are UTF-8.
 use mathlib.Core.Path.{_≡_, refl, sym, ap, ap₂, _∙_, subst}
-use mathlib.Core.Logic.{_⊎_, ⊎-elim}
+use mathlib.Core.Logic.{⊎-elim}
 use mathlib.Core.Bool.{Bool, true, false, not, _&&_, _||_}
 use mathlib.Core.List.{List, [], _∷_, _++_, append-assoc, append-nil}
 use Prim.Native.Nat.{ℕ, suc, _+_, _-_, _≤_}
@@ -9,19 +9,20 @@ use borrow.Author.Tests.{eq-eqb, lt-ltb}
 use lib.Dec.{T, eqb, ltb, ltb→lt}
 use lib.ListN.{length, take, drop, length-append}
 use lib.Seq.{take-at, drop-at}
-use Rattle.text.specs.Text.{Text, ascii, cond, is}
+use Rattle.text.specs.Text.{Text, cond, is}
 use Rattle.text.proofs.Compare.{contrary}
 use Rattle.utf8.specs.Utf8.{width, encode, encodes, decode, first-bad}
 use Rattle.utf8.specs.Scalar.{Scalars}
-use Rattle.utf8.proofs.Tests.{and-true, or-true}
+use Rattle.utf8.proofs.Tests.{and-true}
 use Rattle.utf8.proofs.Encoding.{length-encode}
 use Rattle.utf8.proofs.Decoding.{valid-encodes, valid-encoded, encodes-append, scalars-right}
 use Rattle.token.specs.Kind.{kind-code, kind-of-code, among, strings, long-strings, IRIREF, LANGTAG, «BLANK_NODE_LABEL»}
 use Rattle.token.specs.Regular.{Re, set, seq, alt, star, eps, Matches, Item, item, Some, Match, nothing, hit, size, Hit, Longest}
 use Rattle.token.specs.Terminals.{terminals, long-terminals, tripled, terminals-at, token-at}
-use Rattle.token.specs.Tokens.{Token, has-kind, token, unreadable, Cutting, between, comment, inside, white-space, in-comment, passed, lexemes-from, lexemes, tokens-of}
+use Rattle.token.specs.Tokens.{Token, has-kind, Lexeme, token, unreadable, Cutting, between, comment, inside, white-space, in-comment, passed, trig-cuts, lexemes-from, lexemes, tokens-of}
 use Rattle.token.proofs.Longest.{token-longest}
 use Rattle.token.proofs.Sizes.{length-encodes}
+use Rattle.token.proofs.Cutting.{cut-comment}
 use Rattle.escape.specs.Escape.{outside, pieces-from, pieces, unescape-pieces, unescape, bad-pieces, bad-escape}
 use Rattle.dataset.specs.Constructors.{inner, string-text, reference, tag, node-label}
 use Rattle.table.specs.Usable.{is-match, is-tag}
@@ -29,7 +30,7 @@ use Rattle.machine.specs.Refusals.{no-character}
 use Rattle.readback.proofs.Undone.{lows, lows-encodes}
 use Rattle.readback.proofs.Printed.{no-quote}
 use Rattle.readback.proofs.Tags.{confined}
-use Rattle.readback.proofs.Texts.{Utf8, is-low, member-low}
+use Rattle.readback.proofs.Texts.{Utf8}
 use Rattle.readback.proofs.Escapes.{Escaped, none, Unslashed, bad-plain, low-front, utf8-unescape, Steps, steps-star, confined-lows, char, char-is, char-then, steps-reference, steps-string, steps-long}
 use Rattle.readback.proofs.Iris.{Lexed, AllLexed}
 
@@ -372,39 +373,34 @@ module _ (doc : Text) (at : ℕ) (cs : List ℕ) (k n : ℕ) (a : At doc at cs) 
       or-these true y e = refl
       or-these false y e = e
 
--- White space and a comment's # are one byte.
-skipped : {doc : Text} {at : ℕ} (c : ℕ) (cs : List ℕ) → (white-space c || is "#" c) ≡ true → At doc at (c ∷ cs) → At doc (at + 1) cs
-skipped {doc} {at} c cs e a =
-    let l = ⊎-elim (member-low (ascii " \t\r\n") tt c) (is-low 35 (omega arith) c) (or-true (white-space c) (is "#" c) e) in
-    subst (λ (w : ℕ). At doc (at + w) cs) (simp (lt-ltb c 128 l)) (at-next c cs a)
-
-lexed-from : (doc : Text) (state : Cutting) (at : ℕ) (cs : List ℕ) → At doc at cs → AllLexed (tokens-of (lexemes-from doc state at cs))
+lexed-from : (doc : Text) (state : Cutting) (at : ℕ) (cs : List ℕ) → At doc at cs → AllLexed (tokens-of (lexemes-from trig-cuts doc state at cs))
 unfolding lexemes-from tokens-of
 lexed-from doc state at [] a = tt
 lexed-from doc (inside k) at (c ∷ cs) a = lexed-from doc (passed (k - width c)) (at + width c) cs (at-next c cs a)
-lexed-from doc comment at (c ∷ cs) a = lexed-from doc (in-comment c) (at + width c) cs (at-next c cs a)
+lexed-from doc comment at (c ∷ cs) a =
+    subst (λ (ls : List Lexeme). AllLexed (tokens-of ls)) (sym (cut-comment doc at c cs)) (lexed-from doc (in-comment c) (at + width c) cs (at-next c cs a))
 lexed-from doc between at (c ∷ cs) a =
-    here (white-space c || is "#" c) refl (token-at (c ∷ cs)) (token-longest (c ∷ cs))
-    (λ e. lexed-from doc (cond (is "#" c) comment between) (at + 1) cs (skipped c cs e a)) (λ n. lexed-from doc (passed (n - width c)) (at + width c) cs (at-next c cs a))
+    here (white-space c || is "#" c) (token-at (c ∷ cs)) (token-longest (c ∷ cs))
+    (lexed-from doc (cond (is "#" c) comment between) (at + width c) cs (at-next c cs a)) (λ n. lexed-from doc (passed (n - width c)) (at + width c) cs (at-next c cs a))
   where
-    here : (b : Bool) → (white-space c || is "#" c) ≡ b → (o : Match) → Longest width (terminals-at (c ∷ cs)) (c ∷ cs) o
-        → ((white-space c || is "#" c) ≡ true → AllLexed (tokens-of (lexemes-from doc (cond (is "#" c) comment between) (at + 1) cs)))
-        → ((n : ℕ) → AllLexed (tokens-of (lexemes-from doc (passed (n - width c)) (at + width c) cs)))
+    here : (b : Bool) (o : Match) → Longest width (terminals-at (c ∷ cs)) (c ∷ cs) o
+        → AllLexed (tokens-of (lexemes-from trig-cuts doc (cond (is "#" c) comment between) (at + width c) cs))
+        → ((n : ℕ) → AllLexed (tokens-of (lexemes-from trig-cuts doc (passed (n - width c)) (at + width c) cs)))
         → AllLexed
         (tokens-of
         (elim b [
-          | true ↦ lexemes-from doc (cond (is "#" c) comment between) (at + 1) cs
+          | true ↦ lexemes-from trig-cuts doc (cond (is "#" c) comment between) (at + width c) cs
           | false ↦
               elim o [
                 | nothing ↦ unreadable at ∷ []
                 | hit k n ↦
                     token (record { kind = kind-of-code k; start = at; text = take n (drop at doc) })
-                    ∷ lexemes-from doc (passed (n - width c)) (at + width c) cs
+                    ∷ lexemes-from trig-cuts doc (passed (n - width c)) (at + width c) cs
               ]
         ]))
-    here true e o l f g = f e
-    here false e nothing l f g = tt
-    here false e (hit k n) l f g = (lexed-token doc at (c ∷ cs) k n a l, g n)
+    here true o l f g = f
+    here false nothing l f g = tt
+    here false (hit k n) l f g = (lexed-token doc at (c ∷ cs) k n a l, g n)
 
 -- The tokens of a document that 5 does not refuse.
 pub all-lexed : (doc : Text) → Utf8 doc → AllLexed (tokens-of (lexemes doc))

@@ -21,6 +21,7 @@ use Rattle.dataset.specs.Terms.{Blank, label, bracket, cell, numbered, Term, ir
 use Rattle.environment.specs.Environment.{Environment, start-environment}
 use Rattle.dataset.specs.Constructors.{node-label, resolved-reference, iri-of}
 use Rattle.dataset.specs.Statements.{Node, Value, action, triple, more-objects, more-verbs, in-graph, trig-quads, statements}
+use Rattle.table.specs.Usable.{for-long-form}
 use Rattle.readback.specs.ReadBack.{renamed-blank, renamed-term, renamed}
 use Rattle.readback.proofs.Cutting.{Part, printed, gap, bytes, tokens-at, tokens-append}
 use Rattle.readback.proofs.Printed.{label-points}
@@ -45,11 +46,11 @@ environment = start-environment []
 abbrev iri-token-at : ℕ → Text → Token
 iri-token-at at s = token-of IRIREF at (iri-points s)
 
-iri-value : (at : ℕ) (s : Text) → GoodIri s → iri-of environment (iri-token-at at s) ≡ s
+iri-value : (at : ℕ) (s : Text) → GoodIri for-long-form s → iri-of environment (iri-token-at at s) ≡ s
 unfolding iri-of resolved-reference resolved
 iri-value at s g =
     let e = iri-reference at s (g .utf8) in
-    ap (λ (r : Text). cond (has-scheme r) r (resolve [] r)) e ∙ ap (λ (b : Bool). cond b s (resolve [] s)) (g .scheme)
+    ap (λ (r : Text). cond (has-scheme r) r (resolve [] r)) e ∙ ap (λ (b : Bool). cond b s (resolve [] s)) (g .taken)
 
 -- A derivation of the term t, whose tokens are those of the parts; v says that the nonterminal's values are nodes.
 record NodeTree (n : Nonterminal) (v : Value n → Environment → Node) (at : ℕ) (ps : List Part) (t : Term) : Type 0 where
@@ -72,14 +73,14 @@ label-term at (bracket p) h = absurd h
 label-term at (cell p) h = absurd h
 label-term at (numbered n) h = ap (λ (x : Text). blank (label x)) (label-value at n)
 
-label-or-subject : (t : Term) → GoodResource t → (at : ℕ) → NodeTree labelOrSubject (λ v. v) at (term-parts t) (renamed-term t)
+label-or-subject : (t : Term) → GoodResource for-long-form t → (at : ℕ) → NodeTree labelOrSubject (λ v. v) at (term-parts t) (renamed-term t)
 unfolding production leaves meaning tokens-at iri-tree label-tree
 label-or-subject (iri s) g at = record { tree = node labelOrSubject (left (iri-tree at s)); tokens = refl; term = ap iri (iri-value at s g); own = refl }
 label-or-subject (blank b) g at = record { tree = node labelOrSubject (right (label-tree at b)); tokens = refl; term = label-term at b g; own = refl }
 label-or-subject (literal s d) g at = absurd g
 label-or-subject (tagged s h) g at = absurd g
 
-subject-tree : (t : Term) → GoodResource t → (at : ℕ) → NodeTree subject-nt (λ v. v) at (term-parts t) (renamed-term t)
+subject-tree : (t : Term) → GoodResource for-long-form t → (at : ℕ) → NodeTree subject-nt (λ v. v) at (term-parts t) (renamed-term t)
 unfolding production leaves meaning tokens-at iri-tree label-tree
 subject-tree (iri s) g at = record { tree = node subject-nt (left (iri-tree at s)); tokens = refl; term = ap iri (iri-value at s g); own = refl }
 subject-tree (blank b) g at = record { tree = node subject-nt (right (node blank-nt (left (label-tree at b)))); tokens = refl; term = label-term at b g; own = refl }
@@ -104,7 +105,7 @@ literal-object : TreeOf RDFLiteral → TreeOf object-nt
 unfolding production
 literal-object x = node object-nt (right (right (right (node literal-nt (left x)))))
 
-typed-tree : (s d : Text) → first-bad s ≡ none → GoodIri d → (at : ℕ) → NodeTree object-nt (λ v. v) at (string-part s ∷ type-parts d) (literal s d)
+typed-tree : (s d : Text) → first-bad s ≡ none → GoodIri for-long-form d → (at : ℕ) → NodeTree object-nt (λ v. v) at (string-part s ∷ type-parts d) (literal s d)
 unfolding production leaves meaning tokens-at string-tree literal-object iri-tree
 typed-tree s d v g at =
     by (same-text d xsd-string)
@@ -128,7 +129,7 @@ typed-tree s d v g at =
     type-place : ℕ
     type-place = behind (carets-at (behind (string-token-at at s)))
 
-object-tree : (t : Term) → Good t → (at : ℕ) → NodeTree object-nt (λ v. v) at (term-parts t) (renamed-term t)
+object-tree : (t : Term) → Good for-long-form t → (at : ℕ) → NodeTree object-nt (λ v. v) at (term-parts t) (renamed-term t)
 unfolding production leaves meaning tokens-at string-tree literal-object iri-tree label-tree
 object-tree (iri s) g at = record { tree = node object-nt (left (iri-tree at s)); tokens = refl; term = ap iri (iri-value at s g); own = refl }
 object-tree (blank b) g at = record { tree = node object-nt (right (left (node blank-nt (left (label-tree at b))))); tokens = refl; term = label-term at b g; own = refl }
@@ -147,7 +148,7 @@ record VerbTree (at : ℕ) (ps : List Part) (t : Term) : Type 0 where
   tokens : leaves-of tree ≡ tokens-at at ps
   term : value tree environment ≡ t
 
-verb-tree : (t : Term) → GoodPredicate t → (at : ℕ) → VerbTree at (term-parts t) (renamed-term t)
+verb-tree : (t : Term) → GoodPredicate for-long-form t → (at : ℕ) → VerbTree at (term-parts t) (renamed-term t)
 unfolding production leaves meaning tokens-at iri-tree
 verb-tree (iri s) g at = record { tree = node verb (left (node predicate-nt (iri-tree at s))); tokens = refl; term = ap iri (iri-value at s g) }
 verb-tree (blank b) g at = absurd g
@@ -220,7 +221,7 @@ record LineTree (at : ℕ) (g : Option Term) (t : Triple) (rest : List Part) : T
 abbrev one-quad : Option Term → Triple → Term → List Quad
 one-quad g t s = in-graph g (triple s (renamed-term (t .predicate)) (renamed-term (t .object)) ∷ [])
 
-module _ (t : Triple) (s : GoodResource (t .subject)) (p : GoodPredicate (t .predicate)) (o : Good (t .object)) where
+module _ (t : Triple) (s : GoodResource for-long-form (t .subject)) (p : GoodPredicate for-long-form (t .predicate)) (o : Good for-long-form (t .object)) where
   properties : (at : ℕ) → PropertyTree (predicate-tokens at t) (object-tokens at t) (renamed-term (t .predicate)) (renamed-term (t .object))
   properties at = property-tree (verb-tree (t .predicate) p (predicate-place at t)) (object-tree (t .object) o (object-place at t))
 
@@ -250,7 +251,7 @@ module _ (t : Triple) (s : GoodResource (t .subject)) (p : GoodPredicate (t .pre
       join a b c d r = simp append-assoc
 
   -- In a graph: triplesOrGraph ::= labelOrSubject wrappedGraph, with one triple and its '.' in the braces.
-  graph-line : (g : Term) → GoodResource g → (at : ℕ) (rest : List Part) → LineTree at (some g) t rest
+  graph-line : (g : Term) → GoodResource for-long-form g → (at : ℕ) (rest : List Part) → LineTree at (some g) t rest
   unfolding production leaves meaning tokens-at
   graph-line g h at rest = record {
     tree =
@@ -301,7 +302,7 @@ module _ (t : Triple) (s : GoodResource (t .subject)) (p : GoodPredicate (t .pre
           → (a ++ d ∷ (((b ++ (c ++ e)) ++ u ∷ []) ++ v ∷ [])) ++ r ≡ a ++ d ∷ (b ++ (c ++ (e ++ u ∷ v ∷ r)))
       join a d b c e u v r = simp append-assoc
 
-  line : (g : Option Term) → GoodGraph g → (at : ℕ) (rest : List Part) → LineTree at g t rest
+  line : (g : Option Term) → GoodGraph for-long-form g → (at : ℕ) (rest : List Part) → LineTree at g t rest
   line none h at rest = default-line at rest
   line (some g) h at rest = graph-line g h at rest
 
@@ -313,12 +314,12 @@ record Document (at : ℕ) (qs : List Quad) : Type 0 where
   tokens : leaves kind-of (production trig) tree ≡ tokens-at at (parts qs)
   quads : action trig trigDoc (meaning Value (action trig) tree) environment ≡ map renamed qs
 
-document : (qs : List Quad) → GoodQuads qs → (at : ℕ) → Document at qs
+document : (qs : List Quad) → GoodQuads for-long-form qs → (at : ℕ) → Document at qs
 unfolding production leaves meaning tokens-at parts trig-quads
 document [] g at = record { tree = done; tokens = refl; quads = refl }
 document (q ∷ qs) g at = go (line (q .triple) (h .subject) (h .predicate) (h .object) (q .graph) (h .graph) at (parts qs)) (λ i. document qs (g .1) i)
   where
-    h : GoodQuad q
+    h : GoodQuad for-long-form q
     h = g .0
 
     go : LineTree at (q .graph) (q .triple) (parts qs) → ((i : ℕ) → Document i qs) → Document at (q ∷ qs)
@@ -336,6 +337,6 @@ pub record Derived (qs : List Quad) : Type 0 where
   pub tokens : leaves kind-of (production trig) derivation ≡ tokens-at 0 (parts qs)
   pub same : statements trig derivation [] ≡ map renamed qs
 
-pub derived : (qs : List Quad) → GoodQuads qs → Derived qs
+pub derived : (qs : List Quad) → GoodQuads for-long-form qs → Derived qs
 unfolding root leaves meaning statements
 derived qs g = let d = document qs g 0 in record { derivation = node trigDoc (d .tree); tokens = d .tokens; same = d .quads }

@@ -12,11 +12,11 @@ use Rattle.text.specs.Text.{Text, ascii, cond}
 use Rattle.text.proofs.Booleans.{is-true}
 use Rattle.utf8.proofs.Tests.{split}
 use Rattle.dataset.specs.Terms.{Blank, label, bracket, cell, numbered, Term, iri, blank, literal, tagged, Quad}
-use Rattle.table.specs.Layout.{Row, row-at, Entry, iri-kind, blank-kind, literal-kind, Slices, span}
+use Rattle.table.specs.Layout.{Row, row-at, Entry, iri-kind, blank-kind, literal-kind, word-limit, Slices, span}
 use Rattle.table.specs.Tables.{number, or-zero, or-nil, is-blank, term-of, graph-of, quad-of, quads}
-use Rattle.table.specs.Usable.{the, text, tag, term, graph, quad, quads-from, quads-held}
+use Rattle.table.specs.Usable.{Takes, the, text, tag, term, graph, quad, quads-from, quads-held}
 use Rattle.table.proofs.Numbers.{Known, found-known}
-use Rattle.readback.specs.ReadBack.{label-of-number, renamed-blank, renamed, word-limit, with-blanks-term, with-blanks-graph, with-blanks}
+use Rattle.readback.specs.ReadBack.{label-of-number, renamed-blank, renamed, with-blanks-term, with-blanks-graph, with-blanks}
 use Rattle.readback.proofs.Renaming.{labels-apart}
 use Rattle.readback.proofs.Kept.{Has, is-resource, Fine, AllFine, RowFine, RowsFine}
 use Rattle.readback.proofs.Laid.{no-row, row-here, blank-count, known-place, fine-at, laid, lies, kind-test, text-is}
@@ -168,15 +168,15 @@ numbers-differ ts = names-differ ts numbered (other-number (length ts)) (λ m n 
 
 -- ---- The statements in the tables
 
-module _ (ts : List Term) (rs : List Row) (x y : List ℕ) (z : Text) (fine : AllFine ts 1 ts) (rows : RowsFine ts rs)
+module _ (v : Takes) (ts : List Term) (rs : List Row) (x y : List ℕ) (z : Text) (fine : AllFine v ts 1 ts) (rows : RowsFine ts rs)
     (own : (n : ℕ) (u : Term) → Known ts n u → number u ts ≡ some n) where
   abbrev s : Slices
   s = laid ts rs x y z
 
-  fine-known : (n : ℕ) (u : Term) → Known ts n u → Fine ts n u
+  fine-known : (n : ℕ) (u : Term) → Known ts n u → Fine v ts n u
   fine-known n u k =
       let (i, p, l, e) = known-place ts n u k in
-      subst (λ (m : ℕ). Fine ts m u) (let q : 1 + i ≡ n = omega arith in q) (subst (Fine ts (1 + i)) e (fine-at ts 1 ts i fine l))
+      subst (λ (m : ℕ). Fine v ts m u) (let q : 1 + i ≡ n = omega arith in q) (subst (Fine v ts (1 + i)) e (fine-at v ts 1 ts i fine l))
 
   -- Nodes are called by number in the tables: renamed from there, they are the document's, renamed so that a node gets the name of its number.
   module _ (from to : Blank → Blank) (meet : (n : ℕ) (b : Blank) → Known ts n (blank b) → from (numbered (blanks-before ts n)) ≡ to b) where

@@ -18,7 +18,7 @@ use Rattle.token.specs.Tokens.{lexemes, tokens-of, readable}
 use Rattle.grammar.specs.Ebnf.{leaves}
 use Rattle.grammar.specs.Productions.{trig, production, kind-of}
 use Rattle.table.specs.Layout.{Slices}
-use Rattle.table.specs.Usable.{usable, quads-held}
+use Rattle.table.specs.Usable.{for-long-form, usable, quads-held}
 use Rattle.table.specs.LongForm.{long-form, Written, write}
 use Rattle.machine.specs.Step.{first-refusal}
 use Rattle.machine.specs.Read.{Lent, bad-base, first-checks}
@@ -39,7 +39,7 @@ checked : (doc : Text) (lent : Lent) → length doc ≤ document-limit → work-
 unfolding bad-base
 checked doc lent l w = simp (le-ltb document-limit (length doc) l, le-ltb (lent .work) work-size w)
 
-pub read-back : (s : Slices) → usable s ≡ true → length (long-form s) ≤ document-limit → ReadsBack s
+pub read-back : (s : Slices) → usable for-long-form s ≡ true → length (long-form s) ≤ document-limit → ReadsBack s
 unfolding bytes
 read-back s u l = record {
   derivation = d .derivation;
@@ -56,8 +56,8 @@ read-back s u l = record {
       };
 }
   where
-    good : GoodQuads (quads-held s)
-    good = held-good s u
+    good : GoodQuads for-long-form (quads-held s)
+    good = held-good for-long-form s u
 
     d : Derived (quads-held s)
     d = derived (quads-held s) good
@@ -77,7 +77,7 @@ read-back s u l = record {
     tokens : leaves kind-of (production trig) (d .derivation) ≡ document-tokens (long-form s)
     tokens = d .tokens ∙ sym cut-tokens
 
-pub read-again : (s : Slices) → usable s ≡ true → length (long-form s) ≤ document-limit → ReadAgain s
+pub read-again : (s : Slices) → usable for-long-form s ≡ true → length (long-form s) ≤ document-limit → ReadAgain s
 unfolding read-back
 read-again s u l =
     let b = read-back s u l in
@@ -91,14 +91,14 @@ read-again s u l =
 
 -- Where the writer answers 0, the tables are usable and what it wrote is their long form.
 pub record WrittenForm (s : Slices) (w : Written) : Type 0 where
-  pub usable : usable s ≡ true
+  pub usable : usable for-long-form s ≡ true
   pub size : w .position ≡ length (long-form s)
   pub text : take (w .position) (w .output) ≡ long-form s
 
 pub written-form : (s : Slices) (out : Text) → write s out .number ≡ 0 → WrittenForm s (write s out)
 unfolding write
 written-form s out e =
-    by (usable s)
+    by (usable for-long-form s)
     (λ u.
     by (ltb (length out) (length (long-form s))) (λ f. none-such (rw (u, f) at e))
     (λ f. rw (u, f) (record { usable = u; size = refl; text = take-at (long-form s) (drop (length (long-form s)) out) (length (long-form s)) refl })))

@@ -8,10 +8,10 @@ use lib.ListN.{getD, drop}
 use Rattle.text.specs.Text.{Text}
 use Rattle.utf8.proofs.Tests.{by}
 use Rattle.dataset.specs.Terms.{Blank, label, bracket, cell, numbered, Term, iri, blank, literal, tagged}
-use Rattle.table.specs.Layout.{term-size, entry-at, iri-kind, blank-kind, literal-kind, Slices}
+use Rattle.table.specs.Layout.{term-size, entry-at, iri-kind, blank-kind, literal-kind, word-limit, Slices}
 use Rattle.table.specs.Usable.{the, has-kind, term}
 use Rattle.table.specs.LongForm.{digits}
-use Rattle.readback.specs.ReadBack.{label-of-number, renamed-term, word-limit, Words, KeepsApart}
+use Rattle.readback.specs.ReadBack.{label-of-number, renamed-term, Words, KeepsApart}
 
 -- ---- Decimal digits
 

@@ -6,8 +6,8 @@ use mathlib.Core.List.{List, [], _∷_, map}
 use Prim.Native.Nat.{ℕ, _*_, _≤_, _<_}
 use native.Mathlib.Omega.{arith}
 use borrow.Author.Tests.{le-ltb, ltb-false}
-use lib.Dec.{ltb, leb}
-use lib.ListN.{length, take, drop}
+use lib.Dec.{ltb}
+use lib.ListN.{length, take}
 use Rattle.text.specs.Text.{Text, is-none, some-byte}
 use Rattle.text.proofs.Compare.{contrary}
 use Rattle.limits.specs.Limits.{document-limit, iri-limit, work-size}
@@ -16,20 +16,21 @@ use Rattle.utf8.proofs.Tests.{by, or-false}
 use Rattle.token.specs.Tokens.{lexemes}
 use Rattle.iri.specs.Iri.{has-scheme, forbidden}
 use Rattle.dataset.specs.Terms.{Quad}
-use Rattle.table.specs.Layout.{Slices}
+use Rattle.table.specs.Layout.{row-size, term-size, word-limit, Slices}
 use Rattle.table.specs.Tables.{store-size}
-use Rattle.table.specs.Usable.{usable}
+use Rattle.table.specs.Usable.{for-long-form, usable}
 use Rattle.table.specs.LongForm.{long-form, write}
 use Rattle.machine.specs.Memory.{Memory, start-memory}
 use Rattle.machine.specs.Frame.{statement}
-use Rattle.machine.specs.Read.{Lent, Answer, bad-base, first-checks, success, mode-of, room-of, start-state, read}
+use Rattle.machine.specs.Read.{Lent, lends, Answer, bad-base, first-checks, success, mode-of, room-of, start-state, read}
 use Rattle.machine.specs.Construction.{tables}
 use Rattle.machine.specs.Demand.{room-for, Fits, Meets}
 use Rattle.machine.proofs.Constructed.{tables-hold}
-use Rattle.machine.proofs.Demands.{passed, meets-run, meets-answer, zero-meets}
+use Rattle.machine.proofs.Firsts.{none-passes}
+use Rattle.machine.proofs.Demands.{meets-run, meets-answer, zero-meets}
 use Rattle.machine.proofs.Distinct.{one-number}
 use Rattle.machine.proofs.Sizes.{sizes}
-use Rattle.readback.specs.ReadBack.{long-form-mode, ReadAgain, word-limit, slices-after, with-blanks, SameStatements, RoundTrip}
+use Rattle.readback.specs.ReadBack.{long-form-mode, ReadAgain, slices-after, with-blanks, SameStatements, RoundTrip}
 use Rattle.readback.proofs.Tables.{none-bad}
 use Rattle.readback.proofs.ReadBack.{written-form, read-again}
 use Rattle.readback.proofs.Kept.{Kept}
@@ -59,7 +60,7 @@ again-fits : (s : Slices) (r : ReadAgain s) → Fits (room-for (length (long-for
 again-fits s r =
     let m = r .memory in
     let text = long-form s in
-    let lent : Lent = record { work = work-size; rows = 5 * length (m .rows); terms = 5 * length (m .terms); store = store-size (m .terms) } in
+    let lent : Lent = lends work-size (row-size * length (m .rows)) (term-size * length (m .terms)) (store-size (m .terms)) in
     let fits : Fits (room-of lent) m = record { rows = omega arith; terms = omega arith; store = omega arith } in
     let e = r .answer lent (omega arith) fits in
     let x = zero-meets text long-form-mode [] lent (ap (λ (a : Answer). a .number) e) in
@@ -78,16 +79,14 @@ module _ (doc : Text) (mode : ℕ) (base : Text) (lent : Lent) (x : Meets doc mo
   -- 1 and 3 do not apply.
   checked : (length doc ≤ document-limit) × (bad-base base ≡ false)
   checked =
-      let (a, f) = passed 1 (ltb document-limit (length doc)) (drop 1 (first-checks doc mode base lent)) (x .usable) in
-      let (b, g) = passed 2 (not (leb mode 1)) (drop 2 (first-checks doc mode base lent)) f in
-      let (c, h) = passed 3 (bad-base base) (drop 3 (first-checks doc mode base lent)) g in
+      let (a, (b, (c, d))) = none-passes (first-checks doc mode base lent) (x .usable) in
       (ltb-false document-limit (length doc) a, c)
 
   start-stays : Stays (statement [], start-memory base)
   start-stays =
       record { kept = record { terms = tt; rows = tt; graph = inl refl; same = refl }; open-now = tt; declared = record { base = base-absolute base (checked .1); namespaces = tt } }
 
-  pub made-kept : Kept (made .environment) made
+  pub made-kept : Kept for-long-form (made .environment) made
   made-kept =
       stays-run (mode-of mode) (room-of lent) (length doc) (lexemes doc) (start-state base) made (all-lexed doc (x .utf8)) start-stays
       (meets-run doc mode base lent (room-of lent) x (x .room))
@@ -96,8 +95,8 @@ module _ (doc : Text) (mode : ℕ) (base : Text) (lent : Lent) (x : Meets doc mo
   abbrev made-slices : List ℕ → List ℕ → Text → Slices
   made-slices rows terms store = slices-after (success (length doc) made) rows terms store
 
-  made-usable : (rows terms : List ℕ) (store : Text) → usable (made-slices rows terms store) ≡ true
-  made-usable rows terms store = laid-usable (made .terms) (made .rows) _ _ _ (made-kept .terms) (made-kept .rows)
+  made-usable : (rows terms : List ℕ) (store : Text) → usable for-long-form (made-slices rows terms store) ≡ true
+  made-usable rows terms store = laid-usable (made .terms) (made .rows) _ _ _ for-long-form (made-kept .terms) (made-kept .rows)
 
   -- Few enough for 32-bit numbers.
   few : length (made .terms) < word-limit
@@ -116,16 +115,16 @@ module _ (doc : Text) (mode : ℕ) (base : Text) (lent : Lent) (x : Meets doc mo
         rename = new-label (made .terms);
         apart = labels-differ (made .terms) few;
         same =
-            r .same ∙ held-same (made .terms) (made .rows) _ _ _ (made-kept .terms) (made-kept .rows) (one-number doc mode base lent x)
+            r .same ∙ held-same for-long-form (made .terms) (made .rows) _ _ _ (made-kept .terms) (made-kept .rows) (one-number doc mode base lent x)
             ∙ ap (λ (qs : List Quad). map (with-blanks (new-label (made .terms))) qs) (tables-hold (mode-of mode) (x .derivation .0) base);
       }
 
 -- The writer's number for usable tables.
-not-eighteen : (s : Slices) (out : Text) → usable s ≡ true → write s out .number ≡ 18 → ⊥
+not-eighteen : (s : Slices) (out : Text) → usable for-long-form s ≡ true → write s out .number ≡ 18 → ⊥
 unfolding write
 not-eighteen s out u e = by (ltb (length out) (length (long-form s))) (λ f. let g : _≡_ {A = ℕ} 17 18 = rw (u, f) at e in omega arith) (λ f. let g : _≡_ {A = ℕ} 0 18 = rw (u, f) at e in omega arith)
 
-zero-written : (s : Slices) (out : Text) → usable s ≡ true → length (long-form s) ≤ length out → write s out .number ≡ 0
+zero-written : (s : Slices) (out : Text) → usable for-long-form s ≡ true → length (long-form s) ≤ length out → write s out .number ≡ 0
 unfolding write
 zero-written s out u l = rw (u, le-ltb (length out) (length (long-form s)) l)
 
@@ -137,8 +136,8 @@ module _ (doc : Text) (mode : ℕ) (base : Text) (lent : Lent) (e : read doc mod
   answered = ap (λ (a : Answer). slices-after a rows terms store) (meets-answer doc mode base lent meets)
 
   -- Whatever stood in the lent slices, what the reader leaves there when it accepts is usable.
-  pub read-usable : usable (slices-after (read doc mode base lent) rows terms store) ≡ true
-  read-usable = ap usable answered ∙ made-usable doc mode base lent meets rows terms store
+  pub read-usable : usable for-long-form (slices-after (read doc mode base lent) rows terms store) ≡ true
+  read-usable = ap (usable for-long-form) answered ∙ made-usable doc mode base lent meets rows terms store
 
   -- Demand 2's second sentence, over documents.
   pub written-again : RoundTrip doc mode base (slices-after (read doc mode base lent) rows terms store)

@@ -4,7 +4,7 @@ use mathlib.Core.Logic.{inl, inr}
 use mathlib.Core.Bool.{Bool, true, false, _&&_}
 use mathlib.Core.List.{List, [], _∷_, _++_}
 use mathlib.Core.Option.{none, some}
-use Prim.Native.Nat.{ℕ, _+_}
+use Prim.Native.Nat.{ℕ}
 use lib.Dec.{T, leb, leb→le}
 use lib.ListN.{length}
 use Rattle.text.specs.Text.{Text, is-none}
@@ -18,7 +18,7 @@ use Rattle.grammar.specs.Productions.{Mode, trig, turtle}
 use Rattle.environment.specs.Environment.{Environment}
 use Rattle.dataset.specs.Terms.{label, bracket as bracket-node, cell, Term, iri, blank, tagged, rdf-type, rdf-first, rdf-rest, rdf-nil, xsd-string, xsd-integer, xsd-decimal, xsd-double, xsd-boolean}
 use Rattle.dataset.specs.Constructors.{string-text, tag, node-label, iri-of}
-use Rattle.table.specs.Usable.{is-tag}
+use Rattle.table.specs.Usable.{is-tag, for-long-form}
 use Rattle.table.specs.LongForm.{computing}
 use Rattle.table.proofs.Numbers.{not-none}
 use Rattle.machine.specs.Memory.{Write, return, _>>=_, _>>_, done, term, new-term, enter}
@@ -35,48 +35,48 @@ use Rattle.readback.proofs.Kept.{More, more-both, Has, any, is-iri, is-
 abbrev supplied : Text → Bool
 supplied s = has-scheme s && leb (length s) iri-limit && is-none (first-bad s)
 
-supplied-good : (s : Text) → T (supplied s) → GoodIri s
+supplied-good : (s : Text) → T (supplied s) → GoodIri for-long-form s
 supplied-good s h =
     let a = and-0 (has-scheme s && leb (length s) iri-limit) (is-none (first-bad s)) h in
     record {
-      scheme = is-true (has-scheme s) (and-0 (has-scheme s) (leb (length s) iri-limit) a);
+      taken = is-true (has-scheme s) (and-0 (has-scheme s) (leb (length s) iri-limit) a);
       short = leb→le (length s) iri-limit (and-1 (has-scheme s) (leb (length s) iri-limit) a);
       utf8 = none-bad (first-bad s) (is-true (is-none (first-bad s)) (and-1 (has-scheme s && leb (length s) iri-limit) (is-none (first-bad s)) h));
     }
 
-type-good : GoodIri rdf-type
+type-good : GoodIri for-long-form rdf-type
 unfolding computing
 type-good = supplied-good rdf-type tt
 
-first-good : GoodIri rdf-first
+first-good : GoodIri for-long-form rdf-first
 unfolding computing
 first-good = supplied-good rdf-first tt
 
-rest-good : GoodIri rdf-rest
+rest-good : GoodIri for-long-form rdf-rest
 unfolding computing
 rest-good = supplied-good rdf-rest tt
 
-nil-good : GoodIri rdf-nil
+nil-good : GoodIri for-long-form rdf-nil
 unfolding computing
 nil-good = supplied-good rdf-nil tt
 
-string-good : GoodIri xsd-string
+string-good : GoodIri for-long-form xsd-string
 unfolding computing
 string-good = supplied-good xsd-string tt
 
-integer-good : GoodIri xsd-integer
+integer-good : GoodIri for-long-form xsd-integer
 unfolding computing
 integer-good = supplied-good xsd-integer tt
 
-decimal-good : GoodIri xsd-decimal
+decimal-good : GoodIri for-long-form xsd-decimal
 unfolding computing
 decimal-good = supplied-good xsd-decimal tt
 
-double-good : GoodIri xsd-double
+double-good : GoodIri for-long-form xsd-double
 unfolding computing
 double-good = supplied-good xsd-double tt
 
-boolean-good : GoodIri xsd-boolean
+boolean-good : GoodIri for-long-form xsd-boolean
 unfolding computing
 boolean-good = supplied-good xsd-boolean tt
 
@@ -107,24 +107,24 @@ cells-extended (cells a b) h r = (h .0, r)
 
 module _ {e : Environment} where
   -- A new blank node without a label.
-  safe-bracket : {ts : List Term} (at : ℕ) → Safe e ts (Has is-resource) (new-term (blank (bracket-node at)))
+  safe-bracket : {ts : List Term} (at : ℕ) → Safe for-long-form e ts (Has is-resource) (new-term (blank (bracket-node at)))
   unfolding computing
   safe-bracket at = safe-as (safe-new (blank (bracket-node at)) (λ us o. refl)) (λ us n o k. record { it = blank (bracket-node at); known = k; passes = tt })
 
-  safe-cell : {ts : List Term} (at : ℕ) → Safe e ts (Has is-resource) (new-term (blank (cell at)))
+  safe-cell : {ts : List Term} (at : ℕ) → Safe for-long-form e ts (Has is-resource) (new-term (blank (cell at)))
   unfolding computing
   safe-cell at = safe-as (safe-new (blank (cell at)) (λ us o. refl)) (λ us n o k. record { it = blank (cell at); known = k; passes = tt })
 
-  safe-label : {ts : List Term} (s : Text) → first-bad s ≡ none → Safe e ts (Has is-resource) (term (blank (label s)))
+  safe-label : {ts : List Term} (s : Text) → first-bad s ≡ none → Safe for-long-form e ts (Has is-resource) (term (blank (label s)))
   safe-label s u = safe-as (safe-term (blank (label s)) (λ us o. u)) (λ us n o q. has-found (blank (label s)) tt q)
 
-  safe-hold : {ts : List Term} (q : Place) (n at : ℕ) → PlaceFine ts q → Has any ts n → Safe e ts Nothing (hold q n at)
+  safe-hold : {ts : List Term} (q : Place) (n at : ℕ) → PlaceFine ts q → Has any ts n → Safe for-long-form e ts Nothing (hold q n at)
   safe-hold top n at h k = safe-return done (λ us o. tt)
   safe-hold (subject-before x) n at h k = safe-return done (λ us o. tt)
   safe-hold (object-of s p) n at h k = safe-row s p n at (h .0) (h .1) k
   safe-hold (element-of c) n at h k = safe-bind (safe-iri rdf-first first-good) (λ us f o g. safe-row c f n at (has-more o h) g (has-more o k))
 
-  safe-new-cell : {ts : List Term} (q : Place) (opened : ℕ) (cs : Cells) (at : ℕ) → PlaceFine ts q → CellsFine ts cs → Safe e ts (Has is-resource) (new-cell q opened cs at)
+  safe-new-cell : {ts : List Term} (q : Place) (opened : ℕ) (cs : Cells) (at : ℕ) → PlaceFine ts q → CellsFine ts cs → Safe for-long-form e ts (Has is-resource) (new-cell q opened cs at)
   safe-new-cell q opened no-cell at h k =
       safe-bind (safe-cell at) (λ us c o r. safe-then (safe-hold q c opened (place-more q o h) (has-any r)) (λ vs p. safe-return c (λ ws x. has-more (more-both p x) r)))
   safe-new-cell q opened (cells a b) at h k =
@@ -134,7 +134,7 @@ module _ {e : Environment} where
       (λ vs n p g.
       safe-then (safe-row b n c at (has-more (more-both o p) (k .1)) g (has-any (has-more p r))) (λ ws x. safe-return c (λ xs y. has-more (more-both p (more-both x y)) r))))
 
-  safe-end-list : {ts : List Term} (q : Place) (opened : ℕ) (cs : Cells) (at : ℕ) → PlaceFine ts q → CellsFine ts cs → Safe e ts (Has is-resource) (end-list q opened cs at)
+  safe-end-list : {ts : List Term} (q : Place) (opened : ℕ) (cs : Cells) (at : ℕ) → PlaceFine ts q → CellsFine ts cs → Safe for-long-form e ts (Has is-resource) (end-list q opened cs at)
   safe-end-list q opened no-cell at h k =
       safe-bind (safe-iri rdf-nil nil-good)
       (λ us n o g. safe-then (safe-hold q n opened (place-more q o h) (has-any g)) (λ vs p. safe-return n (λ ws x. has-more (more-both p x) (has-resource g))))
@@ -218,14 +218,14 @@ OpeningFine ts o = PlaceFine ts (o .place) × FramesFine ts (o .after)
 -- What a token says, where e is in force.
 pub record Told (e : Environment) (t : Token) : Type 0 where
   pub text : first-bad (t .text) ≡ none
-  pub iri : among iris (t .kind) ≡ true → GoodIri (iri-of e t)
+  pub iri : among iris (t .kind) ≡ true → GoodIri for-long-form (iri-of e t)
   pub string : among strings (t .kind) ≡ true → first-bad (string-text t) ≡ none
   pub label : among («BLANK_NODE_LABEL» ∷ []) (t .kind) ≡ true → first-bad (node-label t) ≡ none
   pub tag : among (LANGTAG ∷ []) (t .kind) ≡ true → is-tag (tag t) ≡ true
 
 pub data Safes (t : Token) (e : Environment) (ts : List Term) : List (Rule (List Frame)) → Type 0 where
   no-rule : Safes t e ts []
-  rule : {ks : List Kind} {w : Write (List Frame)} {rs : List (Rule (List Frame))} → (among ks (t .kind) ≡ true → Safe e ts FramesFine w) → Safes t e ts rs → Safes t e ts ((ks ⇒ w) ∷ rs)
+  rule : {ks : List Kind} {w : Write (List Frame)} {rs : List (Rule (List Frame))} → (among ks (t .kind) ≡ true → Safe for-long-form e ts FramesFine w) → Safes t e ts rs → Safes t e ts ((ks ⇒ w) ∷ rs)
 
 safes-append : {t : Token} {e : Environment} {ts : List Term} {rs us : List (Rule (List Frame))} → Safes t e ts rs → Safes t e ts us → Safes t e ts (rs ++ us)
 safes-append no-rule y = y
@@ -240,8 +240,8 @@ module _ (t : Token) (tied : Bool) (e : Environment) (ts : List Term) (told : To
   enters g fs h f r = rule (λ k. safe-then (safe-enter g h) (λ us o. safe-return fs (λ vs p. frames-more fs (more-both o p) f))) r
 
   -- What writes one term.
-  one : {p : Term → Bool} {w : Write ℕ} (after : ℕ → List Frame) → Safe e ts (Has p) w → ((us : List Term) (n : ℕ) → More ts us → Has p us n → FramesFine us (after n))
-      → Safe e ts FramesFine (w >>= λ n. return (after n))
+  one : {p : Term → Bool} {w : Write ℕ} (after : ℕ → List Frame) → Safe for-long-form e ts (Has p) w → ((us : List Term) (n : ℕ) → More ts us → Has p us n → FramesFine us (after n))
+      → Safe for-long-form e ts FramesFine (w >>= λ n. return (after n))
   one after x f = safe-bind x (λ us n o h. safe-return (after n) (λ vs p. f vs n (more-both o p) (has-more p h)))
 
   safe-end : (x : Ending) → Safes t e ts (end-rules t tied x)
@@ -263,8 +263,8 @@ module _ (t : Token) (tied : Bool) (e : Environment) (ts : List Term) (told : To
       (rule (λ k. one (λ n. bracket q n ∷ []) (safe-bracket (t .start)) (λ us n o r. ((place-more q o h, r), tt)))
       (opens (list (list-place q) (t .start) no-cell ∷ []) ((list-after ts q h, tt), tt) no-rule)))
 
-  module _ {begin : Write Opening} (b : Safe e ts OpeningFine begin) where
-    safe-simple : {node : Write ℕ} → ((us : List Term) → Safe e us (Has any) node) → Safe e ts FramesFine (simple t tied begin node)
+  module _ {begin : Write Opening} (b : Safe for-long-form e ts OpeningFine begin) where
+    safe-simple : {node : Write ℕ} → ((us : List Term) → Safe for-long-form e us (Has any) node) → Safe for-long-form e ts FramesFine (simple t tied begin node)
     safe-simple x =
         safe-bind b
         (λ us o p h.
@@ -273,10 +273,10 @@ module _ (t : Token) (tied : Bool) (e : Environment) (ts : List Term) (told : To
         safe-then (safe-hold (o .place) n (t .start) (place-more (o .place) q (h .0)) k)
         (λ ws r. safe-return (o .after) (λ xs s. frames-more (o .after) (more-both q (more-both r s)) (h .1)))))
 
-    any-of : {p : Term → Bool} {ts : List Term} {w : Write ℕ} → Safe e ts (Has p) w → Safe e ts (Has any) w
+    any-of : {p : Term → Bool} {ts : List Term} {w : Write ℕ} → Safe for-long-form e ts (Has p) w → Safe for-long-form e ts (Has any) w
     any-of x = safe-as x (λ us n o h. has-any h)
 
-    safe-string : (x : Bool) → first-bad (string-text t) ≡ none → Safe e ts FramesFine (string t tied begin x)
+    safe-string : (x : Bool) → first-bad (string-text t) ≡ none → Safe for-long-form e ts FramesFine (string t tied begin x)
     safe-string true u =
         safe-bind b
         (λ us o p h.
@@ -347,11 +347,11 @@ OpenFine ts (directive d) = Unit {0}
 OpenFine ts (statement fs) = FramesFine ts fs
 
 pub found-safe : (t : Token) (tied : Bool) {e : Environment} {ts : List Term} {rs : List (Rule (List Frame))} (K : List Frame) → FramesFine ts K → Safes t e ts rs → (w : Write Open)
-    → find-rule (t .kind) (above t tied K rs) ≡ some w → Safe e ts OpenFine w
+    → find-rule (t .kind) (above t tied K rs) ≡ some w → Safe for-long-form e ts OpenFine w
 found-safe t tied K h no-rule w x = not-none x
 found-safe t tied {e} {ts} K h (rule {ks = ks} f r) w x =
     first-or-later (among ks (t .kind)) x
     (λ p y.
-    subst (λ u. Safe e ts OpenFine u) y
+    subst (λ u. Safe for-long-form e ts OpenFine u) y
     (safe-bind (f p) (λ us fs o k. safe-return (statement (fs ++ K)) (λ vs q. frames-append vs fs K (frames-more fs q k) (frames-more K (more-both o q) h)))))
     (λ z. found-safe t tied K h r w z)

@@ -6,7 +6,6 @@ use mathlib.Core.List.{List, [], _∷_}
 use mathlib.Core.Option.{Option, none, some}
 use Prim.Native.Nat.{ℕ}
 use native.Mathlib.Omega.{arith}
-use lib.ListN.{drop}
 use Rattle.text.specs.Text.{cond}
 use Rattle.token.specs.Kind.{among, IRIREF, «PNAME_NS», at-prefix, at-base, PREFIX, BASE, dot}
 use Rattle.token.specs.Tokens.{Token, Lexeme, token, unreadable, tokens-of}
@@ -14,13 +13,14 @@ use Rattle.grammar.specs.Productions.{Mode}
 use Rattle.environment.specs.Environment.{Environment}
 use Rattle.dataset.specs.Constructors.{iri-of, nothing, awaiting}
 use Rattle.table.proofs.Numbers.{not-none}
-use Rattle.machine.specs.Memory.{Memory, Write}
+use Rattle.machine.specs.Memory.{Memory, with-environment, Write}
 use Rattle.machine.specs.Frame.{Directive, prefix-name, namespace-of, new-base, last-dot, Open, directive, statement}
-use Rattle.machine.specs.Refusals.{no-character, undeclared, no-base, too-long}
+use Rattle.machine.specs.Refusals.{undeclared, no-base, too-long}
 use Rattle.machine.specs.Rules.{find-rule, directive-rules, rules}
-use Rattle.machine.specs.Step.{Room, State, first-refusal, awaited-by, in-force-now, obeyed, tests, answer, step, tied-to, Outcome, accepted, refused, at-end, onward, run}
+use Rattle.machine.specs.Step.{Room, State, first-refusal, awaited-by, obeyed, tests, answer, step, tied-to, Outcome, accepted, refused, at-end, onward, run}
 use Rattle.machine.proofs.Made.{first-or-later}
-use Rattle.machine.proofs.Demands.{passed}
+use Rattle.machine.proofs.Firsts.{own-and-room, no-rule}
+use Rattle.table.specs.Usable.{for-long-form}
 use Rattle.readback.proofs.Kept.{more-same, Kept, Safe}
 use Rattle.readback.proofs.Rules.{Told, safe-frame, safe-statement, OpenFine, found-safe}
 use Rattle.readback.proofs.Iris.{Absolute, Declared, bound-absolute, Lexed, AllLexed, iriref-absolute, told}
@@ -29,12 +29,12 @@ use Rattle.readback.proofs.Iris.{Absolute, Declared, bound-absolute, Le
 
 -- What is open, and the memory.
 pub record Stays (r : Open × Memory) : Type 0 where
-  pub kept : Kept (r .1 .environment) (r .1)
+  pub kept : Kept for-long-form (r .1 .environment) (r .1)
   pub open-now : OpenFine (r .1 .terms) (r .0)
   pub declared : Declared (r .1 .environment)
 
-module _ (t : Token) (tied : Bool) (m : Memory) (k : Kept (m .environment) m) (d : Declared (m .environment)) where
-  stays-safe : {w : Write Open} → Safe (m .environment) (m .terms) OpenFine w → Stays (w m)
+module _ (t : Token) (tied : Bool) (m : Memory) (k : Kept for-long-form (m .environment) m) (d : Declared (m .environment)) where
+  stays-safe : {w : Write Open} → Safe for-long-form (m .environment) (m .terms) OpenFine w → Stays (w m)
   stays-safe x =
       let r = x .run m (more-same (m .terms)) k in
       let c = r .kept in
@@ -45,7 +45,7 @@ module _ (t : Token) (tied : Bool) (m : Memory) (k : Kept (m .environment) m) (d
       }
 
   -- A directive leaves rows and terms.
-  stays-with : (o : Open) (e : Environment) → Declared e → OpenFine (m .terms) o → Stays (o, record { environment = e; graph = m .graph; rows = m .rows; terms = m .terms })
+  stays-with : (o : Open) (e : Environment) → Declared e → OpenFine (m .terms) o → Stays (o, with-environment e m)
   stays-with o e f h = record { kept = record { terms = k .terms; rows = k .rows; graph = k .graph; same = refl }; open-now = h; declared = f }
 
   stays-still : {v w : Write Open} → Stays (v m) → v ≡ w → Stays (w m)
@@ -104,23 +104,21 @@ at-last (statement (f ∷ k)) n m M e = refused-not e
 module _ (mode : Mode) (room : Room) (n : ℕ) where
   stays-step : (s : State) (t : Token) (tied : Bool) (r : Option (Write Open)) → find-rule (t .kind) (rules t tied mode (s .open-now)) ≡ r → Lexed t → Stays (s .open-now, s .memory)
       → first-refusal (tests room s t r (obeyed r t s)) ≡ none → Stays (obeyed r t s .open-now, obeyed r t s .memory)
-  stays-step s t tied none e l x f = let y = passed 7 (no-character t) (drop 1 (tests room s t none s)) f in not-none (sym (y .1))
+  stays-step s t tied none e l x f = no-rule room s t f
   stays-step s t tied (some w) e l x f =
       let m = s .memory in
-      let ts = tests room s t (some w) (obeyed (some w) t s) in
-      let (c, f₁) = passed 7 (no-character t) (drop 1 ts) f in
-      let (u, f₂) = passed 9 (undeclared (in-force-now s) t) (drop 3 ts) f₁ in
-      let (b, f₃) = passed 10 (no-base (in-force-now s) t) (drop 4 ts) f₂ in
-      let (i, f₄) = passed 11 (too-long (in-force-now s) t) (drop 5 ts) f₃ in
+      let (own, (force, fits)) = own-and-room room s t w (obeyed (some w) t s) .0 f in
+      let c = own .0 in
+      let (u, (b, (i, rest))) = force in
       stays-rule t tied m (x .kept) (x .declared) mode (s .open-now) w (x .open-now)
       (λ a.
       told (m .environment) t (x .declared) l c (ap (λ z. undeclared (awaiting z (m .environment)) t) (sym a) ∙ u) (ap (λ z. no-base (awaiting z (m .environment)) t) (sym a) ∙ b)
       (ap (λ z. too-long (awaiting z (m .environment)) t) (sym a) ∙ i))
       (λ k. iriref-absolute (m .environment) t (x .declared) l c (awaited-by (s .open-now)) b k) e
 
-  pub stays-run : (ls : List Lexeme) (s : State) (M : Memory) → AllLexed (tokens-of ls) → Stays (s .open-now, s .memory) → run mode room n ls s ≡ accepted M → Kept (M .environment) M
+  pub stays-run : (ls : List Lexeme) (s : State) (M : Memory) → AllLexed (tokens-of ls) → Stays (s .open-now, s .memory) → run mode room n ls s ≡ accepted M → Kept for-long-form (M .environment) M
   unfolding run step tokens-of
-  stays-run [] s M l x e = subst (λ (m : Memory). Kept (m .environment) m) (at-last (s .open-now) n (s .memory) M e) (x .kept)
+  stays-run [] s M l x e = subst (λ (m : Memory). Kept for-long-form (m .environment) m) (at-last (s .open-now) n (s .memory) M e) (x .kept)
   stays-run (unreadable p ∷ ls) s M l x e = refused-not e
   stays-run (token t ∷ ls) s M l x e =
       let r = find-rule (t .kind) (rules t (tied-to ls) mode (s .open-now)) in

@@ -19,6 +19,7 @@ use Rattle.token.specs.Terminals.{token-at}
 use Rattle.token.specs.Tokens.{white-space}
 use Rattle.dataset.specs.Terms.{Term, iri, blank, literal, tagged, Triple, Quad, xsd-string}
 use Rattle.table.specs.LongForm.{escaped}
+use Rattle.table.specs.Usable.{for-long-form}
 use Rattle.readback.proofs.Cutting.{Part, printed, gap, points, tokens-at, begins-token, Cut}
 use Rattle.readback.proofs.Undone.{lows, Rule, iri-rule, string-rule, lows-scalars, scalars-append, escaped-scalars}
 use Rattle.readback.proofs.Printed.{marked, label-points, label-lows, label-token, iri-token, string-token, closed-token, dot-token}
@@ -78,7 +79,7 @@ marked-scalars : {f : ℕ → Text} (a b : ℕ) (cs : List ℕ) → Rule f → T
 marked-scalars {f} a b cs r p q s =
     scalars-append (a ∷ []) (escaped f cs ++ b ∷ []) (lows-scalars (a ∷ []) p) (scalars-append (escaped f cs) (b ∷ []) (escaped-scalars r cs s) (lows-scalars (b ∷ []) q))
 
-iri-sound : (s : Text) → GoodIri s → (ds : List ℕ) → SoundToken IRIREF (iri-points s) ds
+iri-sound : (s : Text) → GoodIri for-long-form s → (ds : List ℕ) → SoundToken IRIREF (iri-points s) ds
 iri-sound s g ds = record {
   begins = refl;
   front = iri-token (decode s) (decoded s (g .utf8)) ds;
@@ -103,7 +104,7 @@ module _ (rest : List Part) (r : Sound rest) where
   then-blank : Sound (gap 32 ∷ rest)
   then-blank = (blank-gap, r)
 
-  type-sound : (s d : Text) → first-bad s ≡ none → GoodIri d → Sound (string-part s ∷ (type-parts d ++ gap 32 ∷ rest))
+  type-sound : (s d : Text) → first-bad s ≡ none → GoodIri for-long-form d → Sound (string-part s ∷ (type-parts d ++ gap 32 ∷ rest))
   unfolding points
   type-sound s d v g =
       by (same-text d xsd-string) (λ e. rw e (string-sound s v 32 (points rest) refl, then-blank))
@@ -117,7 +118,7 @@ module _ (rest : List Part) (r : Sound rest) where
       after-carets = points (iri-part d ∷ gap 32 ∷ rest)
 
   -- A term and a blank.
-  term-sound : (t : Term) → Good t → Sound (term-parts t ++ gap 32 ∷ rest)
+  term-sound : (t : Term) → Good for-long-form t → Sound (term-parts t ++ gap 32 ∷ rest)
   unfolding points
   term-sound (iri s) g = (iri-sound s g (32 ∷ points rest), then-blank)
   term-sound (blank b) g =
@@ -127,7 +128,7 @@ module _ (rest : List Part) (r : Sound rest) where
       let u = tag-token t (g .1) in
       (string-sound s (g .0) 64 (t ++ 32 ∷ points rest) refl, (mild-sound LANGTAG (64 ∷ t) (32 ∷ points rest) refl (u .ascii-only) refl (u .token (points rest)), then-blank))
 
-module _ (t : Triple) (s : Good (t .subject)) (p : Good (t .predicate)) (o : Good (t .object)) where
+module _ (t : Triple) (s : Good for-long-form (t .subject)) (p : Good for-long-form (t .predicate)) (o : Good for-long-form (t .object)) where
   triple-sound : (d : ℕ) (rest : List Part) → (d ≡ 32) ⊎ (d ≡ 10) → Sound (gap d ∷ rest) → Sound (triple-parts t (gap d ∷ rest))
   unfolding points
   triple-sound d rest c r =
@@ -136,7 +137,7 @@ module _ (t : Triple) (s : Good (t .subject)) (p : Good (t .predicate)) (o : Goo
       let second = term-sound (term-parts (t .object) ++ gap 32 ∷ printed dot (46 ∷ []) ∷ gap d ∷ rest) third (t .predicate) p in
       term-sound (term-parts (t .predicate) ++ gap 32 ∷ (term-parts (t .object) ++ gap 32 ∷ printed dot (46 ∷ []) ∷ gap d ∷ rest)) second (t .subject) s
 
-  line-sound : (g : Option Term) → GoodGraph g → (rest : List Part) → Sound rest → Sound (line-parts g t rest)
+  line-sound : (g : Option Term) → GoodGraph for-long-form g → (rest : List Part) → Sound rest → Sound (line-parts g t rest)
   unfolding points
   line-sound none h rest r = triple-sound 10 rest (inr refl) (line-gap, r)
   line-sound (some g) h rest r =
@@ -146,12 +147,12 @@ module _ (t : Triple) (s : Good (t .subject)) (p : Good (t .predicate)) (o : Goo
       let after = gap 32 ∷ triple-parts t (gap 32 ∷ printed close-brace (125 ∷ []) ∷ gap 10 ∷ rest) in
       term-sound (printed open-brace (123 ∷ []) ∷ after)
       (mild-sound open-brace (123 ∷ []) (points after) refl tt refl (closed-token (kind-code open-brace) 123 [] (points after) refl refl refl), (blank-gap, inside))
-      g (resource-good g h)
+      g (resource-good for-long-form g h)
 
-pub parts-sound : (qs : List Quad) → GoodQuads qs → Sound (parts qs)
+pub parts-sound : (qs : List Quad) → GoodQuads for-long-form qs → Sound (parts qs)
 unfolding parts
 parts-sound [] g = tt
 parts-sound (q ∷ qs) g =
     let h = g .0 in
-    line-sound (q .triple) (resource-good (q .triple .subject) (h .subject)) (predicate-good (q .triple .predicate) (h .predicate)) (h .object) (q .graph) (h .graph)
+    line-sound (q .triple) (resource-good for-long-form (q .triple .subject) (h .subject)) (predicate-good for-long-form (q .triple .predicate) (h .predicate)) (h .object) (q .graph) (h .graph)
     (parts qs) (parts-sound qs (g .1))

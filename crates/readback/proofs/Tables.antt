@@ -1,4 +1,4 @@
--- Usable tables hold statements that the writer takes, and their long form is the text of these.
+-- Tables that are usable for a writer hold statements that it takes; the long form of tables is the text of their statements.
 use mathlib.Core.Path.{_≡_, refl, subst, ap, ap₂, _∙_}
 use mathlib.Core.Logic.{⊎-elim}
 use mathlib.Core.Bool.{Bool, true, false, _&&_, _||_}
@@ -11,12 +11,12 @@ use lib.Dec.{eqb, leb, ltb, eqb·suc-zero}
 use lib.ListN.{drop, length-take}
 use Rattle.text.specs.Text.{Text, ascii, cond, is-none}
 use Rattle.text.proofs.Compare.{and-left, and-right}
+use Rattle.limits.specs.Limits.{iri-limit}
 use Rattle.utf8.specs.Utf8.{first-bad}
 use Rattle.utf8.proofs.Tests.{by, split, between-true}
-use Rattle.iri.specs.Iri.{has-scheme}
 use Rattle.dataset.specs.Terms.{numbered, Term, iri, blank, literal, tagged}
 use Rattle.table.specs.Layout.{Row, row-at, iri-kind, blank-kind, literal-kind, tagged-kind, Slices}
-use Rattle.table.specs.Usable.{each, is-tag, the, text, tag, inside, counts-fit, has-kind, good-iri, good-datatype, good-tag, good-term, present, resource, good-row, usable, term, graph, quad, quads-from, quads-held}
+use Rattle.table.specs.Usable.{each, Takes, the, text, tag, inside, counts-fit, has-kind, good-iri, good-datatype, good-tag, good-term, present, resource, good-row, usable, term, graph, quad, quads-from, quads-held}
 use Rattle.table.specs.LongForm.{term-form, triple-form, line, lines-from, long-form}
 use Rattle.readback.proofs.Forms.{GoodIri, Good, GoodPredicate, GoodResource, GoodGraph, GoodQuad, GoodQuads, form, triple-text, line-text, text-of}
 
@@ -92,20 +92,20 @@ pub none-bad : (o : Option ℕ) → is-none o ≡ true → o ≡ none
 none-bad none e = refl
 none-bad (some n) e = let z : _≡_ {A = ℕ} 0 1 = cc in absurd (omega arith)
 
-module _ (s : Slices) (u : usable s ≡ true) where
-  terms-good : (n : ℕ) → present s n ≡ true → good-term s n ≡ true
+module _ (v : Takes) (s : Slices) (u : usable v s ≡ true) where
+  terms-good : (n : ℕ) → present s n ≡ true → good-term v s n ≡ true
   unfolding usable
   terms-good n p =
       let b = between-true 1 (s .term-count) n p in
       let l = b .0 in
       let m = b .1 in
-      each-at (good-term s) (s .term-count) 1
-      (and-right (counts-fit s) (each (good-term s) 1 (s .term-count)) (and-left (counts-fit s && each (good-term s) 1 (s .term-count)) (each (λ i. good-row s (row-at (s .rows) i)) 0 (s .row-count)) u))
+      each-at (good-term v s) (s .term-count) 1
+      (and-right (counts-fit s) (each (good-term v s) 1 (s .term-count)) (and-left (counts-fit s && each (good-term v s) 1 (s .term-count)) (each (λ i. good-row s (row-at (s .rows) i)) 0 (s .row-count)) u))
       n l (omega arith)
 
-  module _ (n : ℕ) (g : good-term s n ≡ true) where
+  module _ (n : ℕ) (g : good-term v s n ≡ true) where
     abbrev kinds : Bool
-    kinds = kinds-good (good-iri s n) (good-datatype s n) (good-tag s n) (the s n .kind)
+    kinds = kinds-good (good-iri v s n) (good-datatype s n) (good-tag v s n) (the s n .kind)
 
     front : (inside s (the s n .start) (the s n .size) && is-none (first-bad (text s n))) ≡ true
     unfolding good-term
@@ -118,14 +118,14 @@ module _ (s : Slices) (u : usable s ≡ true) where
     unfolding good-term
     kinds-true = and-right (inside s (the s n .start) (the s n .size) && is-none (first-bad (text s n))) kinds g
 
-    iri-good : has-kind s iri-kind n ≡ true → GoodIri (text s n)
+    iri-good : has-kind s iri-kind n ≡ true → GoodIri v (text s n)
     iri-good h =
-        let e = kind-iri (good-iri s n) (good-datatype s n) (good-tag s n) (the s n .kind) kinds-true h in
-        let l = leb-true (the s n .size) 1024 (and-right (has-scheme (text s n)) (leb (the s n .size) 1024) e) in
+        let e = kind-iri (good-iri v s n) (good-datatype s n) (good-tag v s n) (the s n .kind) kinds-true h in
+        let l = leb-true (the s n .size) iri-limit (and-right (v .iri (text s n)) (leb (the s n .size) iri-limit) e) in
         let m = length-take (the s n .size) (drop (the s n .start) (s .store)) in
-        record { scheme = and-left (has-scheme (text s n)) (leb (the s n .size) 1024) e; short = omega arith; utf8 = text-utf8 }
+        record { taken = and-left (v .iri (text s n)) (leb (the s n .size) iri-limit) e; short = omega arith; utf8 = text-utf8 }
 
-  type-good : (n : ℕ) → present s n ≡ true → good-datatype s n ≡ true → GoodIri (text s (the s n .fourth))
+  type-good : (n : ℕ) → present s n ≡ true → good-datatype s n ≡ true → GoodIri v (text s (the s n .fourth))
   type-good n p e =
       let d = the s n .fourth in
       let f = and-left (leb 1 d && ltb d n) (has-kind s iri-kind d) e in
@@ -134,7 +134,7 @@ module _ (s : Slices) (u : usable s ≡ true) where
       let b = between-true 1 (s .term-count) n p .1 in
       iri-good d (terms-good d (simp (le-leb 1 d l, le-leb d (s .term-count) (omega arith)))) (and-right (leb 1 d && ltb d n) (has-kind s iri-kind d) e)
 
-  term-good : (n : ℕ) → present s n ≡ true → Good (term s n)
+  term-good : (n : ℕ) → present s n ≡ true → Good v (term s n)
   term-good n p =
       let g = terms-good n p in
       by (has-kind s iri-kind n) (λ a. rw a (iri-good n g a))
@@ -144,31 +144,31 @@ module _ (s : Slices) (u : usable s ≡ true) where
       by (has-kind s literal-kind n)
       (λ c.
       rw (a, b, c)
-      (text-utf8 n g, type-good n p (kind-literal (good-iri s n) (good-datatype s n) (good-tag s n) (the s n .kind) (kinds-true n g) c)))
+      (text-utf8 n g, type-good n p (kind-literal (good-iri v s n) (good-datatype s n) (good-tag v s n) (the s n .kind) (kinds-true n g) c)))
       (λ c.
       rw (a, b, c) (
         text-utf8 n g,
-        and-right (inside s (the s n .fourth) (the s n .fifth)) (is-tag (tag s n))
-            (kind-tagged (good-iri s n) (good-datatype s n) (good-tag s n) (the s n .kind) (kinds-true n g) a b c),
+        and-right (inside s (the s n .fourth) (the s n .fifth)) (v .tag (tag s n))
+            (kind-tagged (good-iri v s n) (good-datatype s n) (good-tag v s n) (the s n .kind) (kinds-true n g) a b c),
       ))))
 
-  predicate-good : (n : ℕ) → (present s n && has-kind s iri-kind n) ≡ true → GoodPredicate (term s n)
+  predicate-good : (n : ℕ) → (present s n && has-kind s iri-kind n) ≡ true → GoodPredicate v (term s n)
   predicate-good n e =
       let p = and-left (present s n) (has-kind s iri-kind n) e in
       let a = and-right (present s n) (has-kind s iri-kind n) e in
       rw a (iri-good n (terms-good n p) a)
 
-  resource-good : (n : ℕ) → resource s n ≡ true → GoodResource (term s n)
+  resource-good : (n : ℕ) → resource s n ≡ true → GoodResource v (term s n)
   resource-good n e =
       let p = and-left (present s n) (has-kind s iri-kind n || has-kind s blank-kind n) e in
       let k = and-right (present s n) (has-kind s iri-kind n || has-kind s blank-kind n) e in
       by (has-kind s iri-kind n) (λ a. rw a (iri-good n (terms-good n p) a)) (λ a. let b : has-kind s blank-kind n ≡ true = rw a at k in rw (a, b) tt)
 
-  graph-good : (n : ℕ) → (eqb n 0 || resource s n) ≡ true → GoodGraph (graph s n)
+  graph-good : (n : ℕ) → (eqb n 0 || resource s n) ≡ true → GoodGraph v (graph s n)
   graph-good zero e = tt
   graph-good (suc n) e = resource-good (suc n) (rw (eqb·suc-zero n) at e)
 
-  row-good : (r : Row) → good-row s r ≡ true → GoodQuad (quad s r)
+  row-good : (r : Row) → good-row s r ≡ true → GoodQuad v (quad s r)
   unfolding good-row
   row-good r e =
       let P = present s (r .predicate) && has-kind s iri-kind (r .predicate) in
@@ -184,13 +184,13 @@ module _ (s : Slices) (u : usable s ≡ true) where
         object = term-good (r .object) (and-right (G && S && P) O e);
       }
 
-  rows-good : (n from : ℕ) → each (λ i. good-row s (row-at (s .rows) i)) from n ≡ true → GoodQuads (quads-from s from n)
+  rows-good : (n from : ℕ) → each (λ i. good-row s (row-at (s .rows) i)) from n ≡ true → GoodQuads v (quads-from s from n)
   unfolding each quads-from
   rows-good zero from e = tt
   rows-good (suc n) from e =
       let p : ℕ → Bool = λ i. good-row s (row-at (s .rows) i) in
       (row-good (row-at (s .rows) from) (and-left (p from) (each p (suc from) n) e), rows-good n (suc from) (and-right (p from) (each p (suc from) n) e))
 
-  pub held-good : GoodQuads (quads-held s)
+  pub held-good : GoodQuads v (quads-held s)
   unfolding usable quads-held
-  held-good = rows-good (s .row-count) 0 (and-right (counts-fit s && each (good-term s) 1 (s .term-count)) (each (λ i. good-row s (row-at (s .rows) i)) 0 (s .row-count)) u)
+  held-good = rows-good (s .row-count) 0 (and-right (counts-fit s && each (good-term v s) 1 (s .term-count)) (each (λ i. good-row s (row-at (s .rows) i)) 0 (s .row-count)) u)

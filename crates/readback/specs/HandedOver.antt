@@ -1,6 +1,6 @@
 -- "The statements handed over are those that the RDF 1.1 TriG and Turtle Recommendations construct": read off the words and bytes that a call leaves.
 use mathlib.Core.Path.{_≡_}
-use mathlib.Core.List.{List, map}
+use mathlib.Core.List.{map}
 use Prim.Native.Nat.{ℕ}
 use Rattle.text.specs.Text.{Text}
 use Rattle.grammar.specs.Ebnf.{leaves}

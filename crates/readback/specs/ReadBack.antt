@@ -3,7 +3,7 @@ use mathlib.Core.Path.{_≡_}
 use mathlib.Core.Bool.{true}
 use mathlib.Core.List.{List, [], _∷_, _++_, map}
 use mathlib.Core.Option.{Option, none, some}
-use Prim.Native.Nat.{ℕ, _+_, _≤_, _<_}
+use Prim.Native.Nat.{ℕ, _≤_, _<_}
 use lib.ListN.{length, take}
 use Rattle.text.specs.Text.{Text, ascii}
 use Rattle.limits.specs.Limits.{document-limit, work-size}
@@ -11,9 +11,9 @@ use Rattle.grammar.specs.Ebnf.{leaves}
 use Rattle.grammar.specs.Productions.{trig, production, kind-of, Derivation}
 use Rattle.dataset.specs.Terms.{Blank, label, bracket, cell, numbered, Term, iri, blank, literal, tagged, Quad}
 use Rattle.dataset.specs.Statements.{statements}
-use Rattle.table.specs.Layout.{Slices}
+use Rattle.table.specs.Layout.{word-limit, Slices}
 use Rattle.table.specs.Tables.{quads}
-use Rattle.table.specs.Usable.{usable, term, quads-held}
+use Rattle.table.specs.Usable.{for-long-form, usable, term, quads-held}
 use Rattle.table.specs.LongForm.{decimal, long-form, write}
 use Rattle.machine.specs.Memory.{Memory}
 use Rattle.machine.specs.Read.{Lent, contents, Answer, mode-of, room-of, success, read}
@@ -62,18 +62,12 @@ renamed-blank (numbered n) = label (label-of-number n)
 abbrev pub renamed-term : Term → Term
 renamed-term = with-blanks-term renamed-blank
 
-abbrev pub renamed-graph : Option Term → Option Term
-renamed-graph = with-blanks-graph renamed-blank
-
 abbrev pub renamed : Quad → Quad
 renamed = with-blanks renamed-blank
 
 -- ---- The statements
 
--- The words of a lent slice: "32-bit words".
-abbrev pub word-limit : ℕ
-word-limit = 4294967296
-
+-- The words of a lent slice.
 abbrev pub Words : List ℕ → Type 0
 Words [] = Unit {0}
 Words (w ∷ ws) = (w < word-limit) × Words ws
@@ -126,7 +120,7 @@ pub record SameStatements (doc : Text) (mode : ℕ) (base : Text) (text : Text) 
 -- The tables s, which reading the document left.
 pub record RoundTrip (doc : Text) (mode : ℕ) (base : Text) (s : Slices) : Type 0 where
   -- The writer never returns 18 for them, and 0 where the buffer holds the long form.
-  pub usable : usable s ≡ true
+  pub usable : usable for-long-form s ≡ true
   pub never : (out : Text) → write s out .number ≡ 18 → ⊥
   pub written : (out : Text) → length (long-form s) ≤ length out → write s out .number ≡ 0
   -- What it wrote, if it is no larger than a document may be, "read again, gives the same statements up to renaming of blank nodes".

@@ -1,20 +1,20 @@
 -- The answer by the checks 1 to 4, and by the first place that is not UTF-8.
 use mathlib.Core.Path.{_≡_, refl, sym, ap, subst, _∙_}
-use mathlib.Core.List.{[], _∷_}
 use mathlib.Core.Bool.{Bool, true, false, not}
 use mathlib.Core.Option.{Option, none, some}
 use Prim.Native.Nat.{ℕ, _-_, _≤_}
-use native.Mathlib.Omega.{arith}
 use borrow.Author.Tests.{ltb-false, leb-true}
-use lib.Dec.{leb, ltb}
-use lib.ListN.{length, take, drop, replicate}
+use lib.Dec.{leb}
+use lib.ListN.{length, take, drop}
 use Rattle.text.specs.Text.{Text}
 use Rattle.text.proofs.Compare.{contrary}
 use Rattle.limits.specs.Limits.{document-limit, work-size}
 use Rattle.utf8.specs.Utf8.{first-bad}
-use Rattle.machine.specs.Step.{_when_, first-refusal}
-use Rattle.machine.specs.Read.{Answer, untouched, bad-base, first-checks, read-tokens, read-utf8, read-checked, read}
-use Rattle.checks.specs.Checks.{number-of, lent-work}
+use Rattle.table.specs.Tables.{or-zero}
+use Rattle.machine.specs.Call.{first-refusal}
+use Rattle.machine.proofs.Firsts.{Passes, passes-none, zero-passes, number-some}
+use Rattle.machine.specs.Read.{Answer, untouched, first-checks, read-tokens, read-utf8, read-checked, read}
+use Rattle.checks.specs.Checks.{lent-work}
 use Rattle.environment.proofs.Directives.{whole}
 use Rattle.reader.specs.declared.Reading.{Reading}
 use Rattle.reader.specs.Reader.{LentSlices, lengths, Gives}
@@ -23,42 +23,31 @@ use Rattle.reader.specs.Stages.{Checked, Cleared}
 abbrev answer : ℕ → ℕ → Reading
 answer n p = record { number = n; position = p; rows = 0; terms = 0; store = 0 }
 
-some-number : (o : Option ℕ) (n : ℕ) → n ≡ number-of o → (n ≡ 0 → ⊥) → o ≡ some n
-some-number none n e z = absurd (z e)
-some-number (some k) n e z = ap some (sym e)
-
-all-pass : (p q r s : Bool) → number-of (first-refusal (1 when p ∷ 2 when q ∷ 3 when r ∷ 4 when s ∷ [])) ≡ 0 → (p ≡ false) × ((q ≡ false) × ((r ≡ false) × (s ≡ false)))
-all-pass true q r s e = absurd (omega arith)
-all-pass false true r s e = absurd (omega arith)
-all-pass false false true s e = absurd (omega arith)
-all-pass false false false true e = absurd (omega arith)
-all-pass false false false false e = (refl, (refl, (refl, refl)))
-
 not-false : (b : Bool) → not b ≡ false → b ≡ true
 not-false true e = refl
 not-false false e = contrary e
 
-module _ (doc base : Text) (mode n : ℕ) (s : LentSlices) (e : n ≡ number-of (first-refusal (first-checks doc mode base (lent-work (length (take (length (s .work) - 0) (drop 0 (s .work)))))))) where
-  seen : n ≡ number-of (first-refusal (first-checks doc mode base (lengths s)))
+module _ (doc base : Text) (mode n : ℕ) (s : LentSlices) (e : n ≡ or-zero (first-refusal (first-checks doc mode base (lent-work (length (take (length (s .work) - 0) (drop 0 (s .work)))))))) where
+  seen : n ≡ or-zero (first-refusal (first-checks doc mode base (lengths s)))
   seen = rw (whole (s .work)) at e
 
   pub check-refuses : (n ≡ 0 → ⊥) → Gives (read doc mode base (lengths s)) s s (answer n 0)
   unfolding read read-checked
   check-refuses z =
-      let is : read doc mode base (lengths s) ≡ untouched n = ap (λ (o : Option ℕ). read-checked o doc mode base (lengths s)) (some-number (first-refusal (first-checks doc mode base (lengths s))) n seen z) in
+      let is : read doc mode base (lengths s) ≡ untouched n = ap (λ (o : Option ℕ). read-checked o doc mode base (lengths s)) (number-some (first-checks doc mode base (lengths s)) (λ y. z (seen ∙ y)) ∙ ap some (sym seen)) in
       subst (λ (a : Answer). Gives a s s (answer n 0)) (sym is)
       (record { number = refl; position = refl; row-count = refl; term-count = refl; store-count = refl; work = refl; rows = refl; terms = refl; store = refl })
 
   module _ (z : n ≡ 0) where
-    tests : (ltb document-limit (length doc) ≡ false) × ((not (leb mode 1) ≡ false) × ((bad-base base ≡ false) × (ltb (length (s .work)) work-size ≡ false)))
-    tests = all-pass (ltb document-limit (length doc)) (not (leb mode 1)) (bad-base base) (ltb (length (s .work)) work-size) (sym seen ∙ z)
+    tests : Passes (first-checks doc mode base (lengths s))
+    tests = zero-passes (first-checks doc mode base (lengths s)) refl (sym seen ∙ z)
 
     pub checked : first-bad doc ≡ none → Checked doc base (s .work) × (mode ≤ 1)
     checked v = (
       record {
         size = ltb-false document-limit (length doc) (tests .0);
         good-base = tests .1 .1 .0;
-        room = ltb-false (length (s .work)) work-size (tests .1 .1 .1);
+        room = ltb-false (length (s .work)) work-size (tests .1 .1 .1 .0);
         utf8 = v;
       },
       leb-true mode 1 (not-false (leb mode 1) (tests .1 .0)),
@@ -66,7 +55,9 @@ module _ (doc base : Text) (mode n : ℕ) (s : LentSlices) (e : n ≡ number-of 
 
     past-checks : (o : Option ℕ) → first-bad doc ≡ o → read doc mode base (lengths s) ≡ read-utf8 o doc mode base (lengths s)
     unfolding read read-checked
-    past-checks o v = rw (tests .0, tests .1 .0, tests .1 .1 .0, tests .1 .1 .1) (ap (λ (q : Option ℕ). read-utf8 q doc mode base (lengths s)) v)
+    past-checks o v =
+        ap (λ (q : Option ℕ). read-checked q doc mode base (lengths s)) (passes-none (first-checks doc mode base (lengths s)) tests)
+        ∙ ap (λ (q : Option ℕ). read-utf8 q doc mode base (lengths s)) v
 
     pub valid : first-bad doc ≡ none → (s' : LentSlices) (r : Reading) → Gives (read-tokens doc mode base (lengths s)) s s' r → Gives (read doc mode base (lengths s)) s s' r
     unfolding read-utf8

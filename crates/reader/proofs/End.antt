@@ -1,7 +1,7 @@
 -- Where reading ends: what the lent-slices hold is what the machine's outcome says.
 use mathlib.Core.Path.{_≡_, sym, ap, subst, _∙_}
-use mathlib.Core.List.{List, [], _∷_, _++_}
-use Prim.Native.Nat.{ℕ, _+_, _*_}
+use mathlib.Core.List.{List, [], _++_}
+use Prim.Native.Nat.{ℕ, _*_}
 use native.Mathlib.Omega.{arith}
 use borrow.Author.Tests.{eqb-true, eqb-false}
 use lib.Dec.{eqb}
@@ -11,12 +11,13 @@ use Rattle.text.proofs.Compare.{by}
 use Rattle.zeroing.proofs.Zeros.{zeros}
 use Rattle.table.specs.Tables.{rows-words, terms-words, store-bytes}
 use Rattle.table.proofs.Store.{rows-length, bytes-length}
+use Rattle.table.specs.Layout.{row-size, term-size}
 use Rattle.terms.proofs.Words.{words-length}
 use Rattle.machine.specs.Memory.{Memory, start-memory}
 use Rattle.machine.specs.Frame.{statement}
 use Rattle.machine.specs.Step.{Outcome, accepted, refused}
 use Rattle.machine.specs.Read.{Answer, refusal, success, reported, mode-of, read-tokens}
-use Rattle.state.specs.Words.{at-word, rows-word, terms-word, used-word}
+use Rattle.state.specs.Words.{rows-word, terms-word, used-word, at-in}
 use Rattle.state.proofs.Counted.{counted-run}
 use Rattle.simulation.specs.Simulation.{Held, tables-of, Holding, goes}
 use Rattle.reader.specs.declared.Reading.{Reading}
@@ -29,7 +30,7 @@ use Rattle.reader.proofs.Start.{holds-start}
 in-front : (xs old new : List ℕ) (k : ℕ) → take k xs ≡ new → drop k xs ≡ drop k old → k ≡ length new → xs ≡ new ++ drop (length new) old
 in-front xs old new k e f g = sym (take-append-drop k xs) ∙ (rw (e, f, g))
 
-terms-length : (m : Memory) → length (terms-words (m .terms)) ≡ 5 * length (m .terms)
+terms-length : (m : Memory) → length (terms-words (m .terms)) ≡ term-size * length (m .terms)
 unfolding terms-words
 terms-length m = words-length (m .terms) 0 0 (m .terms)
 
@@ -61,14 +62,14 @@ module _ (doc base work : Text) (mode : ℕ) (a b : Held) (n : ℕ) (K : Checked
     store-count = W .store-count ∙ H .terms-held .keeps .used;
     work = zeros-for (after .work) (length (b .work .now)) (length work) (W .work) (R .same .work-length ∙ S .long);
     rows = W .rows
-        ∙ in-front (b .rows .now) (a .rows .now) (rows-words (m .rows)) (5 * getD (b .st) rows-word 0) (H .rows-held .words) (H .same-rows) (omega (arith, H .rows-held .size, rows-length (m .rows)));
+        ∙ in-front (b .rows .now) (a .rows .now) (rows-words (m .rows)) (row-size * getD (b .st) rows-word 0) (H .rows-held .words) (H .same-rows) (omega (arith, H .rows-held .size, rows-length (m .rows)));
     terms = W .terms
-        ∙ in-front (b .terms .now) (a .terms .now) (terms-words (m .terms)) (5 * getD (b .st) terms-word 0) (H .terms-held .keeps .words) (H .same-terms) (omega (arith, H .terms-held .keeps .count, terms-length m));
+        ∙ in-front (b .terms .now) (a .terms .now) (terms-words (m .terms)) (term-size * getD (b .st) terms-word 0) (H .terms-held .keeps .words) (H .same-terms) (omega (arith, H .terms-held .keeps .count, terms-length m));
     store = W .store
         ∙ in-front (b .store .now) (a .store .now) (store-bytes (m .terms)) (getD (b .st) used-word 0) (H .terms-held .keeps .bytes) (H .same-store) (H .terms-held .keeps .used ∙ sym (bytes-length (m .terms)));
   }
 
-  refuses : (n ≡ 0 → ⊥) → Gives (refusal n (getD (b .st) at-word 0)) before after r
+  refuses : (n ≡ 0 → ⊥) → Gives (refusal n (at-in (b .st))) before after r
   refuses e = let X = F .refused e in record {
     number = F .number;
     position = X .position;
@@ -90,4 +91,4 @@ module _ (doc base work : Text) (mode : ℕ) (a b : Held) (n : ℕ) (K : Checked
       let H : Holding (tables-of a) (start-memory base) a = holds-start a (K .good-base) S in
       by (eqb n 0)
       (λ q. let e : n ≡ 0 = eqb-true n 0 q in let G = R .on e (tables-of a) (start-memory base) H in answers (accepted (G .0)) (G .1 .1) (accepts e (G .0) (G .1 .0)))
-      (λ q. let e : n ≡ 0 → ⊥ = eqb-false n 0 q in answers (refused n (getD (b .st) at-word 0)) (R .stop e (tables-of a) (start-memory base) H) (refuses e))
+      (λ q. let e : n ≡ 0 → ⊥ = eqb-false n 0 q in answers (refused n (at-in (b .st))) (R .stop e (tables-of a) (start-memory base) H) (refuses e))

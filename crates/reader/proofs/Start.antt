@@ -11,7 +11,7 @@ use lib.Dec.{ltb}
 use lib.ListN.{length, getD, drop, replicate, length-replicate}
 use Rattle.text.specs.Text.{Text, empty, some-byte, is-none}
 use Rattle.text.proofs.Compare.{contrary}
-use Rattle.limits.specs.Limits.{document-limit, iri-limit}
+use Rattle.limits.specs.Limits.{document-limit, iri-limit, work-size}
 use Rattle.utf8.specs.Utf8.{first-bad}
 use Rattle.token.specs.Tokens.{lexemes}
 use Rattle.lexer.specs.Rest.{rest}
@@ -96,7 +96,7 @@ module _ {doc base work work₁ work₂ : Text} {st st₁ : List ℕ} {b : Bool}
         long = long;
         usable = record { room = omega (arith, long, K .room); words = Q .words ∙ set .usable .words };
         environment = in-force-words work₂ st₁ st₂ (λ k h. Q .beside k (inl (omega arith))) ∙ based;
-        index = set .beside .behind ∙ (ap (drop 35840) e ∙ (drop-zeros 35840 (length work) ∙ ap (λ (n : ℕ). zeros (n - 35840)) (sym long)));
+        index = set .beside .behind ∙ (ap (drop work-size) e ∙ (drop-zeros work-size (length work) ∙ ap (λ (n : ℕ). zeros (n - work-size)) (sym long)));
         rows = before rows-word (omega arith) (omega arith);
         terms = before terms-word (omega arith) (omega arith);
         used = before used-word (omega arith) (omega arith);
@@ -116,7 +116,7 @@ module _ {doc base old : Text} (h : Held) (good : bad-base base ≡ false) (S : 
     usable = S .usable;
     environment = S .environment;
     base = usable-base base good;
-    terms-held = rw (S .index) (holds-none (h .terms .now) (h .store .now) (length (h .work .now) - 35840) (counts-of (h .st)) (S .terms) (S .used) (S .blanks));
+    terms-held = rw (S .index) (holds-none (h .terms .now) (h .store .now) (length (h .work .now) - work-size) (counts-of (h .st)) (S .terms) (S .used) (S .blanks));
     rows-held = record { words = rw (S .rows); size = S .rows };
     graph = S .graph;
     graph-small = omega arith;

@@ -4,7 +4,7 @@ use mathlib.Core.List.{List}
 use Prim.Native.Nat.{ℕ}
 use lib.ListN.{length}
 use Rattle.text.specs.Text.{Text}
-use Rattle.machine.specs.Read.{Lent, Answer, contents, read}
+use Rattle.machine.specs.Read.{Lent, lends, Answer, contents, read}
 use Rattle.reader.specs.declared.Reading.{Reading}
 
 -- What the lent slices hold, rows and terms in words.
@@ -18,7 +18,7 @@ abbrev pub lent-slices : Text → List ℕ → List ℕ → Text → LentSlices
 lent-slices work rows terms store = record { work = work; rows = rows; terms = terms; store = store }
 
 abbrev pub lengths : LentSlices → Lent
-lengths s = record { work = length (s .work); rows = length (s .rows); terms = length (s .terms); store = length (s .store) }
+lengths s = lends (length (s .work)) (length (s .rows)) (length (s .terms)) (length (s .store))
 
 -- The call gives the answer a, and leaves in each slice what a says, by what it held before.
 pub record Gives (a : Answer) (old new : LentSlices) (r : Reading) : Type 0 where

@@ -12,7 +12,7 @@ use Rattle.token.specs.Tokens.{lexemes}
 use Rattle.environment.specs.Environment.{start-environment}
 use Rattle.environment.specs.Code.{environment-in, Usable}
 use Rattle.machine.specs.Read.{bad-base}
-use Rattle.state.specs.Words.{rows-word, terms-word, used-word, blanks-word, at-word, depth-word, graph-word}
+use Rattle.state.specs.Words.{rows-word, terms-word, used-word, blanks-word, at-in, depth-in, graph-in}
 use Rattle.state.specs.Cursor.{Cursor, remaining}
 use Rattle.reader.specs.declared.Reading.{Reading}
 use Rattle.reader.specs.Reader.{LentSlices}
@@ -34,8 +34,8 @@ pub record Started (doc base old work : Text) (st : List ℕ) : Type 0 where
   pub terms : getD st terms-word 0 ≡ 0
   pub used : getD st used-word 0 ≡ 0
   pub blanks : getD st blanks-word 0 ≡ 0
-  pub depth : getD st depth-word 0 ≡ 0
-  pub graph : getD st graph-word 0 ≡ 0
+  pub depth : depth-in st ≡ 0
+  pub graph : graph-in st ≡ 0
   pub cursor : Cursor doc st
   pub tokens : lexemes doc ≡ remaining doc st
 
@@ -68,4 +68,4 @@ pub record Refused (at : ℕ) (old new : LentSlices) (r : Reading) : Type 0 wher
 pub record Finishes (size n : ℕ) (st : List ℕ) (old new : LentSlices) (r : Reading) : Type 0 where
   pub number : r .number ≡ n
   pub accepted : n ≡ 0 → Accepted size st old new r
-  pub refused : (n ≡ 0 → ⊥) → Refused (getD st at-word 0) old new r
+  pub refused : (n ≡ 0 → ⊥) → Refused (at-in st) old new r

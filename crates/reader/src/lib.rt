@@ -10,6 +10,7 @@ ghost use Rattle.statements.specs.Statements.{ReadsAll};
 ghost use Rattle.reader.specs.Reader.{lent-slices, lengths, Gives, Contract};
 ghost use Rattle.reader.specs.Stages.{Checked, Started, Cleared, Finishes};
 use environment::Layout;
+use limits::Answer;
 use state::Words;
 use utf8::Validity;
 
@@ -153,10 +154,10 @@ fn finish(
     requires { ⌜ length (now st) ≡ words-size ⌝ }
     ensures { λ r. ⌜ Finishes size number (now (st .entry)) (lent-slices (now (work .entry)) (now (rows .entry)) (now (terms .entry)) (now (store .entry))) (lent-slices (now (work .exit)) (now (rows .exit)) (now (terms .exit)) (now (store .exit))) r ⌝ }
 {
-    if number == 0 {
+    if number == Answer::ACCEPTED {
         zeroing::clear_bytes(work);
         return Reading {
-            number: 0,
+            number: Answer::ACCEPTED,
             position: size,
             rows: st[Words::ROWS],
             terms: st[Words::TERMS],
@@ -219,7 +220,7 @@ pub fn read(
         Validity::BadAt(place) => {
             clear_all(work, rows, terms, store);
             Reading {
-                number: 5,
+                number: Answer::UTF8,
                 position: place,
                 rows: 0,
                 terms: 0,

@@ -60,11 +60,6 @@ one-row : (s p o at : ℕ) → Asks (row s p o at) [] 1
 unfolding asked
 one-row s p o at = record { terms = λ m. refl; rows = λ m. length-append (m .rows) (record { graph = m .graph; subject = s; predicate = p; object = o; position = at } ∷ []) }
 
--- The IRIs that lists supply.
-first-asks : Asks (term (iri rdf-first)) (supply 1) 0
-unfolding supply supplied
-first-asks = one-term (iri rdf-first)
-
 rest-asks : Asks (term (iri rdf-rest)) (supply 2) 0
 unfolding supply supplied
 rest-asks = one-term (iri rdf-rest)

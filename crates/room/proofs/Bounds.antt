@@ -20,6 +20,7 @@ use Rattle.state.specs.Writes.{cells-of, node-iri}
 use Rattle.room.specs.declared.Tally.{Tally}
 use Rattle.room.specs.Asks.{supplied, cell-iri, end-iri, last-iri, spot-place, before-iri, behind-iri}
 use Rattle.room.specs.Counting.{tally, more, count-term, count-supply, is-supplied, count-iri, count-node, asks-first, count-behind, count-before, count-place, count-close, Small}
+use Rattle.limits.specs.Limits.{iri-limit}
 
 -- At most k terms and b bytes more.
 pub record Within (c d : Tally) (k b : ℕ) : Type 0 where
@@ -78,9 +79,9 @@ undo-short Plain s = omega arith
 undo-short Escaped s = unescape-short s
 undo-short Reserved s = unreserve-short s
 
-module _ (ts : List Term) (p : ℕ) (n : Node) (work back text tag : Text) (c : Tally) (short : length (node-iri n work back) ≤ 1024) where
+module _ (ts : List Term) (p : ℕ) (n : Node) (work back text tag : Text) (c : Tally) (short : length (node-iri n work back) ≤ iri-limit) where
   abbrev node-most : ℕ
-  node-most = 1024 + (length text + length tag)
+  node-most = iri-limit + (length text + length tag)
 
   abbrev name : Text
   name = node-iri n work back
@@ -88,13 +89,13 @@ module _ (ts : List Term) (p : ℕ) (n : Node) (work back text tag : Text) (c : 
   abbrev value : Text
   value = undo (n .text) text
 
-  pub node-within : Within c (count-node ts p n work back text tag c) 2 (1024 + (length text + length tag))
+  pub node-within : Within c (count-node ts p n work back text tag c) 2 (iri-limit + (length text + length tag))
   unfolding count-node
   node-within =
-      within-cond (eqb (n .kind) 1) c _ _ 2 node-most (within-wide c _ 1 1024 2 node-most (omega arith) (omega arith) (iri-within ts p name c 1024 short))
+      within-cond (eqb (n .kind) 1) c _ _ 2 node-most (within-wide c _ 1 iri-limit 2 node-most (omega arith) (omega arith) (iri-within ts p name c iri-limit short))
       (within-cond (eqb (n .kind) 2) c _ _ 2 node-most (within-wide c _ 1 (length text) 2 node-most (omega arith) (omega arith) (term-within ts (blank (label text)) c (length text) (omega (arith, length-append text []))))
-      (within-cond (eqb (n .kind) 3) c _ _ 2 node-most (within-wide c _ 2 (1024 + length text) 2 node-most (omega arith) (omega arith)
-      (within-then c (count-iri ts p name c) _ 1 1024 1 (length text) (iri-within ts p name c 1024 short)
+      (within-cond (eqb (n .kind) 3) c _ _ 2 node-most (within-wide c _ 2 (iri-limit + length text) 2 node-most (omega arith) (omega arith)
+      (within-then c (count-iri ts p name c) _ 1 iri-limit 1 (length text) (iri-within ts p name c iri-limit short)
       (term-within ts (literal value name) (count-iri ts p name c) (length text) (omega (arith, length-append value [], undo-short (n .text) text)))))
       (within-cond (eqb (n .kind) 4) c _ _ 2 node-most (within-wide c _ 1 (length text + length tag) 2 node-most (omega arith) (omega arith)
       (term-within ts (tagged value tag) c (length text + length tag) (omega (arith, length-append value tag, undo-short (n .text) text))))
@@ -113,15 +114,15 @@ behind-within ts p q n work back c =
     within-cond (eqb q 0) c c _ 1 48 (within-none c 1 48)
     (within-cond (eqb p 1) c c _ 1 48 (within-none c 1 48) (within-cond (asks-first n work back) c c _ 1 48 (within-none c 1 48) (supply-within ts 1 c)))
 
-pub place-within : (ts : List Term) (s : Spot) (n : Node) (work back text tag : Text) (c : Tally) → length (node-iri n work back) ≤ 1024
+pub place-within : (ts : List Term) (s : Spot) (n : Node) (work back text tag : Text) (c : Tally) → length (node-iri n work back) ≤ iri-limit
     → Within c (count-place ts s n work back text tag c) 5 (1120 + (length text + length tag))
 unfolding count-place
 place-within ts s n work back text tag c short =
     let b = count-before ts s c in
     let d = count-node ts (before-iri s) n work back text tag b in
-    within-wide c _ (2 + (2 + 1)) (48 + ((1024 + (length text + length tag)) + 48)) 5 (1120 + (length text + length tag)) (omega arith) (omega arith)
-    (within-then c b _ 2 48 (2 + 1) ((1024 + (length text + length tag)) + 48) (before-within ts s c)
-    (within-then b d _ 2 (1024 + (length text + length tag)) 1 48 (node-within ts (before-iri s) n work back text tag b short) (behind-within ts (before-iri s) (behind-iri s) n work back d)))
+    within-wide c _ (2 + (2 + 1)) (48 + ((iri-limit + (length text + length tag)) + 48)) 5 (1120 + (length text + length tag)) (omega arith) (omega arith)
+    (within-then c b _ 2 48 (2 + 1) ((iri-limit + (length text + length tag)) + 48) (before-within ts s c)
+    (within-then b d _ 2 (iri-limit + (length text + length tag)) 1 48 (node-within ts (before-iri s) n work back text tag b short) (behind-within ts (before-iri s) (behind-iri s) n work back d)))
 
 pub close-within : (ts : List Term) (s : Spot) (c : Tally) → Within c (count-close ts s c) 2 96
 unfolding count-close

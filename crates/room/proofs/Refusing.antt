@@ -1,18 +1,19 @@
 -- The answers: what is counted tells whether there is room.
-use mathlib.Core.Path.{_≡_, sym, ap, _∙_}
+use mathlib.Core.Path.{_≡_, refl, sym, ap, _∙_}
 use mathlib.Core.List.{List}
 use Prim.Native.Nat.{ℕ, _+_, _/_, _≤_}
 use native.Mathlib.Omega.{arith}
-use lib.Dec.{ltb}
 use lib.ListN.{length}
 use borrow.Author.Tests.{ltb-false, le-ltb}
 use Rattle.text.specs.Text.{Text}
-use Rattle.text.proofs.Compare.{by}
 use Rattle.dataset.specs.Terms.{Term}
 use Rattle.table.specs.Tables.{store-size}
+use Rattle.table.specs.Layout.{row-size, term-size}
 use Rattle.terms.specs.declared.Counts.{Counts}
 use Rattle.machine.specs.Memory.{Memory, Write}
-use Rattle.machine.specs.Step.{Room}
+use Rattle.machine.specs.Call.{Room}
+use Rattle.machine.specs.Refusals.{size-tests}
+use Rattle.machine.proofs.Firsts.{zero-passes, passes-zero}
 use Rattle.state.specs.declared.Spot.{Spot}
 use Rattle.state.specs.declared.Node.{Node}
 use Rattle.state.specs.Words.{counts-of}
@@ -25,18 +26,15 @@ use Rattle.room.specs.Counting.{tally, count-before, count-place, count-
 use Rattle.room.proofs.Asks.{Asks, opened-asks, closed-asks, placed-asks}
 use Rattle.room.proofs.Counting.{Counted, opening-counted, place-counted, close-counted}
 use Rattle.room.proofs.Bounds.{Within, before-within, place-within, close-within}
+use Rattle.limits.specs.Limits.{iri-limit}
 
 -- Where there is room for more, there is room.
 pub enough-more : (room : Room) (n : ℕ) (c d : Tally) → refusal-of room n c ≡ 0 → d .terms ≤ c .terms → d .bytes ≤ c .bytes → refusal-of room n d ≡ 0
 unfolding refusal-of
 enough-more room n c d e h k =
-    by (ltb (room .rows) n)
-    (λ a. absurd (let z : 14 ≡ 0 = rw a at e in omega arith))
-    (λ a. by (ltb (room .terms) (c .terms))
-    (λ b. absurd (let z : 15 ≡ 0 = rw (a, b) at e in omega arith))
-    (λ b. by (ltb (room .store) (c .bytes))
-    (λ f. absurd (let z : 16 ≡ 0 = rw (a, b, f) at e in omega arith))
-    (λ f. rw (a, le-ltb (room .terms) (d .terms) (omega (arith, ltb-false (room .terms) (c .terms) b)), le-ltb (room .store) (d .bytes) (omega (arith, ltb-false (room .store) (c .bytes) f))))))
+    let (a, (b, (f, u))) = zero-passes (size-tests room n (c .terms) (c .bytes)) refl e in
+    passes-zero (size-tests room n (d .terms) (d .bytes))
+    (a, (le-ltb (room .terms) (d .terms) (omega (arith, ltb-false (room .terms) (c .terms) b)), (le-ltb (room .store) (d .bytes) (omega (arith, ltb-false (room .store) (c .bytes) f)), tt)))
 
 counted-refusal : (room : Room) (n : ℕ) (c : Tally) (m : Memory) → n ≡ length (m .rows) → Counted c (m .terms) → refusal-of room n c ≡ room-refusal room m
 unfolding refusal-of room-refusal
@@ -57,13 +55,13 @@ module _ (work : Text) (t : Tables) (st : List ℕ) where
   held q e (old, (m, R)) = rw e (R .usable .room, (m .terms, R .terms-held))
 
   pub rows-small : Represented work t st → rows-in st ≤ 4294967294
-  rows-small (old, (m, R)) = omega (arith, R .rows-held .size, R .fits .rows, counted-room (length (t .rows) / 5) .1)
+  rows-small (old, (m, R)) = omega (arith, R .rows-held .size, R .fits .rows, counted-room (length (t .rows) / row-size) .1)
 
   pub tally-small : (u : Tally) → u ≡ tally-in st → Represented work t st → Small u 4294967294
   tally-small u e (old, (m, R)) =
       rw e
       (record {
-        terms = omega (arith, R .terms-held .keeps .count, R .fits .terms, counted-room (length (t .terms) / 5) .1);
+        terms = omega (arith, R .terms-held .keeps .count, R .fits .terms, counted-room (length (t .terms) / term-size) .1);
         bytes = omega (arith, R .terms-held .keeps .used, R .fits .store, counted-room (length (t .store)) .1);
       })
 
@@ -103,7 +101,7 @@ module _ (work : Text) (t : Tables) (st : List ℕ) where
       abbrev write : Write ℕ
       write = placed s (node-write n work back text tag (s .at))
 
-      pub place-surely : length (node-iri n work back) ≤ 1024 → (i : ℕ) (u c : Tally) → i ≡ rows-in st + (before-rows s + behind-rows s) → u ≡ tally-in st
+      pub place-surely : length (node-iri n work back) ≤ iri-limit → (i : ℕ) (u c : Tally) → i ≡ rows-in st + (before-rows s + behind-rows s) → u ≡ tally-in st
           → c ≡ tally (u .terms + 5) (u .bytes + (1120 + (length text + length tag))) → refusal-of (room-in t) i c ≡ 0
           → Answers work t st (placed s (node-write n work back text tag (s .at))) 0
       place-surely short =

@@ -13,6 +13,7 @@ use Rattle.spelling.specs.Form.{undo}
 use Rattle.spelling.proofs.Forms.{joined-length}
 use Rattle.dataset.specs.Terms.{Term, iri, blank, literal, tagged, label}
 use Rattle.table.specs.Tables.{number, or-zero, term-bytes}
+use Rattle.table.specs.Layout.{iri-kind, blank-kind, literal-kind, tagged-kind}
 use Rattle.terms.specs.declared.Counts.{Counts}
 use Rattle.terms.specs.Keeps.{findable}
 use Rattle.machine.specs.Frame.{Place, top, subject-before, object-of, element-of, Cells, no-cell, cells}
@@ -207,38 +208,38 @@ name-length n work back u N e =
 
 -- The kinds of node.
 module _ (ts : List Term) (p : ℕ) (n : Node) (work back text tag : Text) (c r : Tally) where
-  pub node-iri-is : n .kind ≡ 1 → r ≡ count-iri ts p (node-iri n work back) c → r ≡ count-node ts p n work back text tag c
+  pub node-iri-is : n .kind ≡ iri-kind → r ≡ count-iri ts p (node-iri n work back) c → r ≡ count-node ts p n work back text tag c
   unfolding count-node
-  node-iri-is e h = rw (eq-eqb (n .kind) 1 e) h
+  node-iri-is e h = rw (eq-eqb (n .kind) iri-kind e) h
 
-  pub node-label-is : n .kind ≡ 2 → r ≡ count-term ts (blank (label text)) c → r ≡ count-node ts p n work back text tag c
+  pub node-label-is : n .kind ≡ blank-kind → r ≡ count-term ts (blank (label text)) c → r ≡ count-node ts p n work back text tag c
   unfolding count-node
-  node-label-is e h = rw (ne-eqb (n .kind) 1 (λ f. omega arith), eq-eqb (n .kind) 2 e) h
+  node-label-is e h = rw (ne-eqb (n .kind) iri-kind (λ f. omega arith), eq-eqb (n .kind) blank-kind e) h
 
-  pub node-typed-is : n .kind ≡ 3 → r ≡ count-term ts (literal (undo (n .text) text) (node-iri n work back)) (count-iri ts p (node-iri n work back) c) → r ≡ count-node ts p n work back text tag c
+  pub node-typed-is : n .kind ≡ literal-kind → r ≡ count-term ts (literal (undo (n .text) text) (node-iri n work back)) (count-iri ts p (node-iri n work back) c) → r ≡ count-node ts p n work back text tag c
   unfolding count-node
-  node-typed-is e h = rw (ne-eqb (n .kind) 1 (λ f. omega arith), ne-eqb (n .kind) 2 (λ f. omega arith), eq-eqb (n .kind) 3 e) h
+  node-typed-is e h = rw (ne-eqb (n .kind) iri-kind (λ f. omega arith), ne-eqb (n .kind) blank-kind (λ f. omega arith), eq-eqb (n .kind) literal-kind e) h
 
-  pub node-tagged-is : n .kind ≡ 4 → r ≡ count-term ts (tagged (undo (n .text) text) tag) c → r ≡ count-node ts p n work back text tag c
+  pub node-tagged-is : n .kind ≡ tagged-kind → r ≡ count-term ts (tagged (undo (n .text) text) tag) c → r ≡ count-node ts p n work back text tag c
   unfolding count-node
-  node-tagged-is e h = rw (ne-eqb (n .kind) 1 (λ f. omega arith), ne-eqb (n .kind) 2 (λ f. omega arith), ne-eqb (n .kind) 3 (λ f. omega arith), eq-eqb (n .kind) 4 e) h
+  node-tagged-is e h = rw (ne-eqb (n .kind) iri-kind (λ f. omega arith), ne-eqb (n .kind) blank-kind (λ f. omega arith), ne-eqb (n .kind) literal-kind (λ f. omega arith), eq-eqb (n .kind) tagged-kind e) h
 
-  pub node-new-is : (n .kind ≡ 1 → ⊥) → (n .kind ≡ 2 → ⊥) → (n .kind ≡ 3 → ⊥) → (n .kind ≡ 4 → ⊥) → r ≡ more c 0 0 → r ≡ count-node ts p n work back text tag c
+  pub node-new-is : (n .kind ≡ iri-kind → ⊥) → (n .kind ≡ blank-kind → ⊥) → (n .kind ≡ literal-kind → ⊥) → (n .kind ≡ tagged-kind → ⊥) → r ≡ more c 0 0 → r ≡ count-node ts p n work back text tag c
   unfolding count-node
-  node-new-is a b d e h = rw (ne-eqb (n .kind) 1 a, ne-eqb (n .kind) 2 b, ne-eqb (n .kind) 3 d, ne-eqb (n .kind) 4 e) h
+  node-new-is a b d e h = rw (ne-eqb (n .kind) iri-kind a, ne-eqb (n .kind) blank-kind b, ne-eqb (n .kind) literal-kind d, ne-eqb (n .kind) tagged-kind e) h
 
 module _ (n : Node) (work back : Text) (r : Bool) where
-  pub first-iri : n .kind ≡ 1 → r ≡ is-supplied 1 (node-iri n work back) → r ≡ asks-first n work back
+  pub first-iri : n .kind ≡ iri-kind → r ≡ is-supplied 1 (node-iri n work back) → r ≡ asks-first n work back
   unfolding asks-first has-iri
-  first-iri e h = rw (eq-eqb (n .kind) 1 e) h
+  first-iri e h = rw (eq-eqb (n .kind) iri-kind e) h
 
-  pub first-type : n .kind ≡ 3 → r ≡ is-supplied 1 (node-iri n work back) → r ≡ asks-first n work back
+  pub first-type : n .kind ≡ literal-kind → r ≡ is-supplied 1 (node-iri n work back) → r ≡ asks-first n work back
   unfolding asks-first has-iri
-  first-type e h = rw (ne-eqb (n .kind) 1 (λ f. omega arith), eq-eqb (n .kind) 3 e) h
+  first-type e h = rw (ne-eqb (n .kind) iri-kind (λ f. omega arith), eq-eqb (n .kind) literal-kind e) h
 
-pub first-none : (n : Node) (work back : Text) → (n .kind ≡ 1 → ⊥) → (n .kind ≡ 3 → ⊥) → false ≡ asks-first n work back
+pub first-none : (n : Node) (work back : Text) → (n .kind ≡ iri-kind → ⊥) → (n .kind ≡ literal-kind → ⊥) → false ≡ asks-first n work back
 unfolding asks-first has-iri
-first-none n work back h g = rw (ne-eqb (n .kind) 1 h, ne-eqb (n .kind) 3 g)
+first-none n work back h g = rw (ne-eqb (n .kind) iri-kind h, ne-eqb (n .kind) literal-kind g)
 
 module _ (ts : List Term) (p q : ℕ) (n : Node) (work back : Text) (c : Tally) where
   pub behind-nothing : q ≡ 0 → c ≡ count-behind ts p q n work back c

@@ -1,7 +1,7 @@
 -- What one token asks of the tables: terms, in order, and rows.
 use mathlib.Core.List.{List, [], _∷_, _++_}
 use mathlib.Core.Option.{Option, none, some}
-use Prim.Native.Nat.{ℕ, _+_}
+use Prim.Native.Nat.{ℕ}
 use lib.Dec.{eqb}
 use Rattle.text.specs.Text.{Text, cond}
 use Rattle.spelling.specs.Form.{undo}
@@ -103,9 +103,6 @@ to-place s n work back text tag = before-node s ++ (for-node n work back text ta
 
 unfoldable pub to-close : Spot → List Ask
 to-close s = supply (end-iri (cells-of (s .last))) ++ supply (last-iri (spot-place s) (cells-of (s .last)))
-
-abbrev pub place-all-rows : Spot → ℕ
-place-all-rows s = before-rows s + behind-rows s
 
 unfoldable pub close-rows : Spot → ℕ
 close-rows s = cell-rows (spot-place s) (cells-of (s .last))

@@ -1,19 +1,21 @@
 -- Counting the terms that are new, and their bytes, without writing them.
 use mathlib.Core.Path.{_≡_}
-use mathlib.Core.List.{List, [], _∷_}
+use mathlib.Core.List.{List}
 use mathlib.Core.Bool.{Bool, true, false}
 use Prim.Native.Nat.{ℕ, _+_, _≤_}
-use lib.Dec.{eqb, ltb}
+use lib.Dec.{eqb}
 use lib.ListN.{length, getD, drop}
 use Rattle.text.specs.Text.{Text, cond, same-text}
 use Rattle.limits.specs.Limits.{iri-limit, work-size}
 use Rattle.spelling.specs.Form.{undo}
 use Rattle.dataset.specs.Terms.{Term, iri, blank, literal, tagged, label}
 use Rattle.table.specs.Tables.{number, or-zero, term-bytes}
+use Rattle.table.specs.Layout.{iri-kind, blank-kind, literal-kind, tagged-kind}
 use Rattle.terms.specs.declared.Counts.{Counts}
 use Rattle.term_tree.specs.Holds.{Holds}
 use Rattle.machine.specs.Memory.{Memory, Write}
-use Rattle.machine.specs.Step.{Room, _when_, first-refusal}
+use Rattle.machine.specs.Call.{Room, first-refusal}
+use Rattle.machine.specs.Refusals.{size-tests}
 use Rattle.state.specs.declared.Spot.{Spot}
 use Rattle.state.specs.declared.Node.{Node}
 use Rattle.state.specs.Words.{rows-word, terms-word, used-word}
@@ -45,15 +47,15 @@ count-iri ts p x c = cond (is-supplied p x) c (count-term ts (iri x) c)
 
 unfoldable pub count-node : List Term → ℕ → Node → Text → Text → Text → Text → Tally → Tally
 count-node ts p n work back text tag c =
-    cond (eqb (n .kind) 1) (count-iri ts p (node-iri n work back) c)
-    (cond (eqb (n .kind) 2) (count-term ts (blank (label text)) c)
-    (cond (eqb (n .kind) 3) (count-term ts (literal (undo (n .text) text) (node-iri n work back)) (count-iri ts p (node-iri n work back) c))
-    (cond (eqb (n .kind) 4) (count-term ts (tagged (undo (n .text) text) tag) c)
+    cond (eqb (n .kind) iri-kind) (count-iri ts p (node-iri n work back) c)
+    (cond (eqb (n .kind) blank-kind) (count-term ts (blank (label text)) c)
+    (cond (eqb (n .kind) literal-kind) (count-term ts (literal (undo (n .text) text) (node-iri n work back)) (count-iri ts p (node-iri n work back) c))
+    (cond (eqb (n .kind) tagged-kind) (count-term ts (tagged (undo (n .text) text) tag) c)
     (more c 0 0))))
 
 -- Does the node ask for an IRI, and is it this one?
 unfoldable pub has-iri : Node → Bool
-has-iri n = cond (eqb (n .kind) 1) true (eqb (n .kind) 3)
+has-iri n = cond (eqb (n .kind) iri-kind) true (eqb (n .kind) literal-kind)
 
 unfoldable pub asks-first : Node → Text → Text → Bool
 asks-first n work back = cond (has-iri n) (is-supplied 1 (node-iri n work back)) false
@@ -110,7 +112,7 @@ tally-in st = tally (getD st terms-word 0) (getD st used-word 0)
 
 -- 14, 15, 16 or 0, where there would be so many rows, and so many terms and bytes.
 unfoldable pub refusal-of : Room → ℕ → Tally → ℕ
-refusal-of room rows c = or-zero (first-refusal (14 when ltb (room .rows) rows ∷ 15 when ltb (room .terms) (c .terms) ∷ 16 when ltb (room .store) (c .bytes) ∷ []))
+refusal-of room rows c = or-zero (first-refusal (size-tests room rows (c .terms) (c .bytes)))
 
 -- What the tables' room says of a write w.
 abbrev pub Answers : Text → Tables → List ℕ → Write ℕ → ℕ → Type 0

@@ -13,11 +13,13 @@ ghost use Rattle.state.specs.Writes.{place-of, node-iri, node-write, placed, op
 ghost use Rattle.room.specs.Asks.{supplied, place-iri, place-rows, before-iri, before-rows, behind-iri, behind-rows, close-rows};
 ghost use Rattle.room.specs.Counting.{tally, more, count-term, count-supply, is-supplied, count-iri, count-node, asks-first, count-behind, count-before, count-place, count-close, Held, Numbers, Tallies, LiteralTallies, Answers, Small, Named, rows-in, tally-in, refusal-of};
 use environment::Layout;
+use limits::Answer;
 use limits::Limits;
 use spelling::Form;
 use state::Node;
 use state::Spot;
 use state::Words;
+use table::TermKind;
 use terms::Counts;
 use terms::Sort;
 
@@ -268,7 +270,7 @@ fn tally_label(
     ensures { λ r. ⌜ Tallies (now (work .entry)) (now (terms .entry)) (now (store .entry)) counts (λ ts. count-term ts (blank (label (now (text .entry)))) t) r ⌝ }
 {
     let sort = Sort {
-        kind: 2,
+        kind: TermKind::BLANK,
         datatype: 0,
     };
     let n = find_text(
@@ -298,7 +300,7 @@ fn tally_tagged(
     ensures { λ r. ⌜ Tallies (now (work .entry)) (now (terms .entry)) (now (store .entry)) counts (λ ts. count-term ts (tagged (undo form (now (text .entry))) (now (tag .entry))) t) r ⌝ }
 {
     let sort = Sort {
-        kind: 4,
+        kind: TermKind::TAGGED,
         datatype: 0,
     };
     let n = find_text(work, terms, store, counts, sort, form, text, tag);
@@ -320,7 +322,7 @@ fn tally_literal(
     ensures { λ r. ⌜ LiteralTallies (now (work .entry)) (now (terms .entry)) (now (store .entry)) counts d (undo form (now (text .entry))) t r ⌝ }
 {
     let sort = Sort {
-        kind: 3,
+        kind: TermKind::LITERAL,
         datatype: d,
     };
     let n = find_text(work, terms, store, counts, sort, form, text, &text[..0]);
@@ -368,16 +370,16 @@ fn tally_node(
 {
     let kind = node.kind;
     let written = node.text;
-    if kind == 1 {
+    if kind == Node::IRI {
         return tally_iri(work, terms, store, counts, p, node, back, t);
     }
-    if kind == 2 {
+    if kind == Node::BLANK {
         return tally_label(work, terms, store, counts, text, t);
     }
-    if kind == 3 {
+    if kind == Node::LITERAL {
         return tally_typed(work, terms, store, counts, p, node, back, text, t);
     }
-    if kind == 4 {
+    if kind == Node::TAGGED {
         return tally_tagged(work, terms, store, counts, written, text, tag, t);
     }
     more(t, 0, 0)
@@ -389,10 +391,10 @@ fn asks_first(work: &[u8], node: Node, back: &[u8]) -> bool
     ensures { λ r. ⌜ r ≡ asks-first node (now (work .entry)) (now (back .entry)) ⌝ }
 {
     let kind = node.kind;
-    if kind == 1 {
+    if kind == Node::IRI {
         return is_first(work, node, back);
     }
-    if kind == 3 {
+    if kind == Node::LITERAL {
         return is_first(work, node, back);
     }
     false
@@ -594,14 +596,14 @@ fn at_most(n: usize) -> usize
 fn refusal(rows: &[u32], terms: &[u32], store: &[u8], count: usize, t: Tally) -> u8
     ensures { λ r. ⌜ r ≡ refusal-of (room-in (lent-tables (now (rows .entry)) (now (terms .entry)) (now (store .entry)))) count t ⌝ }
 {
-    if at_most(rows.len() / 5) < count {
-        return 14;
+    if at_most(rows.len() / table::Layout::ROW_WORDS) < count {
+        return Answer::ROWS;
     }
-    if at_most(terms.len() / 5) < t.terms {
-        return 15;
+    if at_most(terms.len() / table::Layout::TERM_WORDS) < t.terms {
+        return Answer::TERMS;
     }
     if at_most(store.len()) < t.bytes {
-        return 16;
+        return Answer::STORE;
     }
     0
 }

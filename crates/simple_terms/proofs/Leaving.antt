@@ -8,12 +8,12 @@ use lib.ListN.{length, getD, set, length-set}
 use lib.Seq.{getD-set-same, getD-set-other}
 use denote.Ref.{at-last}
 use Rattle.text.specs.Text.{Text}
-use Rattle.token.specs.Kind.{kind-of-code, among, kw-a, open-bracket, open-paren, close-bracket, close-paren}
+use Rattle.token.specs.Kind.{unreadable-kind, kind-of-code, among, kw-a, open-bracket, open-paren, close-bracket, close-paren}
 use Rattle.lexer.specs.Rest.{rest}
 use Rattle.environment.specs.Code.{words-size}
 use Rattle.machine.specs.Memory.{Memory, Write}
 use Rattle.machine.specs.Refusals.{too-deep, new-depth}
-use Rattle.state.specs.Words.{kind-word, depth-word, graph-word, at-word, len-word, node-word}
+use Rattle.state.specs.Words.{kind-word, depth-word, graph-word, at-word, len-word, node-word, kind-in, depth-in, graph-in}
 use Rattle.state.specs.Cursor.{Cursor, TokenHere}
 use Rattle.state.specs.Represents.{Tables, lent-tables, Puts}
 use Rattle.state.specs.Writes.{placed, closed}
@@ -28,6 +28,7 @@ use Rattle.simple_terms.specs.Leaves.{spot-in, PutReady, PutsToken, Puts
 use Rattle.simple_terms.proofs.Numbering.{nil-positive}
 use Rattle.simple_terms.proofs.Terms.{is-term, term-some, term-low, term-readable}
 use Rattle.simple_terms.proofs.Refusing.{Plain, puts-plain, refused-deep}
+use Rattle.limits.specs.Limits.{depth-limit}
 
 -- ---- The thin references stay, and the slices behind them are changed
 
@@ -47,7 +48,7 @@ module _ (doc : Text) (w : Write ℕ) (a : Held) (work' rows' terms' store' st' 
     small = λ e. absurd (z e);
   }
 
-  pub put-done : r ≡ 0 → (st'' : List ℕ) (d : ℕ) → Passed doc st' st'' d (getD st' graph-word 0) → d ≡ new-depth (getD (a .st) depth-word 0) (here doc a) → Gives doc w a (after a work' rows' terms' store' st'') 0
+  pub put-done : r ≡ 0 → (st'' : List ℕ) (d : ℕ) → Passed doc st' st'' d (graph-in st') → d ≡ new-depth (depth-in (a .st)) (here doc a) → Gives doc w a (after a work' rows' terms' store' st'') 0
   put-done e st'' d p ed = record {
     does = record {
       same = same-after st'' (p .words ∙ P .words);
@@ -78,7 +79,7 @@ module _ (doc : Text) (a : Held) (ready : Ready doc a) where
   pub words-there : length (a .st) ≡ words-size
   words-there = let (old, (m, h)) = ready .holds in h .usable .words
 
-  pub token-there : (k : ℕ) → getD (a .st) kind-word 0 ≡ k → 0 < k → k < 31 → TokenHere doc (a .st)
+  pub token-there : (k : ℕ) → kind-in (a .st) ≡ k → 0 < k → k < unreadable-kind → TokenHere doc (a .st)
   token-there k e l g = ready .cursor .token (λ z. omega (arith, e, z)) (λ z. omega (arith, e, z))
 
   -- A number that is never 0.
@@ -89,18 +90,18 @@ module _ (doc : Text) (a : Held) (ready : Ready doc a) where
   closes b r g = record { gives = g; positive = λ e l. let (old, (m, h)) = ready .holds in let x = nil-positive (spot-of a) l m in let y = g .node e old m h in omega (arith, x, y) }
 
 -- The cursor's words stay while a node is written.
-module _ (doc : Text) (a : Held) (ready : Ready doc a) (k : ℕ) (e : getD (a .st) kind-word 0 ≡ k) (l : 0 < k) (g : k < 31) (st' : List ℕ) (same : (j : ℕ) → kind-word ≤ j → getD st' j 0 ≡ getD (a .st) j 0) (n : length st' ≡ length (a .st)) where
+module _ (doc : Text) (a : Held) (ready : Ready doc a) (k : ℕ) (e : kind-in (a .st) ≡ k) (l : 0 < k) (g : k < unreadable-kind) (st' : List ℕ) (same : (j : ℕ) → kind-word ≤ j → getD st' j 0 ≡ getD (a .st) j 0) (n : length st' ≡ length (a .st)) where
   pub still-there : (Cursor doc st' × TokenHere doc st') × (length st' ≡ words-size)
   still-there = ((cursor-words doc (a .st) st' (λ j x y. same j x) (ready .cursor), token-words doc (a .st) st' (λ j x y. same j x) (token-there doc a ready k e l g)), n ∙ words-there doc a ready)
 
 -- ---- A term's token
 
-module _ (doc : Text) (a : Held) (ready : Ready doc a) (h : is-term (getD (a .st) kind-word 0) ≡ true) (work' : Text) (t' : Tables) (st' : List ℕ) (r : ℕ) (P : PutsNode doc (a .work .now) work' (tables-of a) t' (a .st) st' r) where
+module _ (doc : Text) (a : Held) (ready : Ready doc a) (h : is-term (kind-in (a .st)) ≡ true) (work' : Text) (t' : Tables) (st' : List ℕ) (r : ℕ) (P : PutsNode doc (a .work .now) work' (tables-of a) t' (a .st) st' r) where
   here-token : TokenHere doc (a .st)
   here-token = ready .cursor .token (term-some _ h) (term-readable _ h)
 
   among-terms : among (kw-a ∷ term-kinds) (here doc a .kind) ≡ true
-  among-terms = among-code (kw-a ∷ term-kinds) (getD (a .st) kind-word 0) (term-some _ h) (here-token .known) ∙ h
+  among-terms = among-code (kw-a ∷ term-kinds) (kind-in (a .st)) (term-some _ h) (here-token .known) ∙ h
 
   put-there : (w : Write ℕ) × PutsToken (here doc a) w (a .work .now) work' (tables-of a) t' (a .st) st' r
   put-there = let (v, g) = term-rule (here doc a) (here doc a .kind) among-terms in (placed (spot-in (a .st)) v, P v g)
@@ -108,21 +109,21 @@ module _ (doc : Text) (a : Held) (ready : Ready doc a) (h : is-term (getD (a .st
   pub term-still : (Cursor doc st' × TokenHere doc st') × (length st' ≡ words-size)
   term-still =
       let p = put-there .1 in
-      still-there doc a ready (getD (a .st) kind-word 0) refl (let l = term-low (getD (a .st) kind-word 0) h in omega (arith, l)) (let l = here-token .known in omega (arith, l)) st' (p .stays) (p .words)
+      still-there doc a ready (kind-in (a .st)) refl (let l = term-low (kind-in (a .st)) h in omega (arith, l)) (let l = here-token .known in omega (arith, l)) st' (p .stays) (p .words)
 
-  pub term-depth-here : getD st' depth-word 0 ≡ new-depth (getD (a .st) depth-word 0) (here doc a)
-  term-depth-here = put-there .1 .stays depth-word (omega arith) ∙ sym (term-depth (here doc a) (getD (a .st) depth-word 0) among-terms)
+  pub term-depth-here : depth-in st' ≡ new-depth (depth-in (a .st)) (here doc a)
+  term-depth-here = put-there .1 .stays depth-word (omega arith) ∙ sym (term-depth (here doc a) (depth-in (a .st)) among-terms)
 
 -- ---- A token that meets no refusal of its own but 13
 
-module _ (doc : Text) (w : Write ℕ) (a : Held) (k : ℕ) (e : getD (a .st) kind-word 0 ≡ k) (q : Plain k) where
+module _ (doc : Text) (w : Write ℕ) (a : Held) (k : ℕ) (e : kind-in (a .st) ≡ k) (q : Plain k) where
   -- A 65th bracket.
-  pub open-deep : among (open-bracket ∷ open-paren ∷ []) (kind-of-code k) ≡ true → 64 ≤ getD (a .st) depth-word 0 → Gives doc w a a 13
+  pub open-deep : among (open-bracket ∷ open-paren ∷ []) (kind-of-code k) ≡ true → depth-limit ≤ depth-in (a .st) → Gives doc w a a 13
   open-deep o l =
       put-refused doc w a (a .work .now) (a .rows .now) (a .terms .now) (a .store .now) (a .st) 13
       (refused-deep (here doc a) w (a .work .now) (tables-of a) (a .st) k (ap kind-of-code e) q o l) refl refl refl refl (λ z. omega arith)
 
-  module _ (work' rows' terms' store' st' : List ℕ) (r : ℕ) (d : too-deep (getD (a .st) depth-word 0) (here doc a) ≡ false)
+  module _ (work' rows' terms' store' st' : List ℕ) (r : ℕ) (d : too-deep (depth-in (a .st)) (here doc a) ≡ false)
       (p : Puts w (a .work .now) work' (tables-of a) (lent-tables rows' terms' store') (a .st) st' r)
       (lw : length work' ≡ length (a .work .now)) (lr : length rows' ≡ length (a .rows .now)) (lt : length terms' ≡ length (a .terms .now)) (ls : length store' ≡ length (a .store .now)) where
     puts-here : PutsToken (here doc a) w (a .work .now) work' (tables-of a) (lent-tables rows' terms' store') (a .st) st' r
@@ -131,24 +132,24 @@ module _ (doc : Text) (w : Write ℕ) (a : Held) (k : ℕ) (e : getD (a .st) kin
     pub plain-refused : (r ≡ 0 → ⊥) → Gives doc w a (after a work' rows' terms' store' st') r
     plain-refused z = put-refused doc w a work' rows' terms' store' st' r puts-here lw lr lt ls z
 
-    pub plain-done : r ≡ 0 → (st'' : List ℕ) (n : ℕ) → Passed doc st' st'' n (getD st' graph-word 0) → n ≡ new-depth (getD (a .st) depth-word 0) (here doc a) → Gives doc w a (after a work' rows' terms' store' st'') 0
+    pub plain-done : r ≡ 0 → (st'' : List ℕ) (n : ℕ) → Passed doc st' st'' n (graph-in st') → n ≡ new-depth (depth-in (a .st)) (here doc a) → Gives doc w a (after a work' rows' terms' store' st'') 0
     plain-done z st'' n x y = put-done doc w a work' rows' terms' store' st' r puts-here lw lr lt ls z st'' n x y
 
 -- ---- Brackets
 
-pub below-stays : (st st' : List ℕ) → ((j : ℕ) → kind-word ≤ j → getD st' j 0 ≡ getD st j 0) → getD st depth-word 0 < 64 → getD st' depth-word 0 < 64
+pub below-stays : (st st' : List ℕ) → ((j : ℕ) → kind-word ≤ j → getD st' j 0 ≡ getD st j 0) → depth-in st < depth-limit → depth-in st' < depth-limit
 below-stays st st' same l = let e = same depth-word (omega arith) in omega (arith, e, l)
 
-pub above-stays : (st st' : List ℕ) → ((j : ℕ) → kind-word ≤ j → getD st' j 0 ≡ getD st j 0) → 0 < getD st depth-word 0 → 0 < getD st' depth-word 0
+pub above-stays : (st st' : List ℕ) → ((j : ℕ) → kind-word ≤ j → getD st' j 0 ≡ getD st j 0) → 0 < depth-in st → 0 < depth-in st'
 above-stays st st' same l = let e = same depth-word (omega arith) in omega (arith, e, l)
 
-module _ (doc : Text) (a : Held) (k : ℕ) (e : getD (a .st) kind-word 0 ≡ k) where
-  pub opening-depth : among (open-bracket ∷ open-paren ∷ []) (kind-of-code k) ≡ true → (st' : List ℕ) → ((j : ℕ) → kind-word ≤ j → getD st' j 0 ≡ getD (a .st) j 0) → getD st' depth-word 0 + 1 ≡ new-depth (getD (a .st) depth-word 0) (here doc a)
+module _ (doc : Text) (a : Held) (k : ℕ) (e : kind-in (a .st) ≡ k) where
+  pub opening-depth : among (open-bracket ∷ open-paren ∷ []) (kind-of-code k) ≡ true → (st' : List ℕ) → ((j : ℕ) → kind-word ≤ j → getD st' j 0 ≡ getD (a .st) j 0) → depth-in st' + 1 ≡ new-depth (depth-in (a .st)) (here doc a)
   unfolding new-depth
   opening-depth o st' same = rw (same depth-word (omega arith), e, o)
 
   pub closing-depth : among (open-bracket ∷ open-paren ∷ []) (kind-of-code k) ≡ false → among (close-bracket ∷ close-paren ∷ []) (kind-of-code k) ≡ true → (st' : List ℕ) → ((j : ℕ) → kind-word ≤ j → getD st' j 0 ≡ getD (a .st) j 0)
-      → getD st' depth-word 0 - 1 ≡ new-depth (getD (a .st) depth-word 0) (here doc a)
+      → depth-in st' - 1 ≡ new-depth (depth-in (a .st)) (here doc a)
   unfolding new-depth
   closing-depth o c st' same = rw (same depth-word (omega arith), e, o, c)
 
@@ -163,7 +164,7 @@ module _ (doc : Text) (st : List ℕ) (v : ℕ) (n : length st ≡ words-size) w
   pub deeper-there : Cursor doc st → TokenHere doc st → (Cursor doc deeper × TokenHere doc deeper) × (length deeper ≡ words-size)
   deeper-there c t = ((cursor-words doc st deeper (λ k x y. deeper-other k (λ z. omega arith)) c, token-words doc st deeper (λ k x y. deeper-other k (λ z. omega arith)) t), length-set st depth-word v ∙ n)
 
-  pub passed-deeper : (st' : List ℕ) → Passed doc deeper st' (getD deeper depth-word 0) (getD deeper graph-word 0) → Passed doc st st' v (getD st graph-word 0)
+  pub passed-deeper : (st' : List ℕ) → Passed doc deeper st' (depth-in deeper) (graph-in deeper) → Passed doc st st' v (graph-in st)
   passed-deeper st' p = record {
     cursor = p .cursor;
     tokens = ap₂ (λ (x y : ℕ). rest doc (x + y)) (sym (deeper-other at-word (λ z. omega arith))) (sym (deeper-other len-word (λ z. omega arith))) ∙ p .tokens;

@@ -12,7 +12,7 @@ use lib.Seq.{getD-take, length-take-le}
 use Rattle.text.specs.Text.{Text}
 use Rattle.text.proofs.Compare.{by, contrary}
 use Rattle.limits.specs.Limits.{document-limit}
-use Rattle.token.specs.Kind.{Kind, kind-of-code, among, open-bracket, open-paren, kw-a}
+use Rattle.token.specs.Kind.{Kind, kind-code, end-kind, unreadable-kind, kind-of-code, among, open-bracket, open-paren, kw-a, IRIREF, «PNAME_NS», «PNAME_LN», «BLANK_NODE_LABEL», INTEGER, DECIMAL, DOUBLE, kw-true, kw-false}
 use Rattle.token.specs.Tokens.{Token}
 use Rattle.dataset.specs.Terms.{iri, blank, label, rdf-type}
 use Rattle.dataset.specs.Constructors.{node-label}
@@ -22,7 +22,7 @@ use Rattle.machine.specs.Rules.{Rule, _⇒_, find-rule, label-term}
 use Rattle.machine.proofs.Made.{some-same}
 use Rattle.token_iri.specs.Tests.{token-as}
 use Rattle.token_iri.proofs.Begins.{iriref-begins}
-use Rattle.state.specs.Words.{kind-word, at-word, len-word, depth-word}
+use Rattle.state.specs.Words.{kind-in, at-in, len-in, depth-in}
 use Rattle.state.specs.Cursor.{Cursor, TokenHere}
 use Rattle.state.specs.Represents.{Tables, Puts}
 use Rattle.state.specs.Writes.{placed}
@@ -38,34 +38,34 @@ use Rattle.simple_terms.proofs.Labels.{label-long}
 abbrev pub is-term : ℕ → Bool
 is-term k = code-among (kw-a ∷ term-kinds) k
 
-pub term-some : (k : ℕ) → is-term k ≡ true → k ≡ 0 → ⊥
+pub term-some : (k : ℕ) → is-term k ≡ true → k ≡ end-kind → ⊥
 term-some k h e = contrary (sym (rw e at h))
 
-pub term-low : (k : ℕ) → is-term k ≡ true → 1 ≤ k
+pub term-low : (k : ℕ) → is-term k ≡ true → kind-code IRIREF ≤ k
 term-low k h = let z = term-some k h in omega (arith, z)
 
-pub term-readable : (k : ℕ) → is-term k ≡ true → k ≡ 31 → ⊥
+pub term-readable : (k : ℕ) → is-term k ≡ true → k ≡ unreadable-kind → ⊥
 term-readable k h e = contrary (sym (rw e at h))
 
 -- The kinds of IRIs.
-module _ (P : ℕ → Type 0) (k : ℕ) (low : 1 ≤ k) (high : k ≤ 3) where
+module _ (P : ℕ → Type 0) (k : ℕ) (low : kind-code IRIREF ≤ k) (high : k ≤ kind-code «PNAME_LN») where
   pub each-iri : P 1 → P 2 → P 3 → P k
   each-iri a b c =
-      by (eqb k 1) (λ x. subst P (sym (eqb-true k 1 x)) a)
-      (λ x. by (eqb k 2) (λ y. subst P (sym (eqb-true k 2 y)) b) (λ y. subst P (let u = eqb-false k 1 x in let v = eqb-false k 2 y in let e : 3 ≡ k = omega (arith, u, v) in e) c))
+      by (eqb k (kind-code IRIREF)) (λ x. subst P (sym (eqb-true k (kind-code IRIREF) x)) a)
+      (λ x. by (eqb k (kind-code «PNAME_NS»)) (λ y. subst P (sym (eqb-true k (kind-code «PNAME_NS») y)) b) (λ y. subst P (let u = eqb-false k (kind-code IRIREF) x in let v = eqb-false k (kind-code «PNAME_NS») y in let e : kind-code «PNAME_LN» ≡ k = omega (arith, u, v) in e) c))
 
 -- The kinds of literals that are no strings: what is left of a term's.
-module _ (P : ℕ → Type 0) (k : ℕ) (h : is-term k ≡ true) (high : 3 < k) (n4 : k ≡ 4 → ⊥) (n13 : k ≡ 13 → ⊥) where
+module _ (P : ℕ → Type 0) (k : ℕ) (h : is-term k ≡ true) (high : kind-code «PNAME_LN» < k) (n4 : k ≡ kind-code «BLANK_NODE_LABEL» → ⊥) (n13 : k ≡ kind-code kw-a → ⊥) where
   pub each-literal : P 8 → P 9 → P 10 → P 14 → P 15 → P k
   each-literal a b c d e =
-      by (eqb k 8) (λ x. subst P (sym (eqb-true k 8 x)) a)
-      (λ x8. by (eqb k 9) (λ x. subst P (sym (eqb-true k 9 x)) b)
-      (λ x9. by (eqb k 10) (λ x. subst P (sym (eqb-true k 10 x)) c)
-      (λ x10. by (eqb k 14) (λ x. subst P (sym (eqb-true k 14 x)) d)
-      (λ x14. by (eqb k 15) (λ x. subst P (sym (eqb-true k 15 x)) e)
-      (λ x15. contrary (sym (rw (ne-eqb k 1 (λ z. omega arith), ne-eqb k 2 (λ z. omega arith), ne-eqb k 3 (λ z. omega arith), ne-eqb k 4 n4, ne-eqb k 13 n13, x8, x9, x10, x14, x15) at h)))))))
+      by (eqb k (kind-code INTEGER)) (λ x. subst P (sym (eqb-true k (kind-code INTEGER) x)) a)
+      (λ x8. by (eqb k (kind-code DECIMAL)) (λ x. subst P (sym (eqb-true k (kind-code DECIMAL) x)) b)
+      (λ x9. by (eqb k (kind-code DOUBLE)) (λ x. subst P (sym (eqb-true k (kind-code DOUBLE) x)) c)
+      (λ x10. by (eqb k (kind-code kw-true)) (λ x. subst P (sym (eqb-true k (kind-code kw-true) x)) d)
+      (λ x14. by (eqb k (kind-code kw-false)) (λ x. subst P (sym (eqb-true k (kind-code kw-false) x)) e)
+      (λ x15. contrary (sym (rw (ne-eqb k (kind-code IRIREF) (λ z. omega arith), ne-eqb k (kind-code «PNAME_NS») (λ z. omega arith), ne-eqb k (kind-code «PNAME_LN») (λ z. omega arith), ne-eqb k (kind-code «BLANK_NODE_LABEL») n4, ne-eqb k (kind-code kw-a) n13, x8, x9, x10, x14, x15) at h)))))))
 
-pub iri-flat : (k : ℕ) → 1 ≤ k → k ≤ 3 → among (open-bracket ∷ open-paren ∷ []) (kind-of-code k) ≡ false
+pub iri-flat : (k : ℕ) → kind-code IRIREF ≤ k → k ≤ kind-code «PNAME_LN» → among (open-bracket ∷ open-paren ∷ []) (kind-of-code k) ≡ false
 iri-flat k low high = each-iri (λ j. among (open-bracket ∷ open-paren ∷ []) (kind-of-code j) ≡ false) k low high refl refl refl
 
 -- ---- Rules
@@ -112,25 +112,25 @@ module _ (t : Token) (k : ℕ) (e : t .kind ≡ kind-of-code k) (w v : Write ℕ
 -- ---- What is written is what the rule says
 
 module _ (doc work work' : Text) (t t' : Tables) (st st' : List ℕ) (r : ℕ) where
-  plain-node-put : (k : ℕ) → getD st kind-word 0 ≡ k → Plain k → among (open-bracket ∷ open-paren ∷ []) (kind-of-code k) ≡ false
+  plain-node-put : (k : ℕ) → kind-in st ≡ k → Plain k → among (open-bracket ∷ open-paren ∷ []) (kind-of-code k) ≡ false
       → (w : Write ℕ) → find-rule (kind-of-code k) (term-rules (token-in doc st)) ≡ some w → Puts (placed (spot-in st) w) work work' t t' st st' r → PutsNode doc work work' t t' st st' r
   plain-node-put k e q o w f p v g =
       subst (λ (x : Write ℕ). PutsToken (token-in doc st) (placed (spot-in st) x) work work' t t' st st' r) (rule-is (token-in doc st) k (ap kind-of-code e) w v f g)
-      (puts-plain (token-in doc st) (placed (spot-in st) w) work work' t t' st st' r k (ap kind-of-code e) q (flat (getD st depth-word 0) (token-in doc st) k (ap kind-of-code e) o) p)
+      (puts-plain (token-in doc st) (placed (spot-in st) w) work work' t t' st st' r k (ap kind-of-code e) q (flat (depth-in st) (token-in doc st) k (ap kind-of-code e) o) p)
 
-  pub type-put : getD st kind-word 0 ≡ 13 → Puts (placed (spot-in st) (term (iri rdf-type))) work work' t t' st st' r → PutsNode doc work work' t t' st st' r
+  pub type-put : kind-in st ≡ kind-code kw-a → Puts (placed (spot-in st) (term (iri rdf-type))) work work' t t' st st' r → PutsNode doc work work' t t' st st' r
   type-put e p = plain-node-put 13 e (record { escapes = refl; reference = refl; name = refl }) refl (term (iri rdf-type)) refl p
 
-  module _ (s : Text) (es : s ≡ take (getD st len-word 0) (drop (getD st at-word 0) doc)) where
-    pub label-put : getD st kind-word 0 ≡ 4 → Puts (placed (spot-in st) (term (blank (label (drop 2 s))))) work work' t t' st st' r → PutsNode doc work work' t t' st st' r
+  module _ (s : Text) (es : s ≡ take (len-in st) (drop (at-in st) doc)) where
+    pub label-put : kind-in st ≡ kind-code «BLANK_NODE_LABEL» → Puts (placed (spot-in st) (term (blank (label (drop 2 s))))) work work' t t' st st' r → PutsNode doc work work' t t' st st' r
     unfolding node-label
     label-put e p =
         plain-node-put 4 e (record { escapes = refl; reference = refl; name = refl }) refl (label-term (token-in doc st) false) refl
         (subst (λ (x : Text). Puts (placed (spot-in st) (term (blank (label (drop 2 x))))) work work' t t' st st' r) es p)
 
-    pub literal-put : (k : ℕ) → getD st kind-word 0 ≡ k → is-term k ≡ true → 3 < k → (k ≡ 4 → ⊥) → (k ≡ 13 → ⊥) → Puts (placed (spot-in st) (typed s (datatype-of k))) work work' t t' st st' r → PutsNode doc work work' t t' st st' r
+    pub literal-put : (k : ℕ) → kind-in st ≡ k → is-term k ≡ true → kind-code «PNAME_LN» < k → (k ≡ kind-code «BLANK_NODE_LABEL» → ⊥) → (k ≡ kind-code kw-a → ⊥) → Puts (placed (spot-in st) (typed s (datatype-of k))) work work' t t' st st' r → PutsNode doc work work' t t' st st' r
     literal-put k e h high n4 n13 p =
-        each-literal (λ (j : ℕ). getD st kind-word 0 ≡ j → Puts (placed (spot-in st) (typed (token-in doc st .text) (datatype-of j))) work work' t t' st st' r → PutsNode doc work work' t t' st st' r) k h high n4 n13
+        each-literal (λ (j : ℕ). kind-in st ≡ j → Puts (placed (spot-in st) (typed (token-in doc st .text) (datatype-of j))) work work' t t' st st' r → PutsNode doc work work' t t' st st' r) k h high n4 n13
         (λ x y. plain-node-put 8 x (record { escapes = refl; reference = refl; name = refl }) refl (typed (token-in doc st .text) (datatype-of 8)) refl y)
         (λ x y. plain-node-put 9 x (record { escapes = refl; reference = refl; name = refl }) refl (typed (token-in doc st .text) (datatype-of 9)) refl y)
         (λ x y. plain-node-put 10 x (record { escapes = refl; reference = refl; name = refl }) refl (typed (token-in doc st .text) (datatype-of 10)) refl y)
@@ -138,36 +138,36 @@ module _ (doc work work' : Text) (t t' : Tables) (st st' : List ℕ) (r : ℕ) w
         (λ x y. plain-node-put 15 x (record { escapes = refl; reference = refl; name = refl }) refl (typed (token-in doc st .text) (datatype-of 15)) refl y)
         e (subst (λ (x : Text). Puts (placed (spot-in st) (typed x (datatype-of k))) work work' t t' st st' r) es p)
 
-    pub iri-put : (k : ℕ) → getD st kind-word 0 ≡ k → 1 ≤ k → k ≤ 3 → PutsToken (token-as k (getD st at-word 0) s) (placed (spot-in st) (iri-term (token-as k (getD st at-word 0) s))) work work' t t' st st' r → PutsNode doc work work' t t' st st' r
+    pub iri-put : (k : ℕ) → kind-in st ≡ k → kind-code IRIREF ≤ k → k ≤ kind-code «PNAME_LN» → PutsToken (token-as k (at-in st) s) (placed (spot-in st) (iri-term (token-as k (at-in st) s))) work work' t t' st st' r → PutsNode doc work work' t t' st st' r
     iri-put k e low high p v g =
         subst (λ (x : Write ℕ). PutsToken (token-in doc st) (placed (spot-in st) x) work work' t t' st st' r)
         (rule-is (token-in doc st) k (ap kind-of-code e) (iri-term (token-in doc st)) v (each-iri (λ (j : ℕ). find-rule (kind-of-code j) (term-rules (token-in doc st)) ≡ some (iri-term (token-in doc st))) k low high refl refl refl) g)
-        (subst (λ (x : Text). PutsToken (token-as (getD st kind-word 0) (getD st at-word 0) x) (placed (spot-in st) (iri-term (token-as (getD st kind-word 0) (getD st at-word 0) x))) work work' t t' st st' r) es
-        (subst (λ (j : ℕ). PutsToken (token-as j (getD st at-word 0) s) (placed (spot-in st) (iri-term (token-as j (getD st at-word 0) s))) work work' t t' st st' r) (sym e) p))
+        (subst (λ (x : Text). PutsToken (token-as (kind-in st) (at-in st) x) (placed (spot-in st) (iri-term (token-as (kind-in st) (at-in st) x))) work work' t t' st st' r) es
+        (subst (λ (j : ℕ). PutsToken (token-as j (at-in st) s) (placed (spot-in st) (iri-term (token-as j (at-in st) s))) work work' t t' st st' r) (sym e) p))
 
 -- ---- The token as a part of the document
 
 module _ (doc : Text) (st : List ℕ) (c : Cursor doc st) where
   abbrev part : Text
-  part = take (getD st at-word 0 + getD st len-word 0 - getD st at-word 0) (drop (getD st at-word 0) doc)
+  part = take (at-in st + len-in st - at-in st) (drop (at-in st) doc)
 
-  pub part-is : part ≡ take (getD st len-word 0) (drop (getD st at-word 0) doc)
-  part-is = ap (λ (n : ℕ). take n (drop (getD st at-word 0) doc)) (let e : getD st at-word 0 + getD st len-word 0 - getD st at-word 0 ≡ getD st len-word 0 = omega arith in e)
+  pub part-is : part ≡ take (len-in st) (drop (at-in st) doc)
+  part-is = ap (λ (n : ℕ). take n (drop (at-in st) doc)) (let e : at-in st + len-in st - at-in st ≡ len-in st = omega arith in e)
 
-  part-length : length part ≡ getD st len-word 0
+  part-length : length part ≡ len-in st
   part-length = ap length part-is ∙ length-part
     where
-      length-part : length (take (getD st len-word 0) (drop (getD st at-word 0) doc)) ≡ getD st len-word 0
-      length-part = let i = c .inside in let d = length-drop (getD st at-word 0) doc in length-take-le (getD st len-word 0) (drop (getD st at-word 0) doc) (omega (arith, i, d))
+      length-part : length (take (len-in st) (drop (at-in st) doc)) ≡ len-in st
+      length-part = let i = c .inside in let d = length-drop (at-in st) doc in length-take-le (len-in st) (drop (at-in st) doc) (omega (arith, i, d))
 
   pub part-short : length part ≤ document-limit
   part-short = let i = c .inside in let n = c .size in let e = part-length in omega (arith, i, n, e)
 
   module _ (h : TokenHere doc st) where
-    pub part-begins : getD st kind-word 0 ≡ 1 → getD part 0 0 ≡ 60
+    pub part-begins : kind-in st ≡ kind-code IRIREF → getD part 0 0 ≡ 60
     part-begins e =
         ap (λ (s : Text). getD s 0 0) part-is
-        ∙ (getD-take (getD st len-word 0) (drop (getD st at-word 0) doc) 0 0 (h .some-byte) ∙ iriref-begins (drop (getD st at-word 0) doc) (h .here-valid) (getD st len-word 0) (rw e at (h .matched)))
+        ∙ (getD-take (len-in st) (drop (at-in st) doc) 0 0 (h .some-byte) ∙ iriref-begins (drop (at-in st) doc) (h .here-valid) (len-in st) (rw e at (h .matched)))
 
-    pub part-label : getD st kind-word 0 ≡ 4 → 2 < length part
-    part-label e = let l = label-long _ (getD st len-word 0) (rw e at (h .matched)) in let n = part-length in omega (arith, l, n)
+    pub part-label : kind-in st ≡ kind-code «BLANK_NODE_LABEL» → 2 < length part
+    part-label e = let l = label-long _ (len-in st) (rw e at (h .matched)) in let n = part-length in omega (arith, l, n)

@@ -11,6 +11,7 @@ use lib.Seq.{take-all}
 use Rattle.text.specs.Text.{Text}
 use Rattle.text.proofs.Compare.{by}
 use Rattle.limits.specs.Limits.{document-limit, iri-limit}
+use Rattle.token.specs.Kind.{kind-code, IRIREF, INTEGER, DECIMAL, DOUBLE, «PNAME_LN»}
 use Rattle.token.specs.Tokens.{Token}
 use Rattle.spelling.specs.Form.{undo, bad, joined}
 use Rattle.spelling.specs.declared.Form.the-variants.{Plain}
@@ -20,7 +21,7 @@ use Rattle.machine.specs.Memory.{Memory, Write, term, new-term, typed, iri-term
 use Rattle.token_iri.specs.Tests.{token-as, Sound}
 use Rattle.token_iri.specs.Addresses.{front-of, back-of, StandsFor, Addresses}
 use Rattle.token_iri.specs.declared.Address.{Address}
-use Rattle.state.specs.Words.{at-word, depth-word}
+use Rattle.state.specs.Words.{at-in, depth-in}
 use Rattle.state.specs.Represents.{Tables, room-in, Represents, Represented, Puts}
 use Rattle.state.specs.Writes.{node-write, placed, SpotFits, NodeFits}
 use Rattle.state.specs.declared.Spot.{Spot}
@@ -59,7 +60,7 @@ module _ (st : List ℕ) (s : Spot) (e : s ≡ spot-in st) where
   aimed-put W work work' t t' st' r p = subst (λ (x : Spot). Puts (W x) work work' t t' st st' r) e p
 
   pub spot-put : (n : Node) (back text tag work work' : Text) (t t' : Tables) (st' : List ℕ) (r : ℕ) → Puts (placed s (node-write n work back text tag (s .at))) work work' t t' st st' r
-      → Puts (placed (spot-in st) (node-write n work back text tag (getD st at-word 0))) work work' t t' st st' r
+      → Puts (placed (spot-in st) (node-write n work back text tag (at-in st))) work work' t t' st st' r
   spot-put n back text tag work work' t t' st' r p = aimed-put (λ (x : Spot). placed x (node-write n work back text tag (x .at))) work work' t t' st' r p
 
 -- ---- Nodes without a front
@@ -116,23 +117,23 @@ abbrev Named : ℕ → Text → Type 0
 Named k r = take (length (datatype-of k)) r ≡ datatype-of k
 
 module _ (k : ℕ) where
-  pub named-8 : k ≡ 8 → Named k xsd-integer
+  pub named-8 : k ≡ kind-code INTEGER → Named k xsd-integer
   named-8 e = subst (λ (n : ℕ). Named n xsd-integer) (sym e) refl
 
-  pub named-9 : k ≡ 9 → Named k xsd-decimal
+  pub named-9 : k ≡ kind-code DECIMAL → Named k xsd-decimal
   named-9 e = subst (λ (n : ℕ). Named n xsd-decimal) (sym e) refl
 
-  pub named-10 : k ≡ 10 → Named k (xsd-double ++ 0 ∷ [])
+  pub named-10 : k ≡ kind-code DOUBLE → Named k (xsd-double ++ 0 ∷ [])
   named-10 e = subst (λ (n : ℕ). Named n (xsd-double ++ 0 ∷ [])) (sym e) refl
 
-  pub named-other : (k ≡ 8 → ⊥) → (k ≡ 9 → ⊥) → (k ≡ 10 → ⊥) → Named k xsd-boolean
-  named-other a b c = rw (ne-eqb k 8 a, ne-eqb k 9 b, ne-eqb k 10 c) refl
+  pub named-other : (k ≡ kind-code INTEGER → ⊥) → (k ≡ kind-code DECIMAL → ⊥) → (k ≡ kind-code DOUBLE → ⊥) → Named k xsd-boolean
+  named-other a b c = rw (ne-eqb k (kind-code INTEGER) a, ne-eqb k (kind-code DECIMAL) b, ne-eqb k (kind-code DOUBLE) c) refl
 
-  pub sized-10 : k ≡ 10 → (39 ≡ length (datatype-of k)) × (39 ≤ 40)
+  pub sized-10 : k ≡ kind-code DOUBLE → (39 ≡ length (datatype-of k)) × (39 ≤ 40)
   sized-10 e = (subst (λ (n : ℕ). 39 ≡ length (datatype-of n)) (sym e) refl, omega arith)
 
-  pub sized-other : (k ≡ 10 → ⊥) → (40 ≡ length (datatype-of k)) × (40 ≤ 40)
-  sized-other c = (by (eqb k 8) (λ e. rw e refl) (λ e. by (eqb k 9) (λ f. rw (e, f) refl) (λ f. rw (e, f, ne-eqb k 10 c) refl)), omega arith)
+  pub sized-other : (k ≡ kind-code DOUBLE → ⊥) → (40 ≡ length (datatype-of k)) × (40 ≤ 40)
+  sized-other c = (by (eqb k (kind-code INTEGER)) (λ e. rw e refl) (λ e. by (eqb k (kind-code DECIMAL)) (λ f. rw (e, f) refl) (λ f. rw (e, f, ne-eqb k (kind-code DOUBLE) c) refl)), omega arith)
 
   pub name-part : (r : Text) (n : ℕ) → Named k r → n ≡ length (datatype-of k) → take n r ≡ datatype-of k
   name-part r n p e = ap (λ (m : ℕ). take m r) e ∙ p
@@ -160,9 +161,9 @@ module _ (a : Address) (token buffer : Text) where
   pub back-token : a .buffered ≡ false → take (a .to - a .from) (drop (a .from) token) ≡ back-of a token buffer
   back-token e = rw e
 
-module _ (kind : ℕ) (token work buffer : Text) (t : Tables) (st : List ℕ) (a : Address) (ad : Addresses kind token (take (length work - 0) (drop 0 work)) st buffer a) (begun : kind ≡ 1 → getD token 0 0 ≡ 60) where
+module _ (kind : ℕ) (token work buffer : Text) (t : Tables) (st : List ℕ) (a : Address) (ad : Addresses kind token (take (length work - 0) (drop 0 work)) st buffer a) (begun : kind ≡ kind-code IRIREF → getD token 0 0 ≡ 60) where
   abbrev name : Token
-  name = token-as kind (getD st at-word 0) token
+  name = token-as kind (at-in st) token
 
   there : Addresses kind token work st buffer a
   there = subst (λ (x : Text). Addresses kind token x st buffer a) (whole work) ad
@@ -170,13 +171,13 @@ module _ (kind : ℕ) (token work buffer : Text) (t : Tables) (st : List ℕ) (a
   stands : (old : Tables) (m : Memory) → Represents old m work t st → StandsFor (m .environment) name a (front-of a work) (back-of a token buffer)
   stands old m h =
       let e = h .environment in
-      subst (λ (x : Environment). StandsFor x name a (front-of a work) (back-of a token buffer)) e (there .stands (h .usable) (subst Sound (sym e) (h .base)) begun (getD st at-word 0))
+      subst (λ (x : Environment). StandsFor x name a (front-of a work) (back-of a token buffer)) e (there .stands (h .usable) (subst Sound (sym e) (h .base)) begun (at-in st))
 
   pub address-refused : (a .refused ≡ 0 → ⊥) → PutsToken name (placed (spot-in st) (iri-term name)) work work t t st st (a .refused)
   address-refused z =
       refused-token name (placed (spot-in st) (iri-term name)) work t st (a .refused) z
       (λ old m h. let s = stands old m h in
-      s .refusal ∙ sym (refusal-iri (room-in t) (getD st depth-word 0) (m .environment) name (placed (spot-in st) (iri-term name) m .1) (λ x. z (s .refusal ∙ x))))
+      s .refusal ∙ sym (refusal-iri (room-in t) (depth-in st) (m .environment) name (placed (spot-in st) (iri-term name) m .1) (λ x. z (s .refusal ∙ x))))
 
   module _ (z : a .refused ≡ 0) (text : Text) (short : length text ≤ document-limit) (back : Text) (eb : back ≡ back-of a token buffer) where
     pub address-fits : Represented work t st → NodeFits (node-of a) work back text text
@@ -197,14 +198,14 @@ module _ (kind : ℕ) (token work buffer : Text) (t : Tables) (st : List ℕ) (a
           text-slice = short;
         }
 
-    alike : (old : Tables) (m : Memory) → Represents old m work t st → (n : Memory) → n .environment ≡ m .environment → node-write (node-of a) work back text text (getD st at-word 0) n ≡ iri-term name n
+    alike : (old : Tables) (m : Memory) → Represents old m work t st → (n : Memory) → n .environment ≡ m .environment → node-write (node-of a) work back text text (at-in st) n ≡ iri-term name n
     unfolding node-write
     alike old m h n e = rw (e, eb, stands old m h .iri z)
 
-    pub address-put : (work' : Text) (t' : Tables) (st' : List ℕ) (r : ℕ) → 1 ≤ kind → kind ≤ 3
-        → Puts (placed (spot-in st) (node-write (node-of a) work back text text (getD st at-word 0))) work work' t t' st st' r
+    pub address-put : (work' : Text) (t' : Tables) (st' : List ℕ) (r : ℕ) → kind-code IRIREF ≤ kind → kind ≤ kind-code «PNAME_LN»
+        → Puts (placed (spot-in st) (node-write (node-of a) work back text text (at-in st))) work work' t t' st st' r
         → PutsToken name (placed (spot-in st) (iri-term name)) work work' t t' st st' r
     address-put work' t' st' r low high p =
-        puts-token name (placed (spot-in st) (iri-term name)) work work' t t' st st' r (λ old m h. sym (stands old m h .refusal) ∙ z) (flat (getD st depth-word 0) name kind refl (iri-flat kind low high))
-        (puts-same (placed (spot-in st) (node-write (node-of a) work back text text (getD st at-word 0))) (placed (spot-in st) (iri-term name)) work work' t t' st st' r
-        (λ old m h. placed-alike (spot-in st) (node-write (node-of a) work back text text (getD st at-word 0)) (iri-term name) m (alike old m h)) p)
+        puts-token name (placed (spot-in st) (iri-term name)) work work' t t' st st' r (λ old m h. sym (stands old m h .refusal) ∙ z) (flat (depth-in st) name kind refl (iri-flat kind low high))
+        (puts-same (placed (spot-in st) (node-write (node-of a) work back text text (at-in st))) (placed (spot-in st) (iri-term name)) work work' t t' st st' r
+        (λ old m h. placed-alike (spot-in st) (node-write (node-of a) work back text text (at-in st)) (iri-term name) m (alike old m h)) p)

@@ -7,12 +7,13 @@ use Prim.Native.Nat.{ℕ}
 use lib.Dec.{eqb}
 use lib.ListN.{length, getD}
 use Rattle.text.specs.Text.{Text, cond}
+use Rattle.token.specs.Kind.{kind-code, INTEGER, DECIMAL, DOUBLE}
 use Rattle.spelling.specs.declared.Form.the-variants.{Plain}
 use Rattle.token.specs.Tokens.{Token}
 use Rattle.dataset.specs.Terms.{xsd-integer, xsd-decimal, xsd-double, xsd-boolean}
 use Rattle.machine.specs.Memory.{Memory, Write}
 use Rattle.machine.specs.Rules.{find-rule}
-use Rattle.state.specs.Words.{kind-word, at-word, len-word, depth-word, list-word, x-word, y-word, opened-word, last-word, Stays}
+use Rattle.state.specs.Words.{x-word, y-word, opened-word, last-word, Stays, kind-in, at-in, len-in, depth-in, list-in}
 use Rattle.state.specs.Cursor.{token-of}
 use Rattle.state.specs.Represents.{Tables, room-in, Represents, Represented, Wrote}
 use Rattle.state.specs.Writes.{placed, SpotFits}
@@ -25,21 +26,21 @@ use Rattle.nodes.specs.Nodes.{term-rules}
 abbrev pub spot-in : List ℕ → Spot
 spot-in st =
     record {
-      list = not (eqb (getD st list-word 0) 0);
+      list = not (eqb (list-in st) 0);
       x = getD st x-word 0;
       y = getD st y-word 0;
       opened = getD st opened-word 0;
       last = getD st last-word 0;
-      at = getD st at-word 0;
+      at = at-in st;
     }
 
 -- The token at the cursor.
 abbrev pub token-in : Text → List ℕ → Token
-token-in doc st = token-of doc (getD st kind-word 0) (getD st at-word 0) (getD st len-word 0)
+token-in doc st = token-of doc (kind-in st) (at-in st) (len-in st)
 
 -- w was done at the token, and the cursor stands there still; or the token was refused.
 pub record PutsToken (token : Token) (w : Write ℕ) (work work' : Text) (t t' : Tables) (st st' : List ℕ) (r : ℕ) : Type 0 where
-  pub refusal : (old : Tables) (m : Memory) → Represents old m work t st → r ≡ token-refusal (room-in t) (getD st depth-word 0) (m .environment) token (w m .1)
+  pub refusal : (old : Tables) (m : Memory) → Represents old m work t st → r ≡ token-refusal (room-in t) (depth-in st) (m .environment) token (w m .1)
   pub wrote : r ≡ 0 → Wrote w work work' t t' st st'
   pub stays : Stays st st'
   pub words : length st' ≡ length st
@@ -54,7 +55,7 @@ plain-node k = record { kind = k; start = 0; end = 0; form = Plain; text = Plain
 
 -- The datatype of a literal that is no string, by its kind.
 abbrev pub datatype-of : ℕ → Text
-datatype-of k = cond (eqb k 8) xsd-integer (cond (eqb k 9) xsd-decimal (cond (eqb k 10) xsd-double xsd-boolean))
+datatype-of k = cond (eqb k (kind-code INTEGER)) xsd-integer (cond (eqb k (kind-code DECIMAL)) xsd-decimal (cond (eqb k (kind-code DOUBLE)) xsd-double xsd-boolean))
 
 -- What the writers of a term's token are called with.
 pub record PutReady (work : Text) (t : Tables) (st : List ℕ) : Type 0 where

@@ -6,24 +6,26 @@ ghost use mathlib.Core.Bool.{true};
 ghost use Prim.Native.Nat.{_+_, _≤_, _<_};
 ghost use lib.ListN.{length, getD, take, drop};
 ghost use Rattle.limits.specs.Limits.{document-limit, iri-limit, depth-limit};
-ghost use Rattle.token.specs.Kind.{kw-a};
+ghost use Rattle.token.specs.Kind.{kind-code, IRIREF, «PNAME_LN», kw-a, open-bracket, open-paren, close-paren};
 ghost use Rattle.environment.specs.Code.{words-size};
 ghost use Rattle.dataset.specs.Terms.{iri, blank, label, bracket, rdf-type};
 ghost use Rattle.machine.specs.Memory.{term, new-term, typed, iri-term};
 ghost use Rattle.token_iri.specs.Tests.{token-as};
-ghost use Rattle.state.specs.Words.{kind-word, at-word, depth-word, graph-word};
+ghost use Rattle.state.specs.Words.{kind-in, at-in, depth-in, graph-in};
 ghost use Rattle.state.specs.Cursor.{Cursor, TokenHere};
 ghost use Rattle.state.specs.Represents.{lent-tables, Puts};
 ghost use Rattle.state.specs.Writes.{node-write, placed, opened-at, NodeFits};
-ghost use Rattle.simulation.specs.Simulation.{code-among, held, Ready, Does};
+ghost use Rattle.simulation.specs.Simulation.{code-among, Ready, Does, at-call, at-entry, at-exit};
 ghost use Rattle.nodes.specs.Nodes.{term-kinds, spot-of, Spotted, Numbers, PutsTerm, Closes, Passed};
 ghost use Rattle.simple_terms.specs.Leaves.{spot-in, datatype-of, PutReady, PutsToken, PutsNode};
 use environment::Layout;
+use limits::Answer;
 use limits::Limits;
 use spelling::Form;
 use state::Node;
 use state::Spot;
 use state::Words;
+use token::Kind;
 
 // Where the next node belongs.
 fn spot_here(st: &[usize; Layout::WORDS]) -> Spot
@@ -41,8 +43,8 @@ fn spot_here(st: &[usize; Layout::WORDS]) -> Spot
 
 // Goes behind an opening bracket.
 fn deepen(doc: &&[u8], st: &mut [usize; Layout::WORDS])
-    requires { ⌜ (Cursor (now (now doc)) (now st) × TokenHere (now (now doc)) (now st)) × ((length (now st) ≡ words-size) × (getD (now st) depth-word 0 < depth-limit)) ⌝ }
-    ensures { λ _. ⌜ Passed (now (now (doc .entry))) (now (st .entry)) (now (st .exit)) (getD (now (st .entry)) depth-word 0 + 1) (getD (now (st .entry)) graph-word 0) ⌝ }
+    requires { ⌜ (Cursor (now (now doc)) (now st) × TokenHere (now (now doc)) (now st)) × ((length (now st) ≡ words-size) × (depth-in (now st) < depth-limit)) ⌝ }
+    ensures { λ _. ⌜ Passed (now (now (doc .entry))) (now (st .entry)) (now (st .exit)) (depth-in (now (st .entry)) + 1) (graph-in (now (st .entry))) ⌝ }
 {
     st[Words::DEPTH] = st[Words::DEPTH] + 1;
     nodes::pass(doc, st);
@@ -60,7 +62,7 @@ fn place_node(
     text: &[u8],
 ) -> u8
     requires { ⌜ PutReady (now work) (lent-tables (now rows) (now terms) (now store)) (now st) × NodeFits node (now work) (now back) (now text) (now text) ⌝ }
-    ensures { λ r. ⌜ Puts (placed (spot-in (now (st .entry))) (node-write node (now (work .entry)) (now (back .entry)) (now (text .entry)) (now (text .entry)) (getD (now (st .entry)) at-word 0))) (now (work .entry)) (now (work .exit)) (lent-tables (now (rows .entry)) (now (terms .entry)) (now (store .entry))) (lent-tables (now (rows .exit)) (now (terms .exit)) (now (store .exit))) (now (st .entry)) (now (st .exit)) r ⌝ }
+    ensures { λ r. ⌜ Puts (placed (spot-in (now (st .entry))) (node-write node (now (work .entry)) (now (back .entry)) (now (text .entry)) (now (text .entry)) (at-in (now (st .entry))))) (now (work .entry)) (now (work .exit)) (lent-tables (now (rows .entry)) (now (terms .entry)) (now (store .entry))) (lent-tables (now (rows .exit)) (now (terms .exit)) (now (store .exit))) (now (st .entry)) (now (st .exit)) r ⌝ }
 {
     let spot = spot_here(st);
     placing::place(work, rows, terms, store, st, spot, node, back, text, text)
@@ -75,7 +77,7 @@ fn place_bracket(
     st: &mut [usize; Layout::WORDS],
 ) -> u8
     requires { ⌜ PutReady (now work) (lent-tables (now rows) (now terms) (now store)) (now st) ⌝ }
-    ensures { λ r. ⌜ Puts (placed (spot-in (now (st .entry))) (new-term (blank (bracket (getD (now (st .entry)) at-word 0))))) (now (work .entry)) (now (work .exit)) (lent-tables (now (rows .entry)) (now (terms .entry)) (now (store .entry))) (lent-tables (now (rows .exit)) (now (terms .exit)) (now (store .exit))) (now (st .entry)) (now (st .exit)) r ⌝ }
+    ensures { λ r. ⌜ Puts (placed (spot-in (now (st .entry))) (new-term (blank (bracket (at-in (now (st .entry))))))) (now (work .entry)) (now (work .exit)) (lent-tables (now (rows .entry)) (now (terms .entry)) (now (store .entry))) (lent-tables (now (rows .exit)) (now (terms .exit)) (now (store .exit))) (now (st .entry)) (now (st .exit)) r ⌝ }
 {
     let byte = [0u8; 1];
     let none = &byte[..0];
@@ -86,7 +88,7 @@ fn place_bracket(
         store,
         st,
         Node {
-            kind: 5,
+            kind: Node::NEW,
             start: 0,
             end: 0,
             form: Form::Plain,
@@ -116,7 +118,7 @@ fn place_type(
         store,
         st,
         Node {
-            kind: 1,
+            kind: Node::IRI,
             start: 0,
             end: 0,
             form: Form::Plain,
@@ -146,7 +148,7 @@ fn place_label(
         store,
         st,
         Node {
-            kind: 2,
+            kind: Node::BLANK,
             start: 0,
             end: 0,
             form: Form::Plain,
@@ -161,13 +163,13 @@ fn place_label(
 fn datatype(kind: usize) -> [u8; 40]
     ensures { λ r. ⌜ take (length (datatype-of kind)) r ≡ datatype-of kind ⌝ }
 {
-    if kind == 8 {
+    if kind == Kind::INTEGER {
         return *b"http://www.w3.org/2001/XMLSchema#integer";
     }
-    if kind == 9 {
+    if kind == Kind::DECIMAL {
         return *b"http://www.w3.org/2001/XMLSchema#decimal";
     }
-    if kind == 10 {
+    if kind == Kind::DOUBLE {
         return *b"http://www.w3.org/2001/XMLSchema#double\0";
     }
     *b"http://www.w3.org/2001/XMLSchema#boolean"
@@ -176,7 +178,7 @@ fn datatype(kind: usize) -> [u8; 40]
 fn datatype_size(kind: usize) -> usize
     ensures { λ r. ⌜ (r ≡ length (datatype-of kind)) × (r ≤ 40) ⌝ }
 {
-    if kind == 10 {
+    if kind == Kind::DOUBLE {
         return 39;
     }
     40
@@ -204,7 +206,7 @@ fn place_literal(
         store,
         st,
         Node {
-            kind: 3,
+            kind: Node::LITERAL,
             start: 0,
             end: 0,
             form: Form::Plain,
@@ -226,8 +228,8 @@ fn place_address(
     kind: usize,
     buffer: &mut [u8],
 ) -> u8
-    requires { ⌜ PutReady (now work) (lent-tables (now rows) (now terms) (now store)) (now st) × (((1 ≤ kind) × (kind ≤ 3)) × ((kind ≡ 1 → getD (now token) 0 0 ≡ 60) × (length (now token) ≤ document-limit))) × (length (now buffer) ≡ iri-limit) ⌝ }
-    ensures { λ r. ⌜ PutsToken (token-as kind (getD (now (st .entry)) at-word 0) (now (token .entry))) (placed (spot-in (now (st .entry))) (iri-term (token-as kind (getD (now (st .entry)) at-word 0) (now (token .entry))))) (now (work .entry)) (now (work .exit)) (lent-tables (now (rows .entry)) (now (terms .entry)) (now (store .entry))) (lent-tables (now (rows .exit)) (now (terms .exit)) (now (store .exit))) (now (st .entry)) (now (st .exit)) r ⌝ }
+    requires { ⌜ PutReady (now work) (lent-tables (now rows) (now terms) (now store)) (now st) × (((kind-code IRIREF ≤ kind) × (kind ≤ kind-code «PNAME_LN»)) × ((kind ≡ kind-code IRIREF → getD (now token) 0 0 ≡ 60) × (length (now token) ≤ document-limit))) × (length (now buffer) ≡ iri-limit) ⌝ }
+    ensures { λ r. ⌜ PutsToken (token-as kind (at-in (now (st .entry))) (now (token .entry))) (placed (spot-in (now (st .entry))) (iri-term (token-as kind (at-in (now (st .entry))) (now (token .entry))))) (now (work .entry)) (now (work .exit)) (lent-tables (now (rows .entry)) (now (terms .entry)) (now (store .entry))) (lent-tables (now (rows .exit)) (now (terms .exit)) (now (store .exit))) (now (st .entry)) (now (st .exit)) r ⌝ }
 {
     let a = token_iri::address_of(token, kind, &work[0..], st, buffer);
     let refused = a.refused;
@@ -238,7 +240,7 @@ fn place_address(
     let to = a.to;
     let form = a.form;
     let node = Node {
-        kind: 1,
+        kind: Node::IRI,
         start: a.start,
         end: a.end,
         form: form,
@@ -259,8 +261,8 @@ fn place_iri(
     token: &[u8],
     kind: usize,
 ) -> u8
-    requires { ⌜ PutReady (now work) (lent-tables (now rows) (now terms) (now store)) (now st) × (((1 ≤ kind) × (kind ≤ 3)) × ((kind ≡ 1 → getD (now token) 0 0 ≡ 60) × (length (now token) ≤ document-limit))) ⌝ }
-    ensures { λ r. ⌜ PutsToken (token-as kind (getD (now (st .entry)) at-word 0) (now (token .entry))) (placed (spot-in (now (st .entry))) (iri-term (token-as kind (getD (now (st .entry)) at-word 0) (now (token .entry))))) (now (work .entry)) (now (work .exit)) (lent-tables (now (rows .entry)) (now (terms .entry)) (now (store .entry))) (lent-tables (now (rows .exit)) (now (terms .exit)) (now (store .exit))) (now (st .entry)) (now (st .exit)) r ⌝ }
+    requires { ⌜ PutReady (now work) (lent-tables (now rows) (now terms) (now store)) (now st) × (((kind-code IRIREF ≤ kind) × (kind ≤ kind-code «PNAME_LN»)) × ((kind ≡ kind-code IRIREF → getD (now token) 0 0 ≡ 60) × (length (now token) ≤ document-limit))) ⌝ }
+    ensures { λ r. ⌜ PutsToken (token-as kind (at-in (now (st .entry))) (now (token .entry))) (placed (spot-in (now (st .entry))) (iri-term (token-as kind (at-in (now (st .entry))) (now (token .entry))))) (now (work .entry)) (now (work .exit)) (lent-tables (now (rows .entry)) (now (terms .entry)) (now (store .entry))) (lent-tables (now (rows .exit)) (now (terms .exit)) (now (store .exit))) (now (st .entry)) (now (st .exit)) r ⌝ }
 {
     let mut buffer = [0u8; Limits::IRI];
     place_address(work, rows, terms, store, st, token, kind, &mut buffer)
@@ -275,19 +277,19 @@ fn place_term(
     store: &mut [u8],
     st: &mut [usize; Layout::WORDS],
 ) -> u8
-    requires { ⌜ PutReady (now work) (lent-tables (now rows) (now terms) (now store)) (now st) × ((Cursor (now doc) (now st) × TokenHere (now doc) (now st)) × (code-among (kw-a ∷ term-kinds) (getD (now st) kind-word 0) ≡ true)) ⌝ }
+    requires { ⌜ PutReady (now work) (lent-tables (now rows) (now terms) (now store)) (now st) × ((Cursor (now doc) (now st) × TokenHere (now doc) (now st)) × (code-among (kw-a ∷ term-kinds) (kind-in (now st)) ≡ true)) ⌝ }
     ensures { λ r. ⌜ PutsNode (now (doc .entry)) (now (work .entry)) (now (work .exit)) (lent-tables (now (rows .entry)) (now (terms .entry)) (now (store .entry))) (lent-tables (now (rows .exit)) (now (terms .exit)) (now (store .exit))) (now (st .entry)) (now (st .exit)) r ⌝ }
 {
     let kind = st[Words::KIND];
     let at = st[Words::AT];
     let end = at + st[Words::LEN];
-    if kind <= 3 {
+    if kind <= Kind::PNAME_LN {
         return place_iri(work, rows, terms, store, st, &doc[at..end], kind);
     }
-    if kind == 4 {
+    if kind == Kind::BLANK_NODE_LABEL {
         return place_label(work, rows, terms, store, st, &doc[at..end]);
     }
-    if kind == 13 {
+    if kind == Kind::A {
         return place_type(work, rows, terms, store, st, &doc[at..end]);
     }
     place_literal(work, rows, terms, store, st, &doc[at..end], kind)
@@ -302,8 +304,8 @@ pub fn put_term(
     store: &mut &mut [u8],
     st: &mut [usize; Layout::WORDS],
 ) -> u8
-    requires { ⌜ (Ready (now (now doc)) (held (now work) (now rows) (now terms) (now store) (now st)) × Spotted (held (now work) (now rows) (now terms) (now store) (now st))) × (code-among (kw-a ∷ term-kinds) (getD (now st) kind-word 0) ≡ true) ⌝ }
-    ensures { λ r. ⌜ PutsTerm (now (now (doc .entry))) (held (now (work .entry)) (now (rows .entry)) (now (terms .entry)) (now (store .entry)) (now (st .entry))) (held (now (work .exit)) (now (rows .exit)) (now (terms .exit)) (now (store .exit)) (now (st .exit))) r ⌝ }
+    requires { ⌜ (Ready (now (now doc)) (at-call work rows terms store st) × Spotted (at-call work rows terms store st)) × (code-among (kw-a ∷ term-kinds) (kind-in (now st)) ≡ true) ⌝ }
+    ensures { λ r. ⌜ PutsTerm (now (now (doc .entry))) (at-entry work rows terms store st) (at-exit work rows terms store st) r ⌝ }
 {
     let r = place_term(*doc, *work, *rows, *terms, *store, st);
     if r != 0 {
@@ -322,11 +324,11 @@ pub fn put_bracket(
     store: &mut &mut [u8],
     st: &mut [usize; Layout::WORDS],
 ) -> u8
-    requires { ⌜ (Ready (now (now doc)) (held (now work) (now rows) (now terms) (now store) (now st)) × Spotted (held (now work) (now rows) (now terms) (now store) (now st))) × (getD (now st) kind-word 0 ≡ 22) ⌝ }
-    ensures { λ r. ⌜ Numbers (now (now (doc .entry))) (placed (spot-of (held (now (work .entry)) (now (rows .entry)) (now (terms .entry)) (now (store .entry)) (now (st .entry)))) (new-term (blank (bracket (getD (now (st .entry)) at-word 0))))) (held (now (work .entry)) (now (rows .entry)) (now (terms .entry)) (now (store .entry)) (now (st .entry))) (held (now (work .exit)) (now (rows .exit)) (now (terms .exit)) (now (store .exit)) (now (st .exit))) r ⌝ }
+    requires { ⌜ (Ready (now (now doc)) (at-call work rows terms store st) × Spotted (at-call work rows terms store st)) × (kind-in (now st) ≡ kind-code open-bracket) ⌝ }
+    ensures { λ r. ⌜ Numbers (now (now (doc .entry))) (placed (spot-of (at-entry work rows terms store st)) (new-term (blank (bracket (at-in (now (st .entry))))))) (at-entry work rows terms store st) (at-exit work rows terms store st) r ⌝ }
 {
     if Limits::DEPTH <= st[Words::DEPTH] {
-        return 13;
+        return Answer::DEPTH;
     }
     let r = place_bracket(*work, *rows, *terms, *store, st);
     if r != 0 {
@@ -345,11 +347,11 @@ pub fn put_paren(
     store: &mut &mut [u8],
     st: &mut [usize; Layout::WORDS],
 ) -> u8
-    requires { ⌜ (Ready (now (now doc)) (held (now work) (now rows) (now terms) (now store) (now st)) × Spotted (held (now work) (now rows) (now terms) (now store) (now st))) × (getD (now st) kind-word 0 ≡ 24) ⌝ }
-    ensures { λ r. ⌜ Does (now (now (doc .entry))) (opened-at (spot-of (held (now (work .entry)) (now (rows .entry)) (now (terms .entry)) (now (store .entry)) (now (st .entry))))) (held (now (work .entry)) (now (rows .entry)) (now (terms .entry)) (now (store .entry)) (now (st .entry))) (held (now (work .exit)) (now (rows .exit)) (now (terms .exit)) (now (store .exit)) (now (st .exit))) r ⌝ }
+    requires { ⌜ (Ready (now (now doc)) (at-call work rows terms store st) × Spotted (at-call work rows terms store st)) × (kind-in (now st) ≡ kind-code open-paren) ⌝ }
+    ensures { λ r. ⌜ Does (now (now (doc .entry))) (opened-at (spot-of (at-entry work rows terms store st))) (at-entry work rows terms store st) (at-exit work rows terms store st) r ⌝ }
 {
     if Limits::DEPTH <= st[Words::DEPTH] {
-        return 13;
+        return Answer::DEPTH;
     }
     let spot = spot_here(st);
     let r = placing::open(*work, *rows, *terms, *store, st, spot);
@@ -369,8 +371,8 @@ pub fn close_list(
     store: &mut &mut [u8],
     st: &mut [usize; Layout::WORDS],
 ) -> u8
-    requires { ⌜ (Ready (now (now doc)) (held (now work) (now rows) (now terms) (now store) (now st)) × Spotted (held (now work) (now rows) (now terms) (now store) (now st))) × ((getD (now st) kind-word 0 ≡ 25) × (0 < getD (now st) depth-word 0)) ⌝ }
-    ensures { λ r. ⌜ Closes (now (now (doc .entry))) (held (now (work .entry)) (now (rows .entry)) (now (terms .entry)) (now (store .entry)) (now (st .entry))) (held (now (work .exit)) (now (rows .exit)) (now (terms .exit)) (now (store .exit)) (now (st .exit))) r ⌝ }
+    requires { ⌜ (Ready (now (now doc)) (at-call work rows terms store st) × Spotted (at-call work rows terms store st)) × ((kind-in (now st) ≡ kind-code close-paren) × (0 < depth-in (now st))) ⌝ }
+    ensures { λ r. ⌜ Closes (now (now (doc .entry))) (at-entry work rows terms store st) (at-exit work rows terms store st) r ⌝ }
 {
     let spot = spot_here(st);
     let r = placing::close(*work, *rows, *terms, *store, st, spot);

@@ -1,17 +1,13 @@
 -- How the statements of routines compose.
-use mathlib.Core.Path.{_≡_, refl, sym, ap, ap₂, _∙_, subst}
-use mathlib.Core.List.{List, [], _∷_, _++_}
-use Prim.Native.Nat.{ℕ, _+_, _≤_, _<_}
+use mathlib.Core.Path.{_≡_, refl, ap, _∙_}
+use mathlib.Core.List.{List}
+use Prim.Native.Nat.{ℕ}
 use native.Mathlib.Omega.{arith}
-use lib.ListN.{length, getD}
 use denote.Ref.{RefT, at-last}
 use Rattle.text.specs.Text.{Text}
-use Rattle.grammar.specs.Productions.{Mode, trig}
-use Rattle.machine.specs.Memory.{Memory}
-use Rattle.machine.specs.Frame.{Frame, Open, statement}
-use Rattle.machine.specs.Step.{Room, Outcome, refused}
-use Rattle.state.specs.Represents.{Tables, lent-tables, room-in, Represents, Represented}
-use Rattle.simulation.specs.Simulation.{Held, tables-of, Holding, goes, Ready, Same, Onward, Comes}
+use Rattle.machine.specs.Frame.{Open}
+use Rattle.state.specs.Represents.{room-in}
+use Rattle.simulation.specs.Simulation.{Held, tables-of, Ready, Same, Comes}
 
 at-both : (x y z : RefT (List ℕ)) → z ≡ at-last y (z .now) → y ≡ at-last x (y .now) → z ≡ at-last x (z .now)
 at-both x y z e f = e ∙ ap (λ (r : RefT (List ℕ)). at-last r (z .now)) f

@@ -1,25 +1,22 @@
 -- The same for frames: what the rules of a frame say, whatever is open below it.
-use mathlib.Core.Path.{_≡_, refl, sym, ap, _∙_}
+use mathlib.Core.Path.{_≡_, refl, sym, ap}
 use mathlib.Core.List.{List, [], _∷_, _++_}
-use mathlib.Core.Bool.{Bool, true, false}
-use mathlib.Core.Option.{Option, none, some}
+use mathlib.Core.Bool.{Bool}
+use mathlib.Core.Option.{none, some}
 use Prim.Native.Nat.{ℕ}
-use lib.ListN.{getD}
-use Rattle.text.specs.Text.{Text, cond}
+use Rattle.text.specs.Text.{Text}
 use Rattle.text.proofs.Compare.{by}
 use Rattle.table.proofs.Numbers.{not-none}
 use Rattle.machine.proofs.Made.{some-same}
-use Rattle.token.specs.Kind.{Kind, among}
+use Rattle.token.specs.Kind.{Kind, end-kind, among}
 use Rattle.token.specs.Tokens.{Token}
-use Rattle.grammar.specs.Productions.{Mode}
 use Rattle.machine.specs.Memory.{Memory, Write, return, _>>=_}
-use Rattle.machine.specs.Frame.{Frame, Open, statement}
+use Rattle.machine.specs.Frame.{Frame, statement}
 use Rattle.machine.specs.Rules.{Rule, _⇒_, find-rule, above, frame-rules, rules}
-use Rattle.machine.specs.Step.{refused, at-end}
-use Rattle.state.specs.Words.{kind-word}
+use Rattle.state.specs.Words.{kind-in}
 use Rattle.state.specs.Cursor.{TokenHere}
 use Rattle.state.specs.Represents.{Tables}
-use Rattle.simulation.specs.Simulation.{Held, here, Holding, Ready, Comes, Reads, Does, refusal-here}
+use Rattle.simulation.specs.Simulation.{Held, here, Holding, Ready, Reads, Does, refusal-here}
 use Rattle.simulation.proofs.Steps.{does-ready, does-comes, refused-comes, tied-here}
 
 module _ (t : Token) (tied : Bool) (K : List Frame) (k : Kind) where
@@ -40,7 +37,7 @@ FrameDoes doc w f gs a r =
     (tied : Bool) → (v : Write (List Frame)) × ((find-rule (here doc a .kind) (frame-rules (here doc a) tied f) ≡ some v) × ((old : Tables) (m : Memory) → Holding old m a → (v m .1 ≡ w m .1) × (r ≡ 0 → v m .0 ≡ gs)))
 
 module _ (doc : Text) (f : Frame) (gs : List Frame) (a b : Held) (r : ℕ) (ready : Ready doc a) where
-  pub reads-does : (w : Write ℕ) → TokenHere doc (a .st) → (getD (a .st) kind-word 0 ≡ 0 → ⊥) → Does doc w a b r → FrameDoes doc w f gs a r → Reads doc (f ∷ []) gs a b r
+  pub reads-does : (w : Write ℕ) → TokenHere doc (a .st) → (kind-in (a .st) ≡ end-kind → ⊥) → Does doc w a b r → FrameDoes doc w f gs a r → Reads doc (f ∷ []) gs a b r
   unfolding rules
   reads-does w h z D rule =
       does-comes doc w (λ k. statement (f ∷ k)) (λ k. statement (gs ++ k)) a b r ready h z D (λ k. refl)
@@ -53,11 +50,11 @@ module _ (doc : Text) (f : Frame) (gs : List Frame) (a b : Held) (r : ℕ) (read
         ),
       ))
 
-pub ready-does : (doc : Text) (w : Write ℕ) (a b : Held) (r : ℕ) → Ready doc a → TokenHere doc (a .st) → (getD (a .st) kind-word 0 ≡ 0 → ⊥) → Does doc w a b r → r ≡ 0 → Ready doc b
+pub ready-does : (doc : Text) (w : Write ℕ) (a b : Held) (r : ℕ) → Ready doc a → TokenHere doc (a .st) → (kind-in (a .st) ≡ end-kind → ⊥) → Does doc w a b r → r ≡ 0 → Ready doc b
 ready-does doc w a b r ready h z D e = does-ready doc w statement statement a b r ready h z D (λ k. refl) e
 
 module _ (doc : Text) (f : Frame) (fs gs : List Frame) (a : Held) (r : ℕ) (ready : Ready doc a) where
-  pub reads-none : ((getD (a .st) kind-word 0 ≡ 0 → ⊥) → TokenHere doc (a .st) → (tied : Bool) → find-rule (here doc a .kind) (frame-rules (here doc a) tied f) ≡ none) → r ≡ refusal-here doc (a .st) → Reads doc (f ∷ fs) gs a a r
+  pub reads-none : ((kind-in (a .st) ≡ end-kind → ⊥) → TokenHere doc (a .st) → (tied : Bool) → find-rule (here doc a .kind) (frame-rules (here doc a) tied f) ≡ none) → r ≡ refusal-here doc (a .st) → Reads doc (f ∷ fs) gs a a r
   unfolding rules
   reads-none nothing-there e =
       refused-comes doc (λ k. statement (f ∷ (fs ++ k))) (λ k. statement (gs ++ k)) a ready r e

@@ -3,25 +3,27 @@ use mathlib.Core.Path.{_≡_}
 use mathlib.Core.List.{List, [], _∷_, _++_}
 use mathlib.Core.Bool.{Bool, false, _&&_, _||_}
 use Prim.Native.Nat.{ℕ, _+_, _≤_, _<_}
-use lib.Dec.{eqb, ltb}
+use lib.Dec.{eqb}
 use lib.ListN.{length, getD, take, drop}
+use denote.Triple.Both.{Both}
 use denote.Ref.{RefT, at-last}
 use Rattle.text.specs.Text.{Text, cond}
 use Rattle.limits.specs.Limits.{depth-limit}
-use Rattle.token.specs.Kind.{Kind, kind-code, IRIREF, strings}
+use Rattle.token.specs.Kind.{Kind, kind-code, unreadable-kind, IRIREF, strings}
 use Rattle.token.specs.Tokens.{Token}
 use Rattle.escape.specs.Escape.{bad-escape}
 use Rattle.grammar.specs.Productions.{Mode}
 use Rattle.lexer.specs.Rest.{rest}
 use Rattle.environment.specs.Environment.{Environment}
 use Rattle.dataset.specs.Constructors.{nothing, awaiting}
-use Rattle.table.specs.Tables.{or-zero, store-size}
+use Rattle.table.specs.Tables.{or-zero}
+use Rattle.table.specs.Layout.{word-limit}
 use Rattle.machine.specs.Memory.{Memory, Write}
 use Rattle.machine.specs.Frame.{Frame, Open, statement}
-use Rattle.machine.specs.Refusals.{no-character, undeclared, no-base, too-long, too-deep, new-depth}
-use Rattle.machine.specs.Step.{Room, State, _when_, Test, first-refusal, Outcome, refused, run}
-use Rattle.state.specs.Words.{node-word, kind-word, at-word, len-word, depth-word, list-word}
-use Rattle.state.specs.Cursor.{token-of, unreadable-kind, Cursor, remaining}
+use Rattle.machine.specs.Refusals.{new-depth, escape-tests, iri-tests, depth-tests, room-tests}
+use Rattle.machine.specs.Step.{Room, Test, first-refusal, Outcome, refused, run}
+use Rattle.state.specs.Words.{list-word, kind-in, at-in, len-in, depth-in, node-in}
+use Rattle.state.specs.Cursor.{token-of, Cursor, remaining}
 use Rattle.state.specs.Represents.{Tables, lent-tables, room-in, Represents, Represented}
 
 -- The lent slices behind their references, and the array.
@@ -35,38 +37,41 @@ pub record Held : Type 0 where
 abbrev pub held : RefT (List ℕ) → RefT (List ℕ) → RefT (List ℕ) → RefT (List ℕ) → List ℕ → Held
 held work rows terms store st = record { work = work; rows = rows; terms = terms; store = store; st = st }
 
+-- The same behind a routine's references: as it is called, and when it has begun and ended.
+abbrev Reference : Type 0
+Reference = RefT (RefT (List ℕ))
+
+abbrev pub at-call : Reference → Reference → Reference → Reference → RefT (List ℕ) → Held
+at-call work rows terms store st = held (work .now) (rows .now) (terms .now) (store .now) (st .now)
+
+abbrev Ends : Type 0
+Ends = Both Reference Reference
+
+abbrev pub at-entry : Ends → Ends → Ends → Ends → Both (RefT (List ℕ)) (RefT (List ℕ)) → Held
+at-entry work rows terms store st = at-call (work .entry) (rows .entry) (terms .entry) (store .entry) (st .entry)
+
+abbrev pub at-exit : Ends → Ends → Ends → Ends → Both (RefT (List ℕ)) (RefT (List ℕ)) → Held
+at-exit work rows terms store st = at-call (work .exit) (rows .exit) (terms .exit) (store .exit) (st .exit)
+
 abbrev pub tables-of : Held → Tables
 tables-of h = lent-tables (h .rows .now) (h .terms .now) (h .store .now)
 
--- Words of the array.
-abbrev pub word : ℕ → Held → ℕ
-word k h = getD (h .st) k 0
-
-abbrev pub kind-at : Held → ℕ
-kind-at h = getD (h .st) kind-word 0
-
-abbrev pub place-at : Held → ℕ
-place-at h = getD (h .st) at-word 0
-
-abbrev pub depth-at : Held → ℕ
-depth-at h = getD (h .st) depth-word 0
-
 -- The token at the cursor.
 abbrev pub here : Text → Held → Token
-here doc h = token-of doc (getD (h .st) kind-word 0) (getD (h .st) at-word 0) (getD (h .st) len-word 0)
+here doc h = token-of doc (kind-in (h .st)) (at-in (h .st)) (len-in (h .st))
 
 abbrev pub Holding : Tables → Memory → Held → Type 0
 Holding old m h = Represents old m (h .work .now) (tables-of h) (h .st)
 
 -- How the machine goes on from the cursor where this is open.
 unfoldable pub goes : Mode → Text → Held → Open → Memory → Outcome
-goes mode doc h o m = run mode (room-in (tables-of h)) (length doc) (remaining doc (h .st)) (record { open-now = o; depth = getD (h .st) depth-word 0; memory = m })
+goes mode doc h o m = run mode (room-in (tables-of h)) (length doc) (remaining doc (h .st)) (record { open-now = o; depth = depth-in (h .st); memory = m })
 
 -- What a routine may be called with.
 pub record Ready (doc : Text) (h : Held) : Type 0 where
   pub cursor : Cursor doc (h .st)
   pub holds : Represented (h .work .now) (tables-of h) (h .st)
-  pub depth : getD (h .st) depth-word 0 ≤ depth-limit
+  pub depth : depth-in (h .st) ≤ depth-limit
 
 -- The slices are the ones that were lent, and as long.
 pub record Same (a b : Held) : Type 0 where
@@ -90,9 +95,9 @@ pub record Onward {I : Type 0} (mode : Mode) (doc : Text) (old : Tables) (F G : 
 pub record Comes {I : Type 0} (doc : Text) (F G : I → Open) (a b : Held) (r : ℕ) : Type 0 where
   pub same : Same a b
   pub ready : r ≡ 0 → Ready doc b
-  pub later : r ≡ 0 → getD (a .st) at-word 0 ≤ getD (b .st) at-word 0
+  pub later : r ≡ 0 → at-in (a .st) ≤ at-in (b .st)
   pub on : r ≡ 0 → (mode : Mode) (old : Tables) (m : Memory) → Holding old m a → Onward mode doc old F G a b m
-  pub stop : (r ≡ 0 → ⊥) → (mode : Mode) (old : Tables) (m : Memory) → Holding old m a → (i : I) → goes mode doc a (F i) m ≡ refused r (getD (b .st) at-word 0)
+  pub stop : (r ≡ 0 → ⊥) → (mode : Mode) (old : Tables) (m : Memory) → Holding old m a → (i : I) → goes mode doc a (F i) m ≡ refused r (at-in (b .st))
 
 -- The same for frames, whatever is open below them.
 abbrev pub on-top : List Frame → List Frame → Open
@@ -110,39 +115,40 @@ pub record TurnsTo (mode : Mode) (doc : Text) (old : Tables) (o p : Open) (a b :
 pub record Turns (mode : Mode) (doc : Text) (o p : Open) (a b : Held) (r : ℕ) : Type 0 where
   pub same : Same a b
   pub ready : r ≡ 0 → Ready doc b
-  pub later : r ≡ 0 → getD (a .st) at-word 0 ≤ getD (b .st) at-word 0
+  pub later : r ≡ 0 → at-in (a .st) ≤ at-in (b .st)
   pub on : r ≡ 0 → (old : Tables) (m : Memory) → Holding old m a → TurnsTo mode doc old o p a b m
-  pub stop : (r ≡ 0 → ⊥) → (old : Tables) (m : Memory) → Holding old m a → goes mode doc a o m ≡ refused r (getD (b .st) at-word 0)
+  pub stop : (r ≡ 0 → ⊥) → (old : Tables) (m : Memory) → Holding old m a → goes mode doc a o m ≡ refused r (at-in (b .st))
 
 -- ---- One token
 
--- The refusals that a token which a statement's rule takes may meet, in number order; m is the memory that it makes.
+-- The tests of a token which a statement's rule takes; m is the memory that it makes.
+abbrev pub token-tests : Room → ℕ → Environment → Token → Memory → List Test
+token-tests room depth e t m = escape-tests t ++ iri-tests (awaiting nothing e) t ++ depth-tests depth t ++ room-tests room m
+
 unfoldable pub token-refusal : Room → ℕ → Environment → Token → Memory → ℕ
-token-refusal room depth e t m =
-    or-zero (first-refusal (7 when no-character t ∷ 9 when undeclared (awaiting nothing e) t ∷ 10 when no-base (awaiting nothing e) t ∷ 11 when too-long (awaiting nothing e) t ∷ 13 when too-deep depth t
-    ∷ 14 when ltb (room .rows) (length (m .rows)) ∷ 15 when ltb (room .terms) (length (m .terms)) ∷ 16 when ltb (room .store) (store-size (m .terms)) ∷ []))
+token-refusal room depth e t m = or-zero (first-refusal (token-tests room depth e t m))
 
 -- What a token leaves that is not refused.
 pub record Done (doc : Text) (w : Write ℕ) (a b : Held) : Type 0 where
   pub cursor : Cursor doc (b .st)
-  pub tokens : rest doc (getD (a .st) at-word 0 + getD (a .st) len-word 0) ≡ remaining doc (b .st)
-  pub later : getD (a .st) at-word 0 < getD (b .st) at-word 0
-  pub depth : getD (b .st) depth-word 0 ≡ new-depth (getD (a .st) depth-word 0) (here doc a)
+  pub tokens : rest doc (at-in (a .st) + len-in (a .st)) ≡ remaining doc (b .st)
+  pub later : at-in (a .st) < at-in (b .st)
+  pub depth : depth-in (b .st) ≡ new-depth (depth-in (a .st)) (here doc a)
   pub spot : (k : ℕ) → list-word ≤ k → getD (b .st) k 0 ≡ getD (a .st) k 0
   pub holding : (old : Tables) (m : Memory) → Holding old m a → Holding old (w m .1) b
 
 -- At the token of the cursor w was done, and the cursor is behind it; or it was refused.
 pub record Does (doc : Text) (w : Write ℕ) (a b : Held) (r : ℕ) : Type 0 where
   pub same : Same a b
-  pub refusal : (old : Tables) (m : Memory) → Holding old m a → r ≡ token-refusal (room-in (tables-of a)) (getD (a .st) depth-word 0) (m .environment) (here doc a) (w m .1)
-  pub place : (r ≡ 0 → ⊥) → getD (b .st) at-word 0 ≡ getD (a .st) at-word 0
+  pub refusal : (old : Tables) (m : Memory) → Holding old m a → r ≡ token-refusal (room-in (tables-of a)) (depth-in (a .st)) (m .environment) (here doc a) (w m .1)
+  pub place : (r ≡ 0 → ⊥) → at-in (b .st) ≡ at-in (a .st)
   pub done : r ≡ 0 → Done doc w a b
 
 -- The same, and the result of w is in the array.
 pub record Gives (doc : Text) (w : Write ℕ) (a b : Held) (r : ℕ) : Type 0 where
   pub does : Does doc w a b r
-  pub node : r ≡ 0 → (old : Tables) (m : Memory) → Holding old m a → getD (b .st) node-word 0 ≡ w m .0
-  pub small : r ≡ 0 → getD (b .st) node-word 0 < 4294967296
+  pub node : r ≡ 0 → (old : Tables) (m : Memory) → Holding old m a → node-in (b .st) ≡ w m .0
+  pub small : r ≡ 0 → node-in (b .st) < word-limit
 
 -- Is this the number of one of these kinds?
 abbrev pub code-among : List Kind → ℕ → Bool
@@ -156,5 +162,5 @@ escaped-kind k = code-among (IRIREF ∷ strings) k
 -- The refusal at a place where no rule takes what stands there.
 unfoldable pub refusal-here : Text → List ℕ → ℕ
 refusal-here doc st =
-    cond (eqb (getD st kind-word 0) unreadable-kind) 6
-    (cond (escaped-kind (getD st kind-word 0) && bad-escape (take (getD st len-word 0) (drop (getD st at-word 0) doc))) 7 8)
+    cond (eqb (kind-in st) unreadable-kind) 6
+    (cond (escaped-kind (kind-in st) && bad-escape (take (len-in st) (drop (at-in st) doc))) 7 8)

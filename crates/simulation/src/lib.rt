@@ -9,20 +9,19 @@ ghost use Rattle.state.specs.Words.{kind-word, at-word, len-word};
 ghost use Rattle.state.specs.Cursor.{Cursor};
 ghost use Rattle.simulation.specs.Simulation.{refusal-here, escaped-kind};
 use environment::Layout;
+use limits::Answer;
 use state::Words;
+use token::Kind;
 
 // Whether a token of this kind may hold numeric escapes: an IRIREF, or a string.
 pub fn has_escapes(kind: usize) -> bool
     ensures { λ r. ⌜ r ≡ escaped-kind kind ⌝ }
 {
-    match kind {
-        1 => true,
-        11 => true,
-        12 => true,
-        29 => true,
-        30 => true,
-        _ => false,
-    }
+    (kind == Kind::IRIREF)
+        | (kind == Kind::STRING_LITERAL_QUOTE)
+        | (kind == Kind::STRING_LITERAL_SINGLE_QUOTE)
+        | (kind == Kind::STRING_LITERAL_LONG_QUOTE)
+        | (kind == Kind::STRING_LITERAL_LONG_SINGLE_QUOTE)
 }
 
 // 6, 7 or 8.
@@ -31,16 +30,16 @@ pub fn unexpected(doc: &[u8], st: &[usize; Layout::WORDS]) -> u8
     ensures { λ r. ⌜ r ≡ refusal-here (now (doc .entry)) (now (st .entry)) ⌝ }
 {
     let kind = st[Words::KIND];
-    if kind == Words::UNREADABLE {
-        return 6;
+    if kind == Kind::UNREADABLE {
+        return Answer::TOKEN;
     }
     if has_escapes(kind) {
         let at = st[Words::AT];
         let end = at + st[Words::LEN];
         if escape::has_bad_escape(&doc[at..end]) {
-            return 7;
+            return Answer::ESCAPE;
         }
-        return 8;
+        return Answer::GRAMMAR;
     }
-    8
+    Answer::GRAMMAR
 }

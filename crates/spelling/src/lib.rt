@@ -10,6 +10,7 @@ ghost use Rattle.spelling.specs.Form.{undo, bad, joined};
 ghost use Rattle.spelling.specs.declared.Form.the-variants.{Plain};
 ghost use Rattle.spelling.specs.Hash.{first-multiplier, most-multiplier, stir, stir-4, hash-from};
 use escape::Scan;
+use text::wide;
 
 // How the back is written: as it is, with the escapes of strings and references, or with those of local names.
 pub enum Form {
@@ -104,12 +105,6 @@ pub fn write_joined(front: &[u8], form: Form, back: &[u8], out: &mut [u8]) -> us
     let n = front.len();
     text::copy(front, out);
     n + write_undone(form, back, &mut out[n..])
-}
-
-fn wide(b: u8) -> usize
-    ensures { λ r. ⌜ r ≡ b ⌝ }
-{
-    b as usize
 }
 
 // The first multiplier, and its powers modulo 2^32.

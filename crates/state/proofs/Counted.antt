@@ -12,7 +12,7 @@ use Rattle.token.specs.Tokens.{lexemes}
 use Rattle.grammar.specs.Productions.{Mode}
 use Rattle.table.specs.Layout.{row-room, term-room}
 use Rattle.machine.specs.Step.{run}
-use Rattle.machine.specs.Read.{Lent, room-of, start-state}
+use Rattle.machine.specs.Read.{Lent, lends, room-of, start-state}
 use Rattle.machine.specs.Demand.{room-for}
 use Rattle.machine.proofs.Sizes.{Alike, room-past}
 use Rattle.state.specs.Represents.{Tables, most-counted, counted, room-in}
@@ -25,7 +25,7 @@ same-test : (n k : ℕ) → k ≤ most-counted → ltb (counted n) k ≡ ltb n k
 same-test n k h = by (leb n most-counted) (λ e. rw e) (λ e. rw e (le-ltb most-counted k h ∙ sym (le-ltb n k (omega (arith, leb-false n most-counted e)))))
 
 abbrev lent-with : ℕ → Tables → Lent
-lent-with work t = record { work = work; rows = length (t .rows); terms = length (t .terms); store = length (t .store) }
+lent-with work t = lends work (length (t .rows)) (length (t .terms)) (length (t .store))
 
 counted-alike : (size work : ℕ) (t : Tables) → size ≤ document-limit → Alike (room-for size) (room-in t) (room-of (lent-with work t))
 counted-alike size work t h =

@@ -9,23 +9,17 @@ use lib.ListN.{length, getD, take, drop}
 use Rattle.text.specs.Text.{Text, cond}
 use Rattle.limits.specs.Limits.{document-limit}
 use Rattle.utf8.specs.Utf8.{decode, first-bad}
-use Rattle.token.specs.Kind.{kind-of-code}
+use Rattle.token.specs.Kind.{kind-of-code, last-kind, end-kind, unreadable-kind}
 use Rattle.token.specs.Regular.{hit}
 use Rattle.token.specs.Terminals.{token-at}
 use Rattle.token.specs.Tokens.{Token, Lexeme, token, unreadable}
 use Rattle.lexer.specs.Rest.{rest}
 use Rattle.lexer_words.specs.Ahead.{Clear}
-use Rattle.state.specs.Words.{kind-word, at-word, len-word, clear-word}
+use Rattle.state.specs.Words.{kind-word, clear-word, kind-in, at-in, len-in}
 
 -- The document's token of this kind, place and length.
 abbrev pub token-of : Text → ℕ → ℕ → ℕ → Token
 token-of doc kind at len = record { kind = kind-of-code kind; start = at; text = take len (drop at doc) }
-
-abbrev pub end-kind : ℕ
-end-kind = 0
-
-abbrev pub unreadable-kind : ℕ
-unreadable-kind = 31
 
 -- The tokens from the cursor on, where it holds a token of this kind, or the end, or a place where none can be read.
 unfoldable pub ahead : Text → ℕ → ℕ → ℕ → List Lexeme
@@ -35,23 +29,23 @@ ahead doc kind at len =
 
 -- There is a token at the cursor.
 pub record TokenHere (doc : Text) (st : List ℕ) : Type 0 where
-  pub known : getD st kind-word 0 ≤ 30
-  pub some-byte : 0 < getD st len-word 0
-  pub here-valid : first-bad (drop (getD st at-word 0) doc) ≡ none
-  pub matched : token-at (decode (drop (getD st at-word 0) doc)) ≡ hit (getD st kind-word 0) (getD st len-word 0)
-  pub valid : first-bad (drop (getD st at-word 0 + getD st len-word 0) doc) ≡ none
-  pub clear : Clear (drop (getD st at-word 0 + getD st len-word 0) doc) (getD st clear-word 0)
+  pub known : kind-in st ≤ last-kind
+  pub some-byte : 0 < len-in st
+  pub here-valid : first-bad (drop (at-in st) doc) ≡ none
+  pub matched : token-at (decode (drop (at-in st) doc)) ≡ hit (kind-in st) (len-in st)
+  pub valid : first-bad (drop (at-in st + len-in st) doc) ≡ none
+  pub clear : Clear (drop (at-in st + len-in st) doc) (getD st clear-word 0)
 
 -- The words hold the token at the cursor. What comes behind it can be read in the same way.
 pub record Cursor (doc : Text) (st : List ℕ) : Type 0 where
   pub size : length doc ≤ document-limit
-  pub inside : getD st at-word 0 + getD st len-word 0 ≤ length doc
-  pub at-end : getD st kind-word 0 ≡ end-kind → getD st at-word 0 ≡ length doc
-  pub token : (getD st kind-word 0 ≡ end-kind → ⊥) → (getD st kind-word 0 ≡ unreadable-kind → ⊥) → TokenHere doc st
+  pub inside : at-in st + len-in st ≤ length doc
+  pub at-end : kind-in st ≡ end-kind → at-in st ≡ length doc
+  pub token : (kind-in st ≡ end-kind → ⊥) → (kind-in st ≡ unreadable-kind → ⊥) → TokenHere doc st
 
 -- The tokens from the cursor on.
 abbrev pub remaining : Text → List ℕ → List Lexeme
-remaining doc st = ahead doc (getD st kind-word 0) (getD st at-word 0) (getD st len-word 0)
+remaining doc st = ahead doc (kind-in st) (at-in st) (len-in st)
 
 -- What moving the cursor leaves alone.
 abbrev pub StaysBeside : List ℕ → List ℕ → Type 0
@@ -61,6 +55,6 @@ StaysBeside st st' = (k : ℕ) → (k < kind-word) ⊎ (clear-word < k) → getD
 pub record Sought (doc : Text) (at : ℕ) (st st' : List ℕ) : Type 0 where
   pub cursor : Cursor doc st'
   pub tokens : rest doc at ≡ remaining doc st'
-  pub later : at ≤ getD st' at-word 0
+  pub later : at ≤ at-in st'
   pub beside : StaysBeside st st'
   pub words : length st' ≡ length st

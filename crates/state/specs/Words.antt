@@ -1,7 +1,7 @@
 -- The words of the reader's array.
 use mathlib.Core.Path.{_≡_}
 use mathlib.Core.List.{List}
-use Prim.Native.Nat.{ℕ, _+_, _≤_, _<_}
+use Prim.Native.Nat.{ℕ, _+_, _≤_}
 use lib.ListN.{getD}
 use Rattle.environment.specs.Code.{own-word}
 use Rattle.terms.specs.declared.Counts.{Counts}
@@ -63,9 +63,34 @@ opened-word = y-word + 1
 abbrev pub last-word : ℕ
 last-word = opened-word + 1
 
--- What is resumed at each depth: two words a depth, from here on.
+-- What is resumed at each depth: so many words a depth, from here on.
 abbrev pub level-word : ℕ
 level-word = last-word + 1
+
+abbrev pub level-size : ℕ
+level-size = 2
+
+-- What they hold: the node that was written last; the token at the cursor; how many brackets are open, the graph, whether a list is.
+abbrev pub node-in : List ℕ → ℕ
+node-in st = getD st node-word 0
+
+abbrev pub kind-in : List ℕ → ℕ
+kind-in st = getD st kind-word 0
+
+abbrev pub at-in : List ℕ → ℕ
+at-in st = getD st at-word 0
+
+abbrev pub len-in : List ℕ → ℕ
+len-in st = getD st len-word 0
+
+abbrev pub depth-in : List ℕ → ℕ
+depth-in st = getD st depth-word 0
+
+abbrev pub graph-in : List ℕ → ℕ
+graph-in st = getD st graph-word 0
+
+abbrev pub list-in : List ℕ → ℕ
+list-in st = getD st list-word 0
 
 abbrev pub counts-of : List ℕ → Counts
 counts-of st = record { terms = getD st terms-word 0; used = getD st used-word 0; blanks = getD st blanks-word 0 }

@@ -1,6 +1,6 @@
 -- What one token writes: the place of its node, the node, the row that holds it.
 use mathlib.Core.Path.{_≡_}
-use mathlib.Core.Bool.{Bool, true, false}
+use mathlib.Core.Bool.{false}
 use Prim.Native.Nat.{ℕ, zero, suc, _-_, _≤_, _<_}
 use lib.Dec.{eqb}
 use lib.ListN.{length, take, drop}
@@ -8,6 +8,7 @@ use Rattle.text.specs.Text.{Text, cond}
 use Rattle.limits.specs.Limits.{document-limit, iri-limit, work-size}
 use Rattle.spelling.specs.Form.{undo, bad, joined}
 use Rattle.dataset.specs.Terms.{iri, blank, tagged, label, bracket}
+use Rattle.table.specs.Layout.{iri-kind, blank-kind, literal-kind, tagged-kind, word-limit}
 use Rattle.machine.specs.Memory.{Write, return, _>>=_, _>>_, term, new-term, typed}
 use Rattle.machine.specs.Frame.{Place, top, object-of, element-of, Cells, no-cell, cells}
 use Rattle.machine.specs.Rules.{hold, new-cell, end-list}
@@ -37,12 +38,16 @@ begin s = cond (s .list) (new-element s) (return (place-of (s .x) (s .y)))
 abbrev pub node-iri : Node → Text → Text → Text
 node-iri n work back = joined (take (n .end - n .start) (drop (n .start) work)) (n .form) back
 
+-- The kind of a new blank node; the others are those of terms.
+abbrev pub new-kind : ℕ
+new-kind = suc tagged-kind
+
 unfoldable pub node-write : Node → Text → Text → Text → Text → ℕ → Write ℕ
 node-write n work back text tag at =
-    cond (eqb (n .kind) 1) (term (iri (node-iri n work back)))
-    (cond (eqb (n .kind) 2) (term (blank (label text)))
-    (cond (eqb (n .kind) 3) (typed (undo (n .text) text) (node-iri n work back))
-    (cond (eqb (n .kind) 4) (term (tagged (undo (n .text) text) tag))
+    cond (eqb (n .kind) iri-kind) (term (iri (node-iri n work back)))
+    (cond (eqb (n .kind) blank-kind) (term (blank (label text)))
+    (cond (eqb (n .kind) literal-kind) (typed (undo (n .text) text) (node-iri n work back))
+    (cond (eqb (n .kind) tagged-kind) (term (tagged (undo (n .text) text) tag))
     (new-term (blank (bracket at))))))
 
 -- A node at its place; a place alone; the end of a list.
@@ -63,20 +68,20 @@ closed s = end-list (place-of (s .x) (s .y)) (s .opened) (cells-of (s .last)) (s
 
 -- What is asked of a place and of a node.
 pub record SpotFits (s : Spot) : Type 0 where
-  pub x : s .x < 4294967296
-  pub y : s .y < 4294967296
-  pub opened : s .opened < 4294967296
-  pub last : s .last < 4294967296
-  pub at : s .at < 4294967296
+  pub x : s .x < word-limit
+  pub y : s .y < word-limit
+  pub opened : s .opened < word-limit
+  pub last : s .last < word-limit
+  pub at : s .at < word-limit
 
 pub record NodeFits (n : Node) (work back text tag : Text) : Type 0 where
   pub low : 0 < n .kind
-  pub high : n .kind ≤ 5
+  pub high : n .kind ≤ new-kind
   pub order : n .start ≤ n .end
   pub front : n .end ≤ work-size
   pub back-right : bad (n .form) back ≡ false
   pub text-right : bad (n .text) text ≡ false
-  pub label-text : n .kind ≡ 2 → 0 < length text
+  pub label-text : n .kind ≡ blank-kind → 0 < length text
   pub short : length (node-iri n work back) ≤ iri-limit
   pub text-short : length (undo (n .text) text) ≤ document-limit
   pub tag-short : length tag ≤ document-limit

@@ -4,6 +4,7 @@ ghost use mathlib.Core.Path.{_≡_};
 ghost use Rattle.state.specs.Words.{counts-of};
 use environment::Layout;
 use spelling::Form;
+use table::TermKind;
 use terms::Counts;
 
 pub struct Words {}
@@ -23,7 +24,7 @@ impl Words {
     pub const KEPT_SIZE: usize = 32;
     // The number of the node that was written last.
     pub const NODE: usize = Self::KEPT + Self::KEPT_SIZE;
-    // The token at the cursor: its kind, or END, or UNREADABLE; its place and length; how far no prefixed name begins behind it.
+    // The token at the cursor: its kind, or END, or UNREADABLE (token::Kind); its place and length; how far no prefixed name begins behind it.
     pub const KIND: usize = Self::NODE + 1;
 
     pub const AT: usize = Self::KIND + 1;
@@ -45,12 +46,10 @@ impl Words {
     pub const OPENED: usize = Self::Y + 1;
 
     pub const LAST: usize = Self::OPENED + 1;
-    // What is resumed at each depth, from 0 to the limit, once a node is complete there: two words a depth.
+    // What is resumed at each depth, from 0 to the limit, once a node is complete there: so many words a depth.
     pub const LEVELS: usize = Self::LAST + 1;
 
-    pub const END: usize = 0;
-
-    pub const UNREADABLE: usize = 31;
+    pub const LEVEL_SIZE: usize = 2;
 }
 
 // How many terms, bytes of the store and blank nodes there are.
@@ -76,12 +75,24 @@ pub struct Spot {
     pub at: usize,
 }
 
-// A node: 1 an IRI, 2 a labelled blank node, 3 a literal with a datatype, 4 a literal with a tag, 5 a new blank node.
-// The IRI, of the node or its datatype, is a part of the work slice before a back of this form.
+// A node, by its kind. The IRI, of the node or its datatype, is a part of the work slice before a back of this form.
 pub struct Node {
     pub kind: usize,
     pub start: usize,
     pub end: usize,
     pub form: Form,
     pub text: Form,
+}
+
+// The kinds of node: those of terms, a blank node with its label among them, and a new blank node.
+impl Node {
+    pub const IRI: usize = TermKind::IRI;
+
+    pub const BLANK: usize = TermKind::BLANK;
+
+    pub const LITERAL: usize = TermKind::LITERAL;
+
+    pub const TAGGED: usize = TermKind::TAGGED;
+
+    pub const NEW: usize = Self::TAGGED + 1;
 }

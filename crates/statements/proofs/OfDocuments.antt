@@ -4,12 +4,13 @@ use mathlib.Core.List.{[]}
 use mathlib.Core.Bool.{Bool, false}
 use Prim.Native.Nat.{ℕ, _-_, _<_}
 use borrow.Author.Tests.{eq-eqb}
-use lib.ListN.{length, getD}
+use lib.ListN.{length}
 use Rattle.text.specs.Text.{Text, cond}
+use Rattle.token.specs.Kind.{kind-code, end-kind, GRAPH, open-brace}
 use Rattle.grammar.specs.Productions.{Mode, trig, turtle}
 use Rattle.machine.specs.Frame.{statement}
 use Rattle.machine.specs.Read.{mode-of}
-use Rattle.state.specs.Words.{kind-word, at-word}
+use Rattle.state.specs.Words.{kind-in, at-in}
 use Rattle.simulation.specs.Simulation.{code-among, Held, Ready, Turns}
 use Rattle.simulation.proofs.Turning.{turns-here, turns-then}
 use Rattle.simulation.proofs.Steps.{goes-ended}
@@ -22,13 +23,13 @@ use Rattle.statements.proofs.OfGraphs.{document-at}
 pub one-trig : (mode : ℕ) (doc : Text) (a b : Held) (r : ℕ) → mode ≡ 0 → Statement trig doc a b r → Statement (mode-of mode) doc a b r
 one-trig mode doc a b r e S = subst (λ (x : Bool). Statement (cond x trig turtle) doc a b r) (sym (eq-eqb mode 0 e)) S
 
-pub one-graph : (mode : ℕ) (doc : Text) (a b : Held) (r : ℕ) → mode ≡ 0 → getD (a .st) kind-word 0 ≡ 26 → Graph doc a b 0 r → Statement (mode-of mode) doc a b r
+pub one-graph : (mode : ℕ) (doc : Text) (a b : Held) (r : ℕ) → mode ≡ 0 → kind-in (a .st) ≡ kind-code open-brace → Graph doc a b 0 r → Statement (mode-of mode) doc a b r
 one-graph mode doc a b r e k G = one-trig mode doc a b r e (record { turns = G .turns trig (statement []) (document-at doc a k); later = G .later })
 
-pub plain-trig : (mode k : ℕ) (d : Bool) → d ≡ code-among directive-kinds k → d ≡ false → (k ≡ 26 → ⊥) → (k ≡ 18 → ⊥) → (k ≡ 0 → ⊥) → Plain mode k
+pub plain-trig : (mode k : ℕ) (d : Bool) → d ≡ code-among directive-kinds k → d ≡ false → (k ≡ kind-code open-brace → ⊥) → (k ≡ kind-code GRAPH → ⊥) → (k ≡ end-kind → ⊥) → Plain mode k
 plain-trig mode k d e f n26 n18 z = record { no-directive = sym e ∙ f; no-brace = λ m. n26; no-graph = λ m. n18; some-token = z }
 
-pub plain-turtle : (mode k : ℕ) (d : Bool) → d ≡ code-among directive-kinds k → d ≡ false → (mode ≡ 0 → ⊥) → (k ≡ 0 → ⊥) → Plain mode k
+pub plain-turtle : (mode k : ℕ) (d : Bool) → d ≡ code-among directive-kinds k → d ≡ false → (mode ≡ 0 → ⊥) → (k ≡ end-kind → ⊥) → Plain mode k
 plain-turtle mode k d e f y z = record { no-directive = sym e ∙ f; no-brace = λ m. absurd (y m); no-graph = λ m. absurd (y m); some-token = z }
 
 -- Some statements were read.
@@ -40,7 +41,7 @@ pub some-start : (mode : Mode) (doc : Text) (a : Held) → Ready doc a → SomeI
 some-start mode doc a r = record { ready = r; turns = turns-here mode doc (statement []) a r }
 
 module _ (mode : Mode) (doc : Text) (a b : Held) (I : SomeInv mode doc a b) where
-  pub some-end : getD (b .st) kind-word 0 ≡ 0 → ReadsAll mode doc a b 0
+  pub some-end : kind-in (b .st) ≡ end-kind → ReadsAll mode doc a b 0
   some-end k =
       record {
         same = I .turns .same;
@@ -58,5 +59,5 @@ module _ (mode : Mode) (doc : Text) (a b : Held) (I : SomeInv mode doc a b) wher
     pub some-again : r ≡ 0 → SomeInv mode doc a d
     some-again z = record { ready = S .turns .ready z; turns = subst (λ (x : ℕ). Turns mode doc (statement []) (statement []) a d x) z one-more }
 
-    pub some-less : r ≡ 0 → length doc - getD (d .st) at-word 0 < length doc - getD (b .st) at-word 0
+    pub some-less : r ≡ 0 → length doc - at-in (d .st) < length doc - at-in (b .st)
     some-less z = less-left doc b d (S .turns .ready z) (S .later z)

@@ -4,14 +4,13 @@ use mathlib.Core.List.{List, [], _∷_}
 use Prim.Native.Nat.{ℕ, _<_}
 use native.Mathlib.Omega.{arith}
 use borrow.Author.Tests.{ne-eqb}
-use lib.ListN.{getD}
 use denote.Ref.{RefT}
 use Rattle.text.specs.Text.{Text}
-use Rattle.token.specs.Kind.{open-brace}
+use Rattle.token.specs.Kind.{kind-code, open-brace}
 use Rattle.grammar.specs.Productions.{Mode, trig}
 use Rattle.machine.specs.Frame.{graph-body, label-or-subject, statement}
 use Rattle.machine.specs.Rules.{rules}
-use Rattle.state.specs.Words.{kind-word, depth-word}
+use Rattle.state.specs.Words.{kind-in, depth-in}
 use Rattle.simulation.specs.Simulation.{Held, held, Ready, refusal-here}
 use Rattle.simulation.proofs.Tests.{among-code}
 use Rattle.simulation.proofs.Turning.{turns-then, turns-none}
@@ -20,19 +19,20 @@ use Rattle.nodes.specs.Nodes.{Passed}
 use Rattle.statements.specs.Statements.{Block, GraphAt, Graph}
 use Rattle.statements.proofs.OfMarks.{open-mark, mark-enters, mark-ready}
 use Rattle.statements.proofs.OfBlocks.{inner}
+use Rattle.table.specs.Layout.{word-limit}
 
 module _ (doc : Text) (work rows terms store : RefT (List ℕ)) (st : List ℕ) (n : ℕ) (r : Ready doc (held work rows terms store st)) where
   abbrev a : Held
   a = held work rows terms store st
 
-  pub graph-none : (q : ℕ) → (getD st kind-word 0 ≡ 26 → ⊥) → q ≡ refusal-here doc st → Graph doc a a n q
+  pub graph-none : (q : ℕ) → (kind-in st ≡ kind-code open-brace → ⊥) → q ≡ refusal-here doc st → Graph doc a a n q
   graph-none q k e =
       record {
         turns = λ mode o G. turns-none mode doc o (statement []) a q r e (λ z h tied. G .others k z h tied) (λ i m. G .ended k i m);
         later = λ z. absurd (here-some doc st (sym e ∙ z));
       }
 
-  module _ (st' : List ℕ) (k : getD st kind-word 0 ≡ 26) (small : n < 4294967296) (p : Passed doc st st' (getD st depth-word 0) n) where
+  module _ (st' : List ℕ) (k : kind-in st ≡ kind-code open-brace) (small : n < word-limit) (p : Passed doc st st' (depth-in st) n) where
     pub graph-open : Ready doc (held work rows terms store st')
     graph-open = mark-ready doc work rows terms store st st' 26 open-mark r k n small p
 
@@ -53,14 +53,14 @@ module _ (doc : Text) (h : Held) where
       record {
         waits = refl;
         brace = λ tied. refl;
-        others = λ y z t tied. rw (among-code (open-brace ∷ []) (getD (h .st) kind-word 0) z (t .known), ne-eqb (getD (h .st) kind-word 0) 26 y);
+        others = λ y z t tied. rw (among-code (open-brace ∷ []) (kind-in (h .st)) z (t .known), ne-eqb (kind-in (h .st)) (kind-code open-brace) y);
         ended = λ y n m. refl;
       }
 
-  pub label-at : getD (h .st) kind-word 0 ≡ 26 → (mode : Mode) (n : ℕ) → GraphAt mode doc h (statement (label-or-subject n ∷ [])) n
+  pub label-at : kind-in (h .st) ≡ kind-code open-brace → (mode : Mode) (n : ℕ) → GraphAt mode doc h (statement (label-or-subject n ∷ [])) n
   unfolding rules
   label-at k mode n = record { waits = refl; brace = λ tied. refl; others = λ y z t tied. absurd (y k); ended = λ y. absurd (y k) }
 
-  pub document-at : getD (h .st) kind-word 0 ≡ 26 → GraphAt trig doc h (statement []) 0
+  pub document-at : kind-in (h .st) ≡ kind-code open-brace → GraphAt trig doc h (statement []) 0
   unfolding rules
   document-at k = record { waits = refl; brace = λ tied. refl; others = λ y z t tied. absurd (y k); ended = λ y. absurd (y k) }

@@ -7,13 +7,13 @@ use Prim.Native.Nat.{ℕ, _+_, _-_, _<_}
 use native.Mathlib.Omega.{arith}
 use borrow.Author.Tests.{ne-eqb}
 use lib.Dec.{T, eqb}
-use lib.ListN.{length, getD}
+use lib.ListN.{length}
 use denote.Ref.{RefT}
 use Rattle.environment.specs.Code.{words-size}
 use Rattle.text.specs.Text.{Text}
 use Rattle.text.proofs.Compare.{contrary}
 use Rattle.text.proofs.Booleans.{imp, imp-use, all, is-true}
-use Rattle.token.specs.Kind.{Kind, among, iris, «BLANK_NODE_LABEL», INTEGER, DECIMAL, DOUBLE, kw-a, kw-true, kw-false, open-bracket, close-bracket}
+use Rattle.token.specs.Kind.{Kind, kind-code, end-kind, unreadable-kind, among, iris, «BLANK_NODE_LABEL», INTEGER, DECIMAL, DOUBLE, kw-a, kw-true, kw-false, open-bracket, close-bracket, IRIREF, «PNAME_NS», «PNAME_LN», GRAPH}
 use Rattle.token.specs.Tokens.{Token}
 use Rattle.token.proofs.KindCodes.{each-kind, all-kinds}
 use Rattle.grammar.specs.Productions.{trig}
@@ -22,7 +22,7 @@ use Rattle.machine.specs.Memory.{Memory, Write, return, _>>=_, term, new-term, 
 use Rattle.machine.specs.Frame.{Frame, graph-label, closing-label, graph-body, Open, statement}
 use Rattle.machine.specs.Rules.{Rule, _⇒_, find-rule, label-term, bracket-term, frame-rules, rules}
 use Rattle.machine.specs.Refusals.{new-depth}
-use Rattle.state.specs.Words.{node-word, kind-word, at-word, depth-word, graph-word}
+use Rattle.state.specs.Words.{at-word, kind-in, at-in, depth-in, node-in, graph-in}
 use Rattle.state.specs.Writes.{placed}
 use Rattle.state.specs.Cursor.{Cursor, TokenHere}
 use Rattle.simulation.specs.Simulation.{code-among, Held, held, here, Ready, Reads, on-top, Turns, refusal-here}
@@ -39,6 +39,7 @@ use Rattle.subjects.specs.Subjects.{label-kinds}
 use Rattle.statements.specs.Statements.{Graph, Statement}
 use Rattle.statements.proofs.OfMarks.{graph-mark, mark-passes}
 use Rattle.statements.proofs.OfGraphs.{body-at}
+use Rattle.table.specs.Layout.{word-limit}
 
 -- ---- Kinds
 
@@ -47,7 +48,7 @@ unfolding all
 label-is-term k h = is-true (among (kw-a ∷ term-kinds) k) (imp-use (among label-kinds k) (among (kw-a ∷ term-kinds) k) (all-kinds (λ j. imp (among label-kinds j) (among (kw-a ∷ term-kinds) j)) tt k) (subst T (sym h) tt))
 
 label-code : (k : ℕ) → code-among label-kinds k ≡ true → code-among (kw-a ∷ term-kinds) k ≡ true
-label-code k h = go (eqb k 13) (eqb k 1) (eqb k 2) (eqb k 3) (eqb k 4) _ h
+label-code k h = go (eqb k (kind-code kw-a)) (eqb k (kind-code IRIREF)) (eqb k (kind-code «PNAME_NS»)) (eqb k (kind-code «PNAME_LN»)) (eqb k (kind-code «BLANK_NODE_LABEL»)) _ h
   where
     or-true : (b : Bool) → (b || true) ≡ true
     or-true true = refl
@@ -91,7 +92,7 @@ module _ (t : Token) (tied : Bool) (k : Kind) where
 abbrev labelled : Open
 labelled = statement (graph-label ∷ [])
 
-module _ (doc : Text) (work rows terms store : RefT (List ℕ)) (st st1 st2 : List ℕ) (r : Ready doc (held work rows terms store st)) (k : getD st kind-word 0 ≡ 18) (p : Passed doc st st1 (getD st depth-word 0) (getD st graph-word 0)) (w : Aimed st1 st2 0 0 0 0 0) where
+module _ (doc : Text) (work rows terms store : RefT (List ℕ)) (st st1 st2 : List ℕ) (r : Ready doc (held work rows terms store st)) (k : kind-in st ≡ kind-code GRAPH) (p : Passed doc st st1 (depth-in st) (graph-in st)) (w : Aimed st1 st2 0 0 0 0 0) where
   abbrev a0 : Held
   a0 = held work rows terms store st
 
@@ -110,7 +111,7 @@ module _ (doc : Text) (work rows terms store : RefT (List ℕ)) (st st1 st2 : Li
       turns-then trig doc (statement []) labelled labelled a0 a1 a 0 0 passed refl
       (turns-comes trig doc (on-top (graph-label ∷ [])) (on-top (graph-label ∷ [])) a1 a 0 (comes-aimed doc work rows terms store st1 st2 (w .before) (w .words) (on-top (graph-label ∷ [])) (passed .ready refl)) [])
 
-  aimed-later : getD st at-word 0 < getD st2 at-word 0
+  aimed-later : at-in st < at-in st2
   aimed-later = rw (w .before at-word (omega arith)) (p .later)
 
   pub name-ready : Ready doc a
@@ -130,31 +131,31 @@ module _ (doc : Text) (work rows terms store : RefT (List ℕ)) (st st1 st2 : Li
       }
 
   -- Neither a label nor a bracket.
-  pub name-none : (t : Bool) → t ≡ code-among label-kinds (getD st2 kind-word 0) → t ≡ false → (getD st2 kind-word 0 ≡ 22 → ⊥) → (q : ℕ) → q ≡ refusal-here doc st2 → Statement trig doc a0 a q
+  pub name-none : (t : Bool) → t ≡ code-among label-kinds (kind-in st2) → t ≡ false → (kind-in st2 ≡ kind-code open-bracket → ⊥) → (q : ℕ) → q ≡ refusal-here doc st2 → Statement trig doc a0 a q
   name-none t e f n22 q g = then-stop a q (graph-body 0) (reads-none doc graph-label [] (graph-body 0 ∷ []) a q name-ready (λ z h tied. none-there z h tied) g) (λ z. here-some doc st2 (sym g ∙ z))
     where
-      none-there : (getD st2 kind-word 0 ≡ 0 → ⊥) → TokenHere doc st2 → (tied : Bool) → find-rule (here doc a .kind) (frame-rules (here doc a) tied graph-label) ≡ none
+      none-there : (kind-in st2 ≡ end-kind → ⊥) → TokenHere doc st2 → (tied : Bool) → find-rule (here doc a .kind) (frame-rules (here doc a) tied graph-label) ≡ none
       none-there z h tied =
-          label-none (here doc a) tied (here doc a .kind) (among-code label-kinds (getD st2 kind-word 0) z (h .known) ∙ (sym e ∙ f))
-          (among-code (open-bracket ∷ []) (getD st2 kind-word 0) z (h .known) ∙ rw (ne-eqb (getD st2 kind-word 0) 22 n22))
+          label-none (here doc a) tied (here doc a .kind) (among-code label-kinds (kind-in st2) z (h .known) ∙ (sym e ∙ f))
+          (among-code (open-bracket ∷ []) (kind-in st2) z (h .known) ∙ rw (ne-eqb (kind-in st2) (kind-code open-bracket) n22))
 
   -- ---- A term
 
-  module _ (t : Bool) (e : t ≡ code-among label-kinds (getD st2 kind-word 0)) (f : t ≡ true) where
-    some-label : code-among label-kinds (getD st2 kind-word 0) ≡ true
+  module _ (t : Bool) (e : t ≡ code-among label-kinds (kind-in st2)) (f : t ≡ true) where
+    some-label : code-among label-kinds (kind-in st2) ≡ true
     some-label = sym e ∙ f
 
-    pub name-call : (Ready doc a × Spotted a) × (code-among (kw-a ∷ term-kinds) (getD st2 kind-word 0) ≡ true)
-    name-call = ((name-ready, name-spotted), label-code (getD st2 kind-word 0) some-label)
+    pub name-call : (Ready doc a × Spotted a) × (code-among (kw-a ∷ term-kinds) (kind-in st2) ≡ true)
+    name-call = ((name-ready, name-spotted), label-code (kind-in st2) some-label)
 
-    some-here : getD st2 kind-word 0 ≡ 0 → ⊥
-    some-here = not-label (getD st2 kind-word 0) 0 some-label refl
+    some-here : kind-in st2 ≡ end-kind → ⊥
+    some-here = not-label (kind-in st2) end-kind some-label refl
 
     token-here : TokenHere doc st2
-    token-here = name-ready .cursor .token some-here (not-label (getD st2 kind-word 0) 31 some-label refl)
+    token-here = name-ready .cursor .token some-here (not-label (kind-in st2) unreadable-kind some-label refl)
 
     among-here : among label-kinds (here doc a .kind) ≡ true
-    among-here = among-code label-kinds (getD st2 kind-word 0) some-here (token-here .known) ∙ some-label
+    among-here = among-code label-kinds (kind-in st2) some-here (token-here .known) ∙ some-label
 
     module _ (b : Held) (q : ℕ) (P : PutsTerm doc a b q) where
       named : (v : Write ℕ) × (find-rule (here doc a .kind) (term-rules (here doc a)) ≡ some v)
@@ -163,11 +164,11 @@ module _ (doc : Text) (work rows terms store : RefT (List ℕ)) (st st1 st2 : Li
       name-numbers : Numbers doc (placed (spot-of a) (named .0)) a b q
       name-numbers = P (named .0) (named .1)
 
-      name-reads : Reads doc (graph-label ∷ []) (graph-body (getD (b .st) node-word 0) ∷ []) a b q
+      name-reads : Reads doc (graph-label ∷ []) (graph-body (node-in (b .st)) ∷ []) a b q
       name-reads =
           let v : Write ℕ = named .0 in
           let N = name-numbers .gives in
-          reads-does doc graph-label (graph-body (getD (b .st) node-word 0) ∷ []) a b q name-ready (placed (spot-of a) v) token-here some-here (N .does)
+          reads-does doc graph-label (graph-body (node-in (b .st)) ∷ []) a b q name-ready (placed (spot-of a) v) token-here some-here (N .does)
           (λ tied. (
             (v >>= λ g. return (graph-body g ∷ [])),
             (
@@ -180,41 +181,41 @@ module _ (doc : Text) (work rows terms store : RefT (List ℕ)) (st st1 st2 : Li
           ))
 
       pub name-stop : (q ≡ 0 → ⊥) → Statement trig doc a0 b q
-      name-stop z = then-stop b q (graph-body (getD (b .st) node-word 0)) name-reads z
+      name-stop z = then-stop b q (graph-body (node-in (b .st))) name-reads z
 
       module _ (z : q ≡ 0) where
-        pub name-graph-call : Ready doc b × (getD (b .st) node-word 0 < 4294967296)
+        pub name-graph-call : Ready doc b × (node-in (b .st) < word-limit)
         name-graph-call = (name-reads .ready z, name-numbers .gives .small z)
 
-        pub name-graph : (d : Held) (s : ℕ) → Graph doc b d (getD (b .st) node-word 0) s → Statement trig doc a0 d s
+        pub name-graph : (d : Held) (s : ℕ) → Graph doc b d (node-in (b .st)) s → Statement trig doc a0 d s
         name-graph d s G =
-            let body = statement (graph-body (getD (b .st) node-word 0) ∷ []) in
+            let body = statement (graph-body (node-in (b .st)) ∷ []) in
             record {
               turns =
                   turns-then trig doc (statement []) labelled (statement []) a0 a d 0 s aimed refl
-                  (turns-then trig doc labelled body (statement []) a b d q s (turns-comes trig doc (on-top (graph-label ∷ [])) (on-top (graph-body (getD (b .st) node-word 0) ∷ [])) a b q name-reads []) z
-                  (G .turns trig body (body-at doc b trig (getD (b .st) node-word 0))));
+                  (turns-then trig doc labelled body (statement []) a b d q s (turns-comes trig doc (on-top (graph-label ∷ [])) (on-top (graph-body (node-in (b .st)) ∷ [])) a b q name-reads []) z
+                  (G .turns trig body (body-at doc b trig (node-in (b .st)))));
               later = λ y. omega (arith, aimed-later, name-reads .later z, G .later y);
             }
 
   -- ---- A bracket
 
-  module _ (k22 : getD st2 kind-word 0 ≡ 22) where
-    pub bracket-call : (Ready doc a × Spotted a) × (getD st2 kind-word 0 ≡ 22)
+  module _ (k22 : kind-in st2 ≡ kind-code open-bracket) where
+    pub bracket-call : (Ready doc a × Spotted a) × (kind-in st2 ≡ kind-code open-bracket)
     bracket-call = ((name-ready, name-spotted), k22)
 
-    bracket-some : getD st2 kind-word 0 ≡ 0 → ⊥
+    bracket-some : kind-in st2 ≡ end-kind → ⊥
     bracket-some h = omega arith
 
     bracket-token : TokenHere doc st2
     bracket-token = name-ready .cursor .token bracket-some (λ h. omega arith)
 
     abbrev node-made : Write ℕ
-    node-made = new-term (blank (bracket-node (getD st2 at-word 0)))
+    node-made = new-term (blank (bracket-node (at-in st2)))
 
-    bracket-reads : (b : Held) (q : ℕ) → Numbers doc (placed (spot-of a) node-made) a b q → Reads doc (graph-label ∷ []) (closing-label (getD (b .st) node-word 0) ∷ []) a b q
+    bracket-reads : (b : Held) (q : ℕ) → Numbers doc (placed (spot-of a) node-made) a b q → Reads doc (graph-label ∷ []) (closing-label (node-in (b .st)) ∷ []) a b q
     bracket-reads b q N =
-        reads-does doc graph-label (closing-label (getD (b .st) node-word 0) ∷ []) a b q name-ready (placed (spot-of a) node-made) bracket-token bracket-some (N .gives .does)
+        reads-does doc graph-label (closing-label (node-in (b .st)) ∷ []) a b q name-ready (placed (spot-of a) node-made) bracket-token bracket-some (N .gives .does)
         (λ tied. (
           (node-made >>= λ g. return (closing-label g ∷ [])),
           (
@@ -227,58 +228,58 @@ module _ (doc : Text) (work rows terms store : RefT (List ℕ)) (st st1 st2 : Li
         ))
 
     pub bracket-stop : (b : Held) (q : ℕ) → Numbers doc (placed (spot-of a) node-made) a b q → (q ≡ 0 → ⊥) → Statement trig doc a0 b q
-    bracket-stop b q N z = then-stop b q (closing-label (getD (b .st) node-word 0)) (bracket-reads b q N) z
+    bracket-stop b q N z = then-stop b q (closing-label (node-in (b .st))) (bracket-reads b q N) z
 
     module _ (work2 rows2 terms2 store2 : RefT (List ℕ)) (u : List ℕ) (q : ℕ) (N : Numbers doc (placed (spot-of a) node-made) a (held work2 rows2 terms2 store2 u) q) (z : q ≡ 0) where
       abbrev b : Held
       b = held work2 rows2 terms2 store2 u
 
       abbrev closing : Open
-      closing = statement (closing-label (getD u node-word 0) ∷ [])
+      closing = statement (closing-label (node-in u) ∷ [])
 
       bracket-turns : Turns trig doc (statement []) closing a0 b q
       bracket-turns =
           turns-then trig doc (statement []) labelled closing a0 a b 0 q aimed refl
-          (turns-comes trig doc (on-top (graph-label ∷ [])) (on-top (closing-label (getD u node-word 0) ∷ [])) a b q (bracket-reads b q N) [])
+          (turns-comes trig doc (on-top (graph-label ∷ [])) (on-top (closing-label (node-in u) ∷ [])) a b q (bracket-reads b q N) [])
 
       pub bracket-ready : Ready doc b
       bracket-ready = bracket-turns .ready z
 
       -- No bracket closes it.
-      pub bracket-none : (getD u kind-word 0 ≡ 23 → ⊥) → (s : ℕ) → s ≡ refusal-here doc u → Statement trig doc a0 b s
+      pub bracket-none : (kind-in u ≡ kind-code close-bracket → ⊥) → (s : ℕ) → s ≡ refusal-here doc u → Statement trig doc a0 b s
       bracket-none n23 s g =
           record {
             turns =
                 turns-then trig doc (statement []) closing (statement []) a0 b b q s bracket-turns z
-                (turns-comes trig doc (on-top (closing-label (getD u node-word 0) ∷ [])) (on-top []) b b s
-                (reads-none doc (closing-label (getD u node-word 0)) [] [] b s bracket-ready (λ x h tied. rw (among-code (close-bracket ∷ []) (getD u kind-word 0) x (h .known), ne-eqb (getD u kind-word 0) 23 n23)) g) []);
+                (turns-comes trig doc (on-top (closing-label (node-in u) ∷ [])) (on-top []) b b s
+                (reads-none doc (closing-label (node-in u)) [] [] b s bracket-ready (λ x h tied. rw (among-code (close-bracket ∷ []) (kind-in u) x (h .known), ne-eqb (kind-in u) (kind-code close-bracket) n23)) g) []);
             later = λ y. absurd (here-some doc u (sym g ∙ y));
           }
 
-      deeper : getD u depth-word 0 ≡ getD st2 depth-word 0 + 1
+      deeper : depth-in u ≡ depth-in st2 + 1
       unfolding new-depth
       deeper = N .gives .does .done z .depth ∙ rw k22
 
-      pub bracket-leave : getD u kind-word 0 ≡ 23 → (Cursor doc u × TokenHere doc u) × ((length u ≡ words-size) × (0 < getD u depth-word 0))
-      bracket-leave c = leave-call doc b 23 bracket-ready c (λ h. omega arith) (λ h. omega arith) (omega (arith, deeper))
+      pub bracket-leave : kind-in u ≡ kind-code close-bracket → (Cursor doc u × TokenHere doc u) × ((length u ≡ words-size) × (0 < depth-in u))
+      bracket-leave c = leave-call doc b (kind-code close-bracket) bracket-ready c (λ h. omega arith) (λ h. omega arith) (omega (arith, deeper))
 
-      module _ (u' : List ℕ) (c : getD u kind-word 0 ≡ 23) (left : Passed doc u u' (getD u depth-word 0 - 1) (getD u graph-word 0)) where
+      module _ (u' : List ℕ) (c : kind-in u ≡ kind-code close-bracket) (left : Passed doc u u' (depth-in u - 1) (graph-in u)) where
         abbrev b' : Held
         b' = held work2 rows2 terms2 store2 u'
 
-        closed : Reads doc (closing-label (getD u node-word 0) ∷ []) (graph-body (getD u node-word 0) ∷ []) b b' 0
-        closed = close-reads doc work2 rows2 terms2 store2 u u' bracket-ready c left (closing-label (getD u node-word 0)) (graph-body (getD u node-word 0) ∷ []) (λ t tied. refl)
+        closed : Reads doc (closing-label (node-in u) ∷ []) (graph-body (node-in u) ∷ []) b b' 0
+        closed = close-reads doc work2 rows2 terms2 store2 u u' bracket-ready c left (closing-label (node-in u)) (graph-body (node-in u) ∷ []) (λ t tied. refl)
 
-        pub bracket-graph-call : Ready doc b' × (getD u node-word 0 < 4294967296)
+        pub bracket-graph-call : Ready doc b' × (node-in u < word-limit)
         bracket-graph-call = (closed .ready refl, N .gives .small z)
 
-        pub bracket-graph : (d : Held) (s : ℕ) → Graph doc b' d (getD u node-word 0) s → Statement trig doc a0 d s
+        pub bracket-graph : (d : Held) (s : ℕ) → Graph doc b' d (node-in u) s → Statement trig doc a0 d s
         bracket-graph d s G =
-            let body = statement (graph-body (getD u node-word 0) ∷ []) in
+            let body = statement (graph-body (node-in u) ∷ []) in
             record {
               turns =
                   turns-then trig doc (statement []) closing (statement []) a0 b d q s bracket-turns z
-                  (turns-then trig doc closing body (statement []) b b' d 0 s (turns-comes trig doc (on-top (closing-label (getD u node-word 0) ∷ [])) (on-top (graph-body (getD u node-word 0) ∷ [])) b b' 0 closed []) refl
-                  (G .turns trig body (body-at doc b' trig (getD u node-word 0))));
+                  (turns-then trig doc closing body (statement []) b b' d 0 s (turns-comes trig doc (on-top (closing-label (node-in u) ∷ [])) (on-top (graph-body (node-in u) ∷ [])) b b' 0 closed []) refl
+                  (G .turns trig body (body-at doc b' trig (node-in u))));
               later = λ y. omega (arith, bracket-turns .later z, left .later, G .later y);
             }

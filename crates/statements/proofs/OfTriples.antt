@@ -11,7 +11,7 @@ use lib.ListN.{getD}
 use denote.Ref.{RefT}
 use Rattle.text.specs.Text.{Text, cond}
 use Rattle.text.proofs.Booleans.{all}
-use Rattle.token.specs.Kind.{Kind, kind-of-code, among, GRAPH, dot, open-brace, at-prefix, at-base, PREFIX, BASE}
+use Rattle.token.specs.Kind.{Kind, kind-code, last-kind, end-kind, kind-of-code, among, GRAPH, dot, open-brace, at-prefix, at-base, PREFIX, BASE}
 use Rattle.token.specs.Tokens.{Token}
 use Rattle.token.proofs.KindCodes.{each-kind}
 use Rattle.grammar.specs.Productions.{trig, turtle}
@@ -19,7 +19,7 @@ use Rattle.machine.specs.Memory.{return}
 use Rattle.machine.specs.Frame.{full-stop, Place, top, subject-before, label-or-subject, Open, statement}
 use Rattle.machine.specs.Rules.{find-rule, subject-rules, document-rules, end-rules, above, rules}
 use Rattle.machine.specs.Read.{mode-of}
-use Rattle.state.specs.Words.{kind-word, depth-word, graph-word, list-word, x-word}
+use Rattle.state.specs.Words.{x-word, kind-in, depth-in, graph-in, list-in}
 use Rattle.simulation.specs.Simulation.{code-among, Held, held, here, Ready, Turns, refusal-here}
 use Rattle.simulation.proofs.Tests.{kinds-of, among-any, among-code, no-rule}
 use Rattle.simulation.proofs.Turning.{turns-then, turns-stop, turns-none}
@@ -33,6 +33,7 @@ use Rattle.statements.proofs.OfLabels.{labels, no-labels}
 use Rattle.statements.proofs.Behind.{Behind, no-graph, behind-subject, subject-ready}
 use Rattle.statements.proofs.OfBlocks.{ends-none, ends-at}
 use Rattle.statements.proofs.OfGraphs.{label-at}
+use Rattle.table.specs.Layout.{word-limit}
 
 abbrev between : Open
 between = statement []
@@ -50,13 +51,13 @@ module _ (t : Token) (tied : Bool) (k : Kind) (h : among subject-kinds k ≡ tru
   subject-turtle =
       rw (apart (among subject-kinds) (among (at-prefix ∷ [])) tt k h, apart (among subject-kinds) (among (at-base ∷ [])) tt k h, apart (among subject-kinds) (among (PREFIX ∷ [])) tt k h, apart (among subject-kinds) (among (BASE ∷ [])) tt k h)
 
-module _ (t : Token) (tied : Bool) (k : ℕ) (z : k ≡ 0 → ⊥) (h : k ≤ 30) (d : code-among directive-kinds k ≡ false) (e : among subject-kinds (kind-of-code k) ≡ false) where
-  none-trig : (k ≡ 26 → ⊥) → (k ≡ 18 → ⊥) → find-rule (kind-of-code k) (rules t tied trig between) ≡ none
+module _ (t : Token) (tied : Bool) (k : ℕ) (z : k ≡ end-kind → ⊥) (h : k ≤ last-kind) (d : code-among directive-kinds k ≡ false) (e : among subject-kinds (kind-of-code k) ≡ false) where
+  none-trig : (k ≡ kind-code open-brace → ⊥) → (k ≡ kind-code GRAPH → ⊥) → find-rule (kind-of-code k) (rules t tied trig between) ≡ none
   unfolding rules
   none-trig n26 n18 =
       no-rule (document-rules t tied trig) (kind-of-code k)
       (each-kind (among-any (kinds-of (document-rules t tied trig))) (λ j. among directive-kinds j || (among (open-brace ∷ []) j || (among (GRAPH ∷ []) j || among subject-kinds j))) refl (kind-of-code k)
-      ∙ rw (among-code directive-kinds k z h ∙ d, among-code (open-brace ∷ []) k z h, among-code (GRAPH ∷ []) k z h, ne-eqb k 26 n26, ne-eqb k 18 n18, e))
+      ∙ rw (among-code directive-kinds k z h ∙ d, among-code (open-brace ∷ []) k z h, among-code (GRAPH ∷ []) k z h, ne-eqb k (kind-code open-brace) n26, ne-eqb k (kind-code GRAPH) n18, e))
 
   none-turtle : find-rule (kind-of-code k) (rules t tied turtle between) ≡ none
   unfolding rules
@@ -68,14 +69,14 @@ module _ (t : Token) (tied : Bool) (k : ℕ) (z : k ≡ 0 → ⊥) (h : k ≤ 30
 abbrev place-in : Bool → Place
 place-in b = cond b top (subject-before full-stop)
 
-module _ (mode : ℕ) (doc : Text) (a : Held) (pl : Plain mode (getD (a .st) kind-word 0)) where
+module _ (mode : ℕ) (doc : Text) (a : Held) (pl : Plain mode (kind-in (a .st))) where
   subject-between : (b : Bool) → eqb mode 0 ≡ b → SubjectAt (cond b trig turtle) doc a between (place-in b)
   subject-between true e =
       record {
         outer = tt;
         waits = refl;
         rules-are = λ k tied h. subject-trig (here doc a) tied k h;
-        others = λ z h tied f. none-trig (here doc a) tied (getD (a .st) kind-word 0) z (h .known) (pl .no-directive) f (pl .no-brace (eqb-true mode 0 e)) (pl .no-graph (eqb-true mode 0 e));
+        others = λ z h tied f. none-trig (here doc a) tied (kind-in (a .st)) z (h .known) (pl .no-directive) f (pl .no-brace (eqb-true mode 0 e)) (pl .no-graph (eqb-true mode 0 e));
         ended = λ z. absurd (pl .some-token z);
       }
   subject-between false e =
@@ -83,7 +84,7 @@ module _ (mode : ℕ) (doc : Text) (a : Held) (pl : Plain mode (getD (a .st) kin
         outer = tt;
         waits = refl;
         rules-are = λ k tied h. subject-turtle (here doc a) tied k h;
-        others = λ z h tied f. none-turtle (here doc a) tied (getD (a .st) kind-word 0) z (h .known) (pl .no-directive) f;
+        others = λ z h tied f. none-turtle (here doc a) tied (kind-in (a .st)) z (h .known) (pl .no-directive) f;
         ended = λ z. absurd (pl .some-token z);
       }
 
@@ -93,7 +94,7 @@ module _ (mode : ℕ) (doc : Text) (a : Held) (pl : Plain mode (getD (a .st) kin
   pub triples-stop : (b : Held) (r : ℕ) → Subject doc a b r → (r ≡ 0 → ⊥) → Statement (mode-of mode) doc a b r
   triples-stop b r S z =
       record {
-        turns = turns-stop (mode-of mode) doc between (statement (after-subject (getD (b .st) list-word 0) (place-in (eqb mode 0)) (getD (b .st) x-word 0))) between a b r (S .turns (mode-of mode) between (place-in (eqb mode 0)) subject-there) z;
+        turns = turns-stop (mode-of mode) doc between (statement (after-subject (list-in (b .st)) (place-in (eqb mode 0)) (getD (b .st) x-word 0))) between a b r (S .turns (mode-of mode) between (place-in (eqb mode 0)) subject-there) z;
         later = λ e. absurd (z e);
       }
 
@@ -101,7 +102,7 @@ module _ (mode : ℕ) (doc : Text) (a : Held) (pl : Plain mode (getD (a .st) kin
     subject-read : Subject doc a b 0
     subject-read = subst (λ (x : ℕ). Subject doc a b x) z S
 
-    pub triples-subject : (Ready doc b × (getD (b .st) x-word 0 < 4294967296)) × (0 < getD (b .st) x-word 0)
+    pub triples-subject : (Ready doc b × (getD (b .st) x-word 0 < word-limit)) × (0 < getD (b .st) x-word 0)
     triples-subject = subject-ready (mode-of mode) doc between (place-in (eqb mode 0)) a b subject-there subject-read
 
     -- A label: its graph.
@@ -116,7 +117,7 @@ module _ (mode : ℕ) (doc : Text) (a : Held) (pl : Plain mode (getD (a .st) kin
           later = λ y. omega (arith, S .later z, G .later y);
         })
       where
-        label-open : mode ≡ 0 → getD (b .st) list-word 0 ≡ 0 → Turns trig doc between (statement (label-or-subject (getD (b .st) x-word 0) ∷ [])) a b 0
+        label-open : mode ≡ 0 → list-in (b .st) ≡ 0 → Turns trig doc between (statement (label-or-subject (getD (b .st) x-word 0) ∷ [])) a b 0
         label-open m l = subst (λ (x : ℕ). Turns trig doc between (statement (after-subject x top (getD (b .st) x-word 0))) a b 0) l (subject-read .turns trig between top (subject-between true (eq-eqb mode 0 m)))
 
     module _ (t : Bool) (e : t ≡ graph-label-test (b .st) mode) (f : t ≡ false) (s : ℕ) where
@@ -124,7 +125,7 @@ module _ (mode : ℕ) (doc : Text) (a : Held) (pl : Plain mode (getD (a .st) kin
       triples-behind d P = go (eqb mode 0) refl
         where
           go : (x : Bool) → eqb mode 0 ≡ x → Behind (cond x trig turtle) doc between full-stop a d s
-          go true y = behind-subject trig doc between top a b (subject-between true y) subject-read d s P (no-graph (getD (b .st) list-word 0) (getD (b .st) kind-word 0) (λ l k. no-labels (b .st) mode (sym e ∙ f) (eqb-true mode 0 y) l k))
+          go true y = behind-subject trig doc between top a b (subject-between true y) subject-read d s P (no-graph (list-in (b .st)) (kind-in (b .st)) (λ l k. no-labels (b .st) mode (sym e ∙ f) (eqb-true mode 0 y) l k))
           go false y = behind-subject turtle doc between (subject-before full-stop) a b (subject-between false y) subject-read d s P tt
 
       pub triples-behind-stop : (d : Held) → Predicates doc b d s → (s ≡ 0 → ⊥) → Statement (mode-of mode) doc a d s
@@ -135,21 +136,21 @@ module _ (mode : ℕ) (doc : Text) (a : Held) (pl : Plain mode (getD (a .st) kin
       pub triples-ready : (d : Held) → Predicates doc b d s → s ≡ 0 → Ready doc d
       triples-ready d P w = triples-behind d P .turns .ready w
 
-      pub triples-unexpected : (d : Held) → Predicates doc b d s → s ≡ 0 → (getD (d .st) kind-word 0 ≡ 19 → ⊥) → (q : ℕ) → q ≡ refusal-here doc (d .st) → Statement (mode-of mode) doc a d q
+      pub triples-unexpected : (d : Held) → Predicates doc b d s → s ≡ 0 → (kind-in (d .st) ≡ kind-code dot → ⊥) → (q : ℕ) → q ≡ refusal-here doc (d .st) → Statement (mode-of mode) doc a d q
       triples-unexpected d P w n19 q g =
           let B = triples-behind d P in
           record {
             turns =
                 turns-then (mode-of mode) doc between (statement (B .frame ∷ [])) between a d d s q (B .turns) w
                 (turns-none (mode-of mode) doc (statement (B .frame ∷ [])) between d q (B .turns .ready w) g
-                (λ x h tied. ends-none (mode-of mode) (here doc d) tied (B .frame) full-stop (getD (d .st) kind-word 0) (B .ends w) x (h .known) (none-there (here doc d) tied x (h .known))) (λ n m. refl));
+                (λ x h tied. ends-none (mode-of mode) (here doc d) tied (B .frame) full-stop (kind-in (d .st)) (B .ends w) x (h .known) (none-there (here doc d) tied x (h .known))) (λ n m. refl));
             later = λ y. absurd (here-some doc (d .st) (sym g ∙ y));
           }
         where
-          none-there : (u : Token) (tied : Bool) → (getD (d .st) kind-word 0 ≡ 0 → ⊥) → getD (d .st) kind-word 0 ≤ 30 → find-rule (kind-of-code (getD (d .st) kind-word 0)) (end-rules u tied full-stop) ≡ none
-          none-there u tied x h = rw (among-code (dot ∷ []) (getD (d .st) kind-word 0) x h, ne-eqb (getD (d .st) kind-word 0) 19 n19)
+          none-there : (u : Token) (tied : Bool) → (kind-in (d .st) ≡ end-kind → ⊥) → kind-in (d .st) ≤ last-kind → find-rule (kind-of-code (kind-in (d .st))) (end-rules u tied full-stop) ≡ none
+          none-there u tied x h = rw (among-code (dot ∷ []) (kind-in (d .st)) x h, ne-eqb (kind-in (d .st)) (kind-code dot) n19)
 
-      pub triples-dot : (work rows terms store : RefT (List ℕ)) (u u' : List ℕ) → Predicates doc b (held work rows terms store u) s → s ≡ 0 → getD u kind-word 0 ≡ 19 → Passed doc u u' (getD u depth-word 0) (getD u graph-word 0)
+      pub triples-dot : (work rows terms store : RefT (List ℕ)) (u u' : List ℕ) → Predicates doc b (held work rows terms store u) s → s ≡ 0 → kind-in u ≡ kind-code dot → Passed doc u u' (depth-in u) (graph-in u)
           → Statement (mode-of mode) doc a (held work rows terms store u') 0
       triples-dot work rows terms store u u' P w k p =
           let d = held work rows terms store u in
@@ -158,6 +159,6 @@ module _ (mode : ℕ) (doc : Text) (a : Held) (pl : Plain mode (getD (a .st) kin
             turns =
                 turns-then (mode-of mode) doc between (statement (B .frame ∷ [])) between a d (held work rows terms store u') s 0 (B .turns) w
                 (mark-passes doc work rows terms store u u' 19 dot-mark (B .turns .ready w) k p (mode-of mode) (statement (B .frame ∷ [])) between refl
-                (λ tied. ends-at (mode-of mode) (here doc d) tied (B .frame) full-stop (getD u kind-word 0) 19 k (B .ends w) (λ x. omega arith) (omega arith) (return []) refl));
+                (λ tied. ends-at (mode-of mode) (here doc d) tied (B .frame) full-stop (kind-in u) 19 k (B .ends w) (λ x. omega arith) (omega arith) (return []) refl));
             later = λ y. omega (arith, B .later w, p .later);
           }

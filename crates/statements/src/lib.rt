@@ -8,27 +8,26 @@ ghost use Rattle.dataset.specs.Terms.{blank, bracket};
 ghost use Rattle.machine.specs.Memory.{new-term};
 ghost use Rattle.grammar.specs.Productions.{trig};
 ghost use Rattle.machine.specs.Read.{mode-of};
-ghost use Rattle.state.specs.Words.{kind-word, at-word, depth-word, x-word};
+ghost use Rattle.state.specs.Words.{kind-in};
 ghost use Rattle.state.specs.Writes.{placed, opened-at};
-ghost use Rattle.simulation.specs.Simulation.{code-among, held, Ready, Does};
+ghost use Rattle.simulation.specs.Simulation.{code-among, Ready, Does, at-call, at-entry, at-exit};
 ghost use Rattle.nodes.specs.Nodes.{spot-of, Spotted, Numbers, PutsTerm, term-kinds, verb-kinds};
-ghost use Rattle.token.specs.Kind.{kw-a};
+ghost use Rattle.token.specs.Kind.{kind-code, end-kind, kw-a, GRAPH};
 ghost use Rattle.directives.specs.Directives.{directive-kinds};
 ghost use Rattle.subjects.specs.Subjects.{label-kinds, Subject, Predicates};
 ghost use Rattle.statements.specs.Statements.{Block, Graph, Statement, Plain, graph-label-test, ReadsAll};
+ghost use Rattle.table.specs.Layout.{word-limit};
 use environment::Layout;
 use state::Words;
+use token::Kind;
 
 fn is_directive(kind: usize) -> bool
     ensures { λ r. ⌜ r ≡ code-among directive-kinds kind ⌝ }
 {
-    match kind {
-        5 => true,
-        6 => true,
-        16 => true,
-        17 => true,
-        _ => false,
-    }
+    (kind == Kind::AT_PREFIX)
+        | (kind == Kind::AT_BASE)
+        | (kind == Kind::PREFIX)
+        | (kind == Kind::BASE)
 }
 
 // The triples in braces, behind the opening one.
@@ -40,11 +39,11 @@ fn block(
     store: &mut &mut [u8],
     st: &mut [usize; Layout::WORDS],
 ) -> u8
-    requires { ⌜ Ready (now (now doc)) (held (now work) (now rows) (now terms) (now store) (now st)) ⌝ }
-    ensures { λ r. ⌜ Block (now (now (doc .entry))) (held (now (work .entry)) (now (rows .entry)) (now (terms .entry)) (now (store .entry)) (now (st .entry))) (held (now (work .exit)) (now (rows .exit)) (now (terms .exit)) (now (store .exit)) (now (st .exit))) r ⌝ }
+    requires { ⌜ Ready (now (now doc)) (at-call work rows terms store st) ⌝ }
+    ensures { λ r. ⌜ Block (now (now (doc .entry))) (at-entry work rows terms store st) (at-exit work rows terms store st) r ⌝ }
 {
     loop {
-        if st[Words::KIND] == 27 {
+        if st[Words::KIND] == Kind::CLOSE_BRACE {
             nodes::enter(doc, st, 0);
             return 0;
         }
@@ -56,11 +55,11 @@ fn block(
         if d != 0 {
             return d;
         }
-        if st[Words::KIND] == 27 {
+        if st[Words::KIND] == Kind::CLOSE_BRACE {
             nodes::enter(doc, st, 0);
             return 0;
         }
-        if st[Words::KIND] != 19 {
+        if st[Words::KIND] != Kind::DOT {
             return simulation::unexpected(*doc, st);
         }
         nodes::pass(doc, st);
@@ -77,10 +76,10 @@ fn graph(
     st: &mut [usize; Layout::WORDS],
     n: usize,
 ) -> u8
-    requires { ⌜ Ready (now (now doc)) (held (now work) (now rows) (now terms) (now store) (now st)) × (n < 4294967296) ⌝ }
-    ensures { λ r. ⌜ Graph (now (now (doc .entry))) (held (now (work .entry)) (now (rows .entry)) (now (terms .entry)) (now (store .entry)) (now (st .entry))) (held (now (work .exit)) (now (rows .exit)) (now (terms .exit)) (now (store .exit)) (now (st .exit))) n r ⌝ }
+    requires { ⌜ Ready (now (now doc)) (at-call work rows terms store st) × (n < word-limit) ⌝ }
+    ensures { λ r. ⌜ Graph (now (now (doc .entry))) (at-entry work rows terms store st) (at-exit work rows terms store st) n r ⌝ }
 {
-    if st[Words::KIND] != 26 {
+    if st[Words::KIND] != Kind::OPEN_BRACE {
         return simulation::unexpected(*doc, st);
     }
     nodes::enter(doc, st, n);
@@ -96,8 +95,8 @@ fn named_graph(
     store: &mut &mut [u8],
     st: &mut [usize; Layout::WORDS],
 ) -> u8
-    requires { ⌜ Ready (now (now doc)) (held (now work) (now rows) (now terms) (now store) (now st)) × (getD (now st) kind-word 0 ≡ 18) ⌝ }
-    ensures { λ r. ⌜ Statement trig (now (now (doc .entry))) (held (now (work .entry)) (now (rows .entry)) (now (terms .entry)) (now (store .entry)) (now (st .entry))) (held (now (work .exit)) (now (rows .exit)) (now (terms .exit)) (now (store .exit)) (now (st .exit))) r ⌝ }
+    requires { ⌜ Ready (now (now doc)) (at-call work rows terms store st) × (kind-in (now st) ≡ kind-code GRAPH) ⌝ }
+    ensures { λ r. ⌜ Statement trig (now (now (doc .entry))) (at-entry work rows terms store st) (at-exit work rows terms store st) r ⌝ }
 {
     nodes::pass(doc, st);
     nodes::aim(st, 0, 0, 0, 0, 0);
@@ -109,7 +108,7 @@ fn named_graph(
         let n = st[Words::NODE];
         return graph(doc, work, rows, terms, store, st, n);
     }
-    if st[Words::KIND] != 22 {
+    if st[Words::KIND] != Kind::OPEN_BRACKET {
         return simulation::unexpected(*doc, st);
     }
     let d = simple_terms::put_bracket(doc, work, rows, terms, store, st);
@@ -117,7 +116,7 @@ fn named_graph(
         return d;
     }
     let g = st[Words::NODE];
-    if st[Words::KIND] != 23 {
+    if st[Words::KIND] != Kind::CLOSE_BRACKET {
         return simulation::unexpected(*doc, st);
     }
     nodes::leave(doc, st);
@@ -134,8 +133,8 @@ fn triples(
     st: &mut [usize; Layout::WORDS],
     mode: u8,
 ) -> u8
-    requires { ⌜ (Ready (now (now doc)) (held (now work) (now rows) (now terms) (now store) (now st)) × (mode ≤ 1)) × Plain mode (getD (now st) kind-word 0) ⌝ }
-    ensures { λ r. ⌜ Statement (mode-of mode) (now (now (doc .entry))) (held (now (work .entry)) (now (rows .entry)) (now (terms .entry)) (now (store .entry)) (now (st .entry))) (held (now (work .exit)) (now (rows .exit)) (now (terms .exit)) (now (store .exit)) (now (st .exit))) r ⌝ }
+    requires { ⌜ (Ready (now (now doc)) (at-call work rows terms store st) × (mode ≤ 1)) × Plain mode (kind-in (now st)) ⌝ }
+    ensures { λ r. ⌜ Statement (mode-of mode) (now (now (doc .entry))) (at-entry work rows terms store st) (at-exit work rows terms store st) r ⌝ }
 {
     let c = subjects::subject(doc, work, rows, terms, store, st);
     if c != 0 {
@@ -149,7 +148,7 @@ fn triples(
     if d != 0 {
         return d;
     }
-    if st[Words::KIND] != 19 {
+    if st[Words::KIND] != Kind::DOT {
         return simulation::unexpected(*doc, st);
     }
     nodes::pass(doc, st);
@@ -166,7 +165,7 @@ fn is_graph_label(st: &[usize; Layout::WORDS], mode: u8) -> bool
     if st[Words::LIST] != 0 {
         return false;
     }
-    st[Words::KIND] == 26
+    st[Words::KIND] == Kind::OPEN_BRACE
 }
 
 // A statement, a directive or a graph.
@@ -179,18 +178,18 @@ fn one_statement(
     st: &mut [usize; Layout::WORDS],
     mode: u8,
 ) -> u8
-    requires { ⌜ (Ready (now (now doc)) (held (now work) (now rows) (now terms) (now store) (now st)) × (mode ≤ 1)) × (getD (now st) kind-word 0 ≡ 0 → ⊥) ⌝ }
-    ensures { λ r. ⌜ Statement (mode-of mode) (now (now (doc .entry))) (held (now (work .entry)) (now (rows .entry)) (now (terms .entry)) (now (store .entry)) (now (st .entry))) (held (now (work .exit)) (now (rows .exit)) (now (terms .exit)) (now (store .exit)) (now (st .exit))) r ⌝ }
+    requires { ⌜ (Ready (now (now doc)) (at-call work rows terms store st) × (mode ≤ 1)) × (kind-in (now st) ≡ end-kind → ⊥) ⌝ }
+    ensures { λ r. ⌜ Statement (mode-of mode) (now (now (doc .entry))) (at-entry work rows terms store st) (at-exit work rows terms store st) r ⌝ }
 {
     let kind = st[Words::KIND];
     if is_directive(kind) {
         return directives::directive(doc, work, rows, terms, store, st);
     }
     if mode == 0 {
-        if kind == 26 {
+        if kind == Kind::OPEN_BRACE {
             return graph(doc, work, rows, terms, store, st, 0);
         }
-        if kind == 18 {
+        if kind == Kind::GRAPH {
             return named_graph(doc, work, rows, terms, store, st);
         }
         return triples(doc, work, rows, terms, store, st, mode);
@@ -208,10 +207,10 @@ pub fn statements(
     st: &mut [usize; Layout::WORDS],
     mode: u8,
 ) -> u8
-    requires { ⌜ Ready (now (now doc)) (held (now work) (now rows) (now terms) (now store) (now st)) × (mode ≤ 1) ⌝ }
-    ensures { λ r. ⌜ ReadsAll (mode-of mode) (now (now (doc .entry))) (held (now (work .entry)) (now (rows .entry)) (now (terms .entry)) (now (store .entry)) (now (st .entry))) (held (now (work .exit)) (now (rows .exit)) (now (terms .exit)) (now (store .exit)) (now (st .exit))) r ⌝ }
+    requires { ⌜ Ready (now (now doc)) (at-call work rows terms store st) × (mode ≤ 1) ⌝ }
+    ensures { λ r. ⌜ ReadsAll (mode-of mode) (now (now (doc .entry))) (at-entry work rows terms store st) (at-exit work rows terms store st) r ⌝ }
 {
-    while st[Words::KIND] != 0 {
+    while st[Words::KIND] != Kind::END {
         let refusal = one_statement(doc, work, rows, terms, store, st, mode);
         if refusal != 0 {
             return refusal;

@@ -1,28 +1,28 @@
 -- The rules of subjects.
-use mathlib.Core.Path.{_≡_, refl, sym, ap, _∙_, subst}
+use mathlib.Core.Path.{_≡_, refl, sym, _∙_, subst}
 use mathlib.Core.List.{List, [], _∷_, _++_}
-use mathlib.Core.Bool.{Bool, true, false, not, _||_}
-use mathlib.Core.Option.{Option, none, some}
-use Prim.Native.Nat.{ℕ, zero, suc, _+_, _≤_, _<_}
-use lib.Dec.{T, eqb}
+use mathlib.Core.Bool.{Bool, true, false}
+use mathlib.Core.Option.{none, some}
+use Prim.Native.Nat.{ℕ, _+_, _<_}
+use lib.Dec.{T}
 use lib.ListN.{getD}
 use Rattle.text.specs.Text.{Text}
 use Rattle.text.proofs.Booleans.{imp, imp-use, all, is-true}
-use Rattle.token.specs.Kind.{Kind, kinds, kind-of-code, among, iris, INTEGER, DECIMAL, DOUBLE, kw-a, kw-true, kw-false, «BLANK_NODE_LABEL», open-bracket, open-paren}
+use Rattle.token.specs.Kind.{Kind, kind-code, kinds, among, iris, INTEGER, DECIMAL, DOUBLE, kw-a, kw-true, kw-false, «BLANK_NODE_LABEL», open-bracket, open-paren}
 use Rattle.token.specs.Tokens.{Token}
 use Rattle.token.proofs.KindCodes.{each-kind, all-kinds}
-use Rattle.machine.specs.Memory.{Memory, Write, return, _>>=_, term, typed, iri-term}
+use Rattle.machine.specs.Memory.{Write, return, _>>=_, term, typed, iri-term}
 use Rattle.dataset.specs.Terms.{iri, rdf-type, xsd-integer, xsd-decimal, xsd-double, xsd-boolean}
-use Rattle.machine.specs.Frame.{Place, top, subject-before, object-of, element-of, Frame, bracket, list, no-cell, Open, statement}
+use Rattle.machine.specs.Frame.{Place, top, subject-before, object-of, element-of, bracket, list, no-cell, Open, statement}
 use Rattle.machine.specs.Rules.{Rule, _⇒_, find-rule, after-node, after-properties, list-place, label-term, bracket-term, subject-rules, above, rules}
-use Rattle.simulation.proofs.Tests.{kinds-of, among-any, among-code}
+use Rattle.simulation.proofs.Tests.{kinds-of, among-any}
 use Rattle.simulation.proofs.Frames.{found-above}
 use Rattle.nodes.specs.Nodes.{term-rules, term-kinds}
 use Rattle.nodes.proofs.Slots.{found-made, found-front}
 use Rattle.grammar.specs.Productions.{Mode}
 use Rattle.simulation.specs.Simulation.{Held, held, here}
 use Rattle.machine.specs.Refusals.{new-depth}
-use Rattle.state.specs.Words.{kind-word, depth-word, at-word, len-word, list-word}
+use Rattle.state.specs.Words.{kind-word, at-word, len-word, list-word, kind-in, depth-in}
 use Rattle.nodes.proofs.Moving.{token-words}
 use denote.Ref.{RefT}
 use native.Mathlib.Omega.{arith}
@@ -93,10 +93,10 @@ subject-aimed mode doc work rows terms store st st' same o place s =
     }
 
 -- A bracket opens one level more.
-pub deeper : (doc : Text) (a : Held) → getD (a .st) kind-word 0 ≡ 22 → new-depth (getD (a .st) depth-word 0) (here doc a) ≡ getD (a .st) depth-word 0 + 1
+pub deeper : (doc : Text) (a : Held) → kind-in (a .st) ≡ kind-code open-bracket → new-depth (depth-in (a .st)) (here doc a) ≡ depth-in (a .st) + 1
 unfolding new-depth
 deeper doc a k = rw k
 
-pub deeper-list : (doc : Text) (a : Held) → getD (a .st) kind-word 0 ≡ 24 → new-depth (getD (a .st) depth-word 0) (here doc a) ≡ getD (a .st) depth-word 0 + 1
+pub deeper-list : (doc : Text) (a : Held) → kind-in (a .st) ≡ kind-code open-paren → new-depth (depth-in (a .st)) (here doc a) ≡ depth-in (a .st) + 1
 unfolding new-depth
 deeper-list doc a k = rw k

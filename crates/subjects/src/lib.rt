@@ -6,27 +6,26 @@ ghost use Prim.Native.Nat.{_≤_, _<_};
 ghost use lib.ListN.{length, getD};
 ghost use Rattle.dataset.specs.Terms.{blank, bracket};
 ghost use Rattle.machine.specs.Memory.{new-term};
-ghost use Rattle.state.specs.Words.{kind-word, at-word, depth-word, x-word};
+ghost use Rattle.state.specs.Words.{x-word, kind-in};
 ghost use Rattle.state.specs.Writes.{placed, opened-at};
-ghost use Rattle.simulation.specs.Simulation.{code-among, held, Ready, Does};
+ghost use Rattle.simulation.specs.Simulation.{code-among, Ready, Does, at-call, at-entry, at-exit};
 ghost use Rattle.nodes.specs.Nodes.{spot-of, Spotted, Numbers, PutsTerm, term-kinds, verb-kinds};
-ghost use Rattle.token.specs.Kind.{kw-a};
+ghost use Rattle.token.specs.Kind.{kind-code, kw-a, open-bracket, open-paren};
 ghost use Rattle.nesting.specs.Nesting.{Lists, Properties};
 ghost use Rattle.subjects.specs.Subjects.{label-kinds, Subject, Predicates};
+ghost use Rattle.table.specs.Layout.{word-limit};
 use environment::Layout;
 use state::Words;
+use token::Kind;
 
 // Whether a token of this kind is a graph's label, or a subject, by itself.
 pub fn is_label(kind: usize) -> bool
     ensures { λ r. ⌜ r ≡ code-among label-kinds kind ⌝ }
 {
-    match kind {
-        1 => true,
-        2 => true,
-        3 => true,
-        4 => true,
-        _ => false,
-    }
+    (kind == Kind::IRIREF)
+        | (kind == Kind::PNAME_NS)
+        | (kind == Kind::PNAME_LN)
+        | (kind == Kind::BLANK_NODE_LABEL)
 }
 
 // A term as subject.
@@ -38,8 +37,8 @@ fn term_subject(
     store: &mut &mut [u8],
     st: &mut [usize; Layout::WORDS],
 ) -> u8
-    requires { ⌜ Ready (now (now doc)) (held (now work) (now rows) (now terms) (now store) (now st)) × (code-among label-kinds (getD (now st) kind-word 0) ≡ true) ⌝ }
-    ensures { λ r. ⌜ Subject (now (now (doc .entry))) (held (now (work .entry)) (now (rows .entry)) (now (terms .entry)) (now (store .entry)) (now (st .entry))) (held (now (work .exit)) (now (rows .exit)) (now (terms .exit)) (now (store .exit)) (now (st .exit))) r ⌝ }
+    requires { ⌜ Ready (now (now doc)) (at-call work rows terms store st) × (code-among label-kinds (kind-in (now st)) ≡ true) ⌝ }
+    ensures { λ r. ⌜ Subject (now (now (doc .entry))) (at-entry work rows terms store st) (at-exit work rows terms store st) r ⌝ }
 {
     nodes::aim(st, 0, 0, 0, 0, 0);
     let c = nesting::leaf(doc, work, rows, terms, store, st);
@@ -60,8 +59,8 @@ fn bracket_subject(
     store: &mut &mut [u8],
     st: &mut [usize; Layout::WORDS],
 ) -> u8
-    requires { ⌜ Ready (now (now doc)) (held (now work) (now rows) (now terms) (now store) (now st)) × (getD (now st) kind-word 0 ≡ 22) ⌝ }
-    ensures { λ r. ⌜ Subject (now (now (doc .entry))) (held (now (work .entry)) (now (rows .entry)) (now (terms .entry)) (now (store .entry)) (now (st .entry))) (held (now (work .exit)) (now (rows .exit)) (now (terms .exit)) (now (store .exit)) (now (st .exit))) r ⌝ }
+    requires { ⌜ Ready (now (now doc)) (at-call work rows terms store st) × (kind-in (now st) ≡ kind-code open-bracket) ⌝ }
+    ensures { λ r. ⌜ Subject (now (now (doc .entry))) (at-entry work rows terms store st) (at-exit work rows terms store st) r ⌝ }
 {
     nodes::aim(st, 0, 0, 0, 0, 0);
     let c = simple_terms::put_bracket(doc, work, rows, terms, store, st);
@@ -69,7 +68,7 @@ fn bracket_subject(
         return c;
     }
     let n = st[Words::NODE];
-    if st[Words::KIND] == 23 {
+    if st[Words::KIND] == Kind::CLOSE_BRACKET {
         nodes::leave(doc, st);
         nodes::aim(st, 0, n, 0, 0, 0);
         return 0;
@@ -81,7 +80,7 @@ fn bracket_subject(
     if d != 0 {
         return d;
     }
-    if st[Words::KIND] != 23 {
+    if st[Words::KIND] != Kind::CLOSE_BRACKET {
         return simulation::unexpected(*doc, st);
     }
     nodes::leave(doc, st);
@@ -98,8 +97,8 @@ fn list_subject(
     store: &mut &mut [u8],
     st: &mut [usize; Layout::WORDS],
 ) -> u8
-    requires { ⌜ Ready (now (now doc)) (held (now work) (now rows) (now terms) (now store) (now st)) × (getD (now st) kind-word 0 ≡ 24) ⌝ }
-    ensures { λ r. ⌜ Subject (now (now (doc .entry))) (held (now (work .entry)) (now (rows .entry)) (now (terms .entry)) (now (store .entry)) (now (st .entry))) (held (now (work .exit)) (now (rows .exit)) (now (terms .exit)) (now (store .exit)) (now (st .exit))) r ⌝ }
+    requires { ⌜ Ready (now (now doc)) (at-call work rows terms store st) × (kind-in (now st) ≡ kind-code open-paren) ⌝ }
+    ensures { λ r. ⌜ Subject (now (now (doc .entry))) (at-entry work rows terms store st) (at-exit work rows terms store st) r ⌝ }
 {
     let at = st[Words::AT];
     nodes::aim(st, 0, 0, 0, 0, 0);
@@ -114,7 +113,7 @@ fn list_subject(
     if d != 0 {
         return d;
     }
-    if kind == 25 {
+    if kind == Kind::CLOSE_PAREN {
         let n = st[Words::NODE];
         nodes::aim(st, 1, n, 0, 0, 0);
         return 0;
@@ -131,17 +130,17 @@ pub fn subject(
     store: &mut &mut [u8],
     st: &mut [usize; Layout::WORDS],
 ) -> u8
-    requires { ⌜ Ready (now (now doc)) (held (now work) (now rows) (now terms) (now store) (now st)) ⌝ }
-    ensures { λ r. ⌜ Subject (now (now (doc .entry))) (held (now (work .entry)) (now (rows .entry)) (now (terms .entry)) (now (store .entry)) (now (st .entry))) (held (now (work .exit)) (now (rows .exit)) (now (terms .exit)) (now (store .exit)) (now (st .exit))) r ⌝ }
+    requires { ⌜ Ready (now (now doc)) (at-call work rows terms store st) ⌝ }
+    ensures { λ r. ⌜ Subject (now (now (doc .entry))) (at-entry work rows terms store st) (at-exit work rows terms store st) r ⌝ }
 {
     let kind = st[Words::KIND];
     if is_label(kind) {
         return term_subject(doc, work, rows, terms, store, st);
     }
-    if kind == 22 {
+    if kind == Kind::OPEN_BRACKET {
         return bracket_subject(doc, work, rows, terms, store, st);
     }
-    if kind == 24 {
+    if kind == Kind::OPEN_PAREN {
         return list_subject(doc, work, rows, terms, store, st);
     }
     simulation::unexpected(*doc, st)
@@ -156,8 +155,8 @@ pub fn predicates(
     store: &mut &mut [u8],
     st: &mut [usize; Layout::WORDS],
 ) -> u8
-    requires { ⌜ (Ready (now (now doc)) (held (now work) (now rows) (now terms) (now store) (now st)) × (getD (now st) x-word 0 < 4294967296)) × (0 < getD (now st) x-word 0) ⌝ }
-    ensures { λ r. ⌜ Predicates (now (now (doc .entry))) (held (now (work .entry)) (now (rows .entry)) (now (terms .entry)) (now (store .entry)) (now (st .entry))) (held (now (work .exit)) (now (rows .exit)) (now (terms .exit)) (now (store .exit)) (now (st .exit))) r ⌝ }
+    requires { ⌜ (Ready (now (now doc)) (at-call work rows terms store st) × (getD (now st) x-word 0 < word-limit)) × (0 < getD (now st) x-word 0) ⌝ }
+    ensures { λ r. ⌜ Predicates (now (now (doc .entry))) (at-entry work rows terms store st) (at-exit work rows terms store st) r ⌝ }
 {
     let n = st[Words::X];
     if nodes::is_verb(st[Words::KIND]) {

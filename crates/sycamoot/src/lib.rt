@@ -100,12 +100,12 @@ pub extern "C" fn sycamoot_term_text(
         Span::Part { start, size } => Text {
             start: start as u64,
             length: size as u64,
-            number: 0,
+            number: limits::Answer::ACCEPTED as u32,
         },
         Span::Unusable => Text {
             start: 0,
             length: 0,
-            number: 18,
+            number: limits::Answer::TABLES as u32,
         },
     }
 }

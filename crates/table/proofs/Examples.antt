@@ -10,7 +10,7 @@ use Rattle.text.proofs.Table.{_⇒_, Gives}
 use Rattle.dataset.specs.Terms.{label, bracket, cell, numbered, Term, iri, blank, literal, tagged, xsd-string}
 use Rattle.table.specs.Layout.{Row, row-room, term-room, Slices, row-at, entry-at}
 use Rattle.table.specs.Tables.{number, term-at, terms-words, store-bytes, store-size, rows-words, quads}
-use Rattle.table.specs.Usable.{is-tag, usable, quads-held}
+use Rattle.table.specs.Usable.{is-tag, for-long-form, usable, quads-held}
 use Rattle.table.specs.TermText.{term-text}
 use Rattle.table.specs.LongForm.{decimal, iri-form, string-form, type-form, term-form, long-form, Written, write, computing}
 
@@ -162,7 +162,7 @@ with-byte i w = held-in rows-of 2 terms-of 6 (put i w store-of) 13
 abbrev long-iri : ℕ → Slices
 long-iri n = held-in [] 0 (1 ∷ 0 ∷ (2 + n) ∷ 0 ∷ 0 ∷ []) 1 (ascii "x:" ++ replicate n 97) (2 + n)
 
-usables : Gives usable (
+usables : Gives (usable for-long-form) (
     good ⇒ true
     ∷ held-in [] 0 [] 0 [] 0 ⇒ true
     -- slices may be longer than the counts say, not shorter

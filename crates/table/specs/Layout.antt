@@ -53,6 +53,10 @@ row-room words = words / row-size
 abbrev pub term-room : ℕ → ℕ
 term-room words = words / term-size
 
+-- "32-bit words": what a word holds is below this.
+abbrev pub word-limit : ℕ
+word-limit = 4294967296
+
 -- ---- What lent slices hold
 
 pub record Slices : Type 0 where

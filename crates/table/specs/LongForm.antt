@@ -11,7 +11,7 @@ use Rattle.iri.specs.Resolve.{computing as iri-computing}
 use Rattle.dataset.specs.Terms.{xsd-string}
 use Rattle.table.specs.Layout.{Row, row-words, row-at, entry-words, entry-at, iri-kind, blank-kind, literal-kind, Slices}
 use Rattle.table.specs.Tables.{same-blank, same-term, number-from, number, term-at, words-from, terms-words, store-bytes, store-size, rows-words, quads}
-use Rattle.table.specs.Usable.{each, is-match, is-tag, the, text, tag, has-kind, counts-fit, good-term, good-row, usable, quads-from, quads-held}
+use Rattle.table.specs.Usable.{each, is-match, is-tag, for-long-form, the, text, tag, has-kind, counts-fit, good-term, good-row, usable, quads-from, quads-held}
 use Rattle.table.specs.TermText.{shows, term-text}
 
 -- A 32-bit number in decimal digits: at most ten.
@@ -88,7 +88,7 @@ write s out =
     let fits : Written = record { number = 0; position = length form; output = form ++ drop (length form) out } in
     let full : Written = record { number = 17; position = 0; output = out } in
     let bad : Written = record { number = 18; position = 0; output = out } in
-    cond (not (usable s)) bad (cond (ltb (length out) (length form)) full fits)
+    cond (not (usable for-long-form s)) bad (cond (ltb (length out) (length form)) full fits)
 
 -- All that computes here; an example that is checked by evaluation names it.
 unfoldable pub computing : ℕ

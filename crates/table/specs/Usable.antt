@@ -28,6 +28,15 @@ is-match (hit j m) k n = eqb j k && eqb m n
 unfoldable pub is-tag : Text → Bool
 is-tag g = is-match (token-at (64 ∷ g)) (kind-code LANGTAG) (suc (length g))
 
+-- What a writer takes beyond the layout: which texts are IRIs to it, and which are tags.
+pub record Takes : Type 0 where
+  pub iri : Text → Bool
+  pub tag : Text → Bool
+
+-- The long form's: not "an IRI has no scheme", and not "a tag is not LANGTAG without its @ or is exactly base or prefix".
+abbrev pub for-long-form : Takes
+for-long-form = record { iri = has-scheme; tag = is-tag }
+
 module _ (s : Slices) where
   abbrev pub the : ℕ → Entry
   the n = entry-at (s .terms) n
@@ -51,20 +60,9 @@ module _ (s : Slices) where
   abbrev pub has-kind : ℕ → ℕ → Bool
   has-kind k n = eqb (the n .kind) k
 
-  -- What a term of each kind must be. "an IRI has no scheme or is over 1,024 bytes, a datatype is not an earlier IRI term, a tag .."
-  abbrev pub good-iri : ℕ → Bool
-  good-iri n = has-scheme (text n) && leb (the n .size) iri-limit
-
+  -- "a datatype is not an earlier IRI term"
   abbrev pub good-datatype : ℕ → Bool
   good-datatype n = let d = the n .fourth in leb 1 d && ltb d n && has-kind iri-kind d
-
-  abbrev pub good-tag : ℕ → Bool
-  good-tag n = inside (the n .fourth) (the n .fifth) && is-tag (tag n)
-
-  unfoldable pub good-term : ℕ → Bool
-  good-term n =
-      inside (the n .start) (the n .size) && is-none (first-bad (text n))
-      && ((has-kind iri-kind n && good-iri n) || has-kind blank-kind n || (has-kind literal-kind n && good-datatype n) || (has-kind tagged-kind n && good-tag n))
 
   -- "a row names a missing term"; "graph or subject is a literal, predicate not an IRI"
   abbrev pub present : ℕ → Bool
@@ -78,19 +76,34 @@ module _ (s : Slices) where
       (eqb (r .graph) 0 || resource (r .graph)) && resource (r .subject)
       && (present (r .predicate) && has-kind iri-kind (r .predicate)) && present (r .object)
 
+module _ (w : Takes) (s : Slices) where
+  -- "an IRI has no scheme or is over 1,024 bytes"
+  abbrev pub good-iri : ℕ → Bool
+  good-iri n = w .iri (text s n) && leb (the s n .size) iri-limit
+
+  abbrev pub good-tag : ℕ → Bool
+  good-tag n = inside s (the s n .fourth) (the s n .fifth) && w .tag (tag s n)
+
+  -- Not: "a span leaves the used store", "a text is not UTF-8"; and what a term of each kind must be.
+  unfoldable pub good-term : ℕ → Bool
+  good-term n =
+      inside s (the s n .start) (the s n .size) && is-none (first-bad (text s n))
+      && ((has-kind s iri-kind n && good-iri n) || has-kind s blank-kind n || (has-kind s literal-kind n && good-datatype s n) || (has-kind s tagged-kind n && good-tag n))
+
   -- The tables that the writer takes; all others give 18.
   unfoldable pub usable : Bool
   usable =
-      counts-fit && each good-term 1 (s .term-count) && each (λ i. good-row (row-at (s .rows) i)) 0 (s .row-count)
+      counts-fit s && each good-term 1 (s .term-count) && each (λ i. good-row s (row-at (s .rows) i)) 0 (s .row-count)
 
-  -- ---- The statements in usable tables: "blank number .. (it is the node)"
+-- ---- The statements in usable tables: "blank number .. (it is the node)"
 
+module _ (s : Slices) where
   abbrev pub term : ℕ → Term
   term n =
-      cond (has-kind iri-kind n) (iri (text n))
-      (cond (has-kind blank-kind n) (blank (numbered (the n .fourth)))
-      (cond (has-kind literal-kind n) (literal (text n) (text (the n .fourth)))
-      (tagged (text n) (tag n))))
+      cond (has-kind s iri-kind n) (iri (text s n))
+      (cond (has-kind s blank-kind n) (blank (numbered (the s n .fourth)))
+      (cond (has-kind s literal-kind n) (literal (text s n) (text s (the s n .fourth)))
+      (tagged (text s n) (tag s n))))
 
   abbrev pub graph : ℕ → Option Term
   graph zero = none

@@ -4,13 +4,14 @@ use mathlib.Core.List.{List}
 use mathlib.Core.Bool.{true, _&&_}
 use mathlib.Core.Option.{none, some}
 use Prim.Native.Nat.{ℕ, zero, suc, pred, _+_, _*_, _-_, _/_, _≤_, _<_}
+use native.Mathlib.Nat.{add-zero}
 use native.Mathlib.Omega.{arith}
 use lib.Dec.{leb}
 use borrow.Author.Tests.{le-leb, lt-leb, leb-true}
 use lib.ListN.{length, getD, take, drop}
 use Rattle.text.specs.Text.{Text, between}
 use Rattle.text.proofs.Compare.{by, and-left, and-right}
-use Rattle.table.specs.Layout.{entry-at, Slices, span}
+use Rattle.table.specs.Layout.{term-size, entry-at, iri-kind, tagged-kind, Slices, span}
 use Rattle.table.specs.TermText.{shows, term-text}
 use Rattle.term_text.specs.declared.Span.the-variants.{Part, Unusable}
 use Rattle.term_text.specs.Shown.{answer, text-of, lent, number-of, part-of as part-of-store, span-at}
@@ -24,15 +25,15 @@ module _ (terms : List ℕ) (count : ℕ) (store : Text) (used n : ℕ) where
   s = lent terms count store used
 
   -- The words of the entry, where the code reads them.
-  pub kind-word : getD terms (5 * (n - 1)) 0 ≡ entry-at terms n .kind
+  pub kind-word : getD terms (term-size * (n - 1) + 0) 0 ≡ entry-at terms n .kind
   unfolding entry-at
-  kind-word = rw (pred-sub n)
+  kind-word = rw (pred-sub n, add-zero (term-size * (n - 1)))
 
-  pub start-word : getD terms (5 * (n - 1) + 1) 0 ≡ entry-at terms n .start
+  pub start-word : getD terms (term-size * (n - 1) + 1) 0 ≡ entry-at terms n .start
   unfolding entry-at
   start-word = rw (pred-sub n)
 
-  pub size-word : getD terms (5 * (n - 1) + 2) 0 ≡ entry-at terms n .size
+  pub size-word : getD terms (term-size * (n - 1) + 2) 0 ≡ entry-at terms n .size
   unfolding entry-at
   size-word = rw (pred-sub n)
 
@@ -47,45 +48,45 @@ module _ (terms : List ℕ) (count : ℕ) (store : Text) (used n : ℕ) where
     past-count h = rw (le-leb 1 n a, lt-leb n count h)
 
     module _ (b : n ≤ count) where
-      pub past-terms : length terms / 5 < count → Unusable ≡ span-at s n
+      pub past-terms : length terms / term-size < count → Unusable ≡ span-at s n
       unfolding span-at shows
-      past-terms h = rw (le-leb 1 n a, le-leb n count b, lt-leb (5 * count) (length terms) (omega arith))
+      past-terms h = rw (le-leb 1 n a, le-leb n count b, lt-leb (term-size * count) (length terms) (omega arith))
 
-      module _ (c : 5 * count ≤ length terms) where
+      module _ (c : term-size * count ≤ length terms) where
         pub past-store : length store < used → Unusable ≡ span-at s n
         unfolding span-at shows
-        past-store h = rw (le-leb 1 n a, le-leb n count b, le-leb (5 * count) (length terms) c, lt-leb used (length store) h)
+        past-store h = rw (le-leb 1 n a, le-leb n count b, le-leb (term-size * count) (length terms) c, lt-leb used (length store) h)
 
-        module _ (d : used ≤ length store) (kind : ℕ) (e : kind ≡ getD terms (5 * (n - 1)) 0) where
-          pub low-kind : kind < 1 → Unusable ≡ span-at s n
+        module _ (d : used ≤ length store) (kind : ℕ) (e : kind ≡ getD terms (term-size * (n - 1) + 0) 0) where
+          pub low-kind : kind < iri-kind → Unusable ≡ span-at s n
           unfolding span-at shows
           low-kind h =
-              rw (le-leb 1 n a, le-leb n count b, le-leb (5 * count) (length terms) c, le-leb used (length store) d, lt-leb 1 (entry-at terms n .kind) (omega (arith, e, kind-word)))
+              rw (le-leb 1 n a, le-leb n count b, le-leb (term-size * count) (length terms) c, le-leb used (length store) d, lt-leb iri-kind (entry-at terms n .kind) (omega (arith, e, kind-word)))
 
-          module _ (f : 1 ≤ kind) where
-            pub high-kind : 4 < kind → Unusable ≡ span-at s n
+          module _ (f : iri-kind ≤ kind) where
+            pub high-kind : tagged-kind < kind → Unusable ≡ span-at s n
             unfolding span-at shows
             high-kind h =
                 rw (
                   le-leb 1 n a,
                   le-leb n count b,
-                  le-leb (5 * count) (length terms) c,
+                  le-leb (term-size * count) (length terms) c,
                   le-leb used (length store) d,
-                  le-leb 1 (entry-at terms n .kind) (omega (arith, e, kind-word)),
-                  lt-leb (entry-at terms n .kind) 4 (omega (arith, e, kind-word)),
+                  le-leb iri-kind (entry-at terms n .kind) (omega (arith, e, kind-word)),
+                  lt-leb (entry-at terms n .kind) tagged-kind (omega (arith, e, kind-word)),
                 )
 
-            module _ (g : kind ≤ 4) (start size : ℕ) (x : start ≡ getD terms (5 * (n - 1) + 1) 0) (y : size ≡ getD terms (5 * (n - 1) + 2) 0) where
+            module _ (g : kind ≤ tagged-kind) (start size : ℕ) (x : start ≡ getD terms (term-size * (n - 1) + 1) 0) (y : size ≡ getD terms (term-size * (n - 1) + 2) 0) where
               pub past-used : used < start + size → Unusable ≡ span-at s n
               unfolding span-at shows
               past-used h =
                   rw (
                     le-leb 1 n a,
                     le-leb n count b,
-                    le-leb (5 * count) (length terms) c,
+                    le-leb (term-size * count) (length terms) c,
                     le-leb used (length store) d,
-                    le-leb 1 (entry-at terms n .kind) (omega (arith, e, kind-word)),
-                    le-leb (entry-at terms n .kind) 4 (omega (arith, e, kind-word)),
+                    le-leb iri-kind (entry-at terms n .kind) (omega (arith, e, kind-word)),
+                    le-leb (entry-at terms n .kind) tagged-kind (omega (arith, e, kind-word)),
                     lt-leb (entry-at terms n .start + entry-at terms n .size) used (omega (arith, x, y, start-word, size-word)),
                   )
 
@@ -95,10 +96,10 @@ module _ (terms : List ℕ) (count : ℕ) (store : Text) (used n : ℕ) where
                   rw (
                     le-leb 1 n a,
                     le-leb n count b,
-                    le-leb (5 * count) (length terms) c,
+                    le-leb (term-size * count) (length terms) c,
                     le-leb used (length store) d,
-                    le-leb 1 (entry-at terms n .kind) (omega (arith, e, kind-word)),
-                    le-leb (entry-at terms n .kind) 4 (omega (arith, e, kind-word)),
+                    le-leb iri-kind (entry-at terms n .kind) (omega (arith, e, kind-word)),
+                    le-leb (entry-at terms n .kind) tagged-kind (omega (arith, e, kind-word)),
                     le-leb (entry-at terms n .start + entry-at terms n .size) used (omega (arith, x, y, start-word, size-word)),
                     x,
                     y,
@@ -117,9 +118,9 @@ module _ (s : Slices) (n : ℕ) where
   within h =
       let e = entry-at (s .terms) n in
       let used = leb (e .start + e .size) (s .store-count) in
-      let kind = between 1 4 (e .kind) in
+      let kind = between iri-kind tagged-kind (e .kind) in
       let stored = leb (s .store-count) (length (s .store)) in
-      let counted = between 1 (s .term-count) n && leb (5 * s .term-count) (length (s .terms)) in
+      let counted = between 1 (s .term-count) n && leb (term-size * s .term-count) (length (s .terms)) in
       omega (
         arith,
         leb-true (s .store-count) (length (s .store)) (and-right counted stored (and-left (counted && stored) kind (and-left (counted && stored && kind) used h))),

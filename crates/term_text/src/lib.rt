@@ -2,17 +2,16 @@
 ghost use mathlib.Core.Path.{_≡_};
 ghost use Rattle.table.specs.TermText.{term-text};
 ghost use Rattle.term_text.specs.Shown.{lent, span-at, answer, text-of};
+use limits::Answer;
+use table::Layout;
+use table::TermKind;
+use table::TermWord;
+use table::wide;
 
 // A part of the store; or the tables or the number are not usable.
 pub enum Span {
     Part { start: usize, size: usize },
     Unusable,
-}
-
-fn wide(w: u32) -> usize
-    ensures { λ r. ⌜ r ≡ w ⌝ }
-{
-    w as usize
 }
 
 // Where the text lies; any number and any tables may be given.
@@ -25,22 +24,22 @@ pub fn find_span(terms: &[u32], count: usize, store: &[u8], used: usize, number:
     if count < number {
         return Span::Unusable;
     }
-    if terms.len() / 5 < count {
+    if terms.len() / Layout::TERM_WORDS < count {
         return Span::Unusable;
     }
     if store.len() < used {
         return Span::Unusable;
     }
-    let at = 5 * (number - 1);
-    let kind = wide(terms[at]);
-    if kind < 1 {
+    let at = Layout::TERM_WORDS * (number - 1);
+    let kind = wide(terms[at + TermWord::KIND]);
+    if kind < TermKind::IRI {
         return Span::Unusable;
     }
-    if 4 < kind {
+    if TermKind::TAGGED < kind {
         return Span::Unusable;
     }
-    let start = wide(terms[at + 1]);
-    let size = wide(terms[at + 2]);
+    let start = wide(terms[at + TermWord::START]);
+    let size = wide(terms[at + TermWord::SIZE]);
     if used < start + size {
         return Span::Unusable;
     }
@@ -55,8 +54,8 @@ pub fn answer_text(terms: &[u32], count: usize, store: &[u8], used: usize, numbe
     ensures { λ r. ⌜ r ≡ answer (term-text (lent (now (terms .entry)) count (now (store .entry)) used) number) ⌝ }
 {
     match find_span(terms, count, store, used, number) {
-        Span::Part { start: _, size: _ } => 0,
-        Span::Unusable => 18,
+        Span::Part { start: _, size: _ } => Answer::ACCEPTED as usize,
+        Span::Unusable => Answer::TABLES as usize,
     }
 }
 

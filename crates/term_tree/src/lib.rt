@@ -17,6 +17,7 @@ ghost use Rattle.term_tree.specs.Holds.{Searchable, PartOf, Finds, Numbe
 use limits::Limits;
 use spelling::Form;
 use spelling::Multiplier;
+use table::TermKind;
 use terms::Counts;
 use terms::Sort;
 
@@ -59,7 +60,7 @@ fn smaller(a: usize, b: usize) -> usize
 fn type_number(sort: Sort) -> usize
     ensures { λ r. ⌜ r ≡ type-of sort ⌝ }
 {
-    if sort.kind == 3 {
+    if sort.kind == TermKind::LITERAL {
         return sort.datatype;
     }
     0
@@ -239,7 +240,7 @@ pub fn find_name(
 {
     let n = Limits::work_size();
     let sort = Sort {
-        kind: 1,
+        kind: TermKind::IRI,
         datatype: 0,
     };
     let found = find(

@@ -15,7 +15,7 @@ use Rattle.text.proofs.Compare.{by}
 use Rattle.text.proofs.Over.{over-at-none}
 use Rattle.terms.proofs.Slices.{take-over-at}
 use Rattle.dataset.specs.Terms.{Term, iri, blank, literal, tagged}
-use Rattle.table.specs.Layout.{Row, row-words, Entry, entry-words}
+use Rattle.table.specs.Layout.{Row, row-size, row-words, Entry, term-size, entry-words, blank-kind, literal-kind, tagged-kind, word-limit}
 use Rattle.table.specs.Tables.{number, is-blank, term-bytes, entry-of, store-size, rows-words}
 use Rattle.table.proofs.Finding.{number-more, number-last}
 use Rattle.table.proofs.Store.{rows-append, last-bytes, last-size}
@@ -25,9 +25,9 @@ use Rattle.terms.specs.Keeps.{blank-count, findable, Typed, Keeps, Means
 use Rattle.terms.specs.Code.{fourth, next-entry, next-counts}
 use Rattle.terms.proofs.Words.{words-last}
 
-pub five-words : (e : Entry) → length (entry-words e) ≡ 5
+pub entry-size-is : (e : Entry) → length (entry-words e) ≡ term-size
 unfolding entry-words
-five-words e = refl
+entry-size-is e = refl
 
 -- A property of every term, and of one more.
 each-last : (P : Term → ℕ → Type 0) (ts : List Term) (t : Term) → ((i : ℕ) → i < length ts → P (getD ts i (iri [])) i) → P t (length ts)
@@ -64,7 +64,7 @@ module _ (ts : List Term) (c : Counts) (sort : Sort) (x g : Text) (used : c .use
   means-entry (literal s d) (k, (e, (h, n))) (m, y) = rw (number-more (iri d) ts (literal s d ∷ []) m y, k, e, h, used, ← n, y)
   means-entry (tagged s d) (k, (e, h)) y = rw (k, e, h, used)
 
-  means-blank : (t : Term) → Means ts sort x g t → cond (eqb (sort .kind) 2) (c .blanks + 1) (c .blanks) ≡ blank-count (ts ++ t ∷ [])
+  means-blank : (t : Term) → Means ts sort x g t → cond (eqb (sort .kind) blank-kind) (c .blanks + 1) (c .blanks) ≡ blank-count (ts ++ t ∷ [])
   unfolding Means
   means-blank (iri s) (k, r) = rw (k, count-last ts (iri s), blanks)
   means-blank (blank b) (k, r) = rw (k, count-last ts (blank b), blanks)
@@ -73,16 +73,16 @@ module _ (ts : List Term) (c : Counts) (sort : Sort) (x g : Text) (used : c .use
 
 pub keeps-added : (ts : List Term) (terms : List ℕ) (store : Text) (c : Counts) (sort : Sort) (x g : Text) (t : Term)
     → Keeps ts terms store c → TermFits terms store c sort x g → Means ts sort x g t → Typed ts t → (findable t ≡ true → number t ts ≡ none)
-    → Keeps (ts ++ t ∷ []) (over-at (5 * c .terms) (entry-words (next-entry c sort (length x) (length g))) terms) (over-at (c .used) (x ++ g) store) (next-counts c sort (length x + length g))
+    → Keeps (ts ++ t ∷ []) (over-at (term-size * c .terms) (entry-words (next-entry c sort (length x) (length g))) terms) (over-at (c .used) (x ++ g) store) (next-counts c sort (length x + length g))
 unfolding next-counts
 keeps-added ts terms store c sort x g t K R M y new =
     let e = entry-words (next-entry c sort (length x) (length g)) in
-    let five : 5 * (c .terms + 1) ≡ 5 * c .terms + length e = omega (arith, five-words (next-entry c sort (length x) (length g))) in
+    let more : term-size * (c .terms + 1) ≡ term-size * c .terms + length e = omega (arith, entry-size-is (next-entry c sort (length x) (length g))) in
     let size : length (x ++ g) ≡ length x + length g = length-append x g in
     record {
       words =
-          rw five
-          (take-over-at (5 * c .terms) e terms (omega (arith, R .words, five-words (next-entry c sort (length x) (length g))))
+          rw more
+          (take-over-at (term-size * c .terms) e terms (omega (arith, R .words, entry-size-is (next-entry c sort (length x) (length g))))
           ∙ (rw (K .words, means-entry ts c sort x g (K .used) (K .blanks) t M y) (sym (words-last ts t (K .typed)))));
       bytes =
           ap (λ (n : ℕ). take (c .used + n) (over-at (c .used) (x ++ g) store)) (sym size)
@@ -104,18 +104,18 @@ rows-last : (rs : List Row) (r : Row) → rows-words (rs ++ r ∷ []) ≡ rows-w
 unfolding rows-words
 rows-last rs r = rows-append rs (r ∷ []) ∙ ap (λ (l : List ℕ). rows-words rs ++ l) (append-nil (row-words r))
 
-row-size-is : (r : Row) → length (row-words r) ≡ 5
+row-size-is : (r : Row) → length (row-words r) ≡ row-size
 unfolding row-words
 row-size-is r = refl
 
-pub row-added : (rows rows' : List ℕ) (count : ℕ) (row : List ℕ) → 5 * count + length row ≤ length rows → rows' ≡ over-at (5 * count) row rows → RowAdded rows rows' count row
+pub row-added : (rows rows' : List ℕ) (count : ℕ) (row : List ℕ) → row-size * count + length row ≤ length rows → rows' ≡ over-at (row-size * count) row rows → RowAdded rows rows' count row
 row-added rows rows' count row room e = record {
   words = e;
   keeps = λ rs r K h.
-      let five : length row ≡ 5 = ap length h ∙ row-size-is r in
-      let size : 5 * (count + 1) ≡ 5 * count + length row = omega (arith, five) in
+      let words : length row ≡ row-size = ap length h ∙ row-size-is r in
+      let size : row-size * (count + 1) ≡ row-size * count + length row = omega (arith, words) in
       record {
-        words = rw (size, e) (take-over-at (5 * count) row rows room ∙ rw (K .words, h) (sym (rows-last rs r)));
+        words = rw (size, e) (take-over-at (row-size * count) row rows room ∙ rw (K .words, h) (sym (rows-last rs r)));
         size = omega (arith, K .size, length-append rs (r ∷ []));
       };
 }
@@ -123,8 +123,8 @@ row-added rows rows' count row room e = record {
 -- ---- What the code of adding a term leaves
 
 -- Five words fit 32 bits if each does.
-pub five-small : (a b c d e : ℕ) → a < 4294967296 → b < 4294967296 → c < 4294967296 → d < 4294967296 → e < 4294967296
-    → (i : ℕ) → getD (a ∷ b ∷ c ∷ d ∷ e ∷ []) i 0 < 4294967296
+pub five-small : (a b c d e : ℕ) → a < word-limit → b < word-limit → c < word-limit → d < word-limit → e < word-limit
+    → (i : ℕ) → getD (a ∷ b ∷ c ∷ d ∷ e ∷ []) i 0 < word-limit
 five-small a b c d e p q r s t zero = p
 five-small a b c d e p q r s t (suc zero) = q
 five-small a b c d e p q r s t (suc (suc zero)) = r
@@ -132,21 +132,21 @@ five-small a b c d e p q r s t (suc (suc (suc zero))) = s
 five-small a b c d e p q r s t (suc (suc (suc (suc zero)))) = t
 five-small a b c d e p q r s t (suc (suc (suc (suc (suc i))))) = omega arith
 
-pub fourth-small : (c : Counts) (sort : Sort) (size tag-size : ℕ) → Small c sort (size + tag-size) → fourth c sort size < 4294967296
+pub fourth-small : (c : Counts) (sort : Sort) (size tag-size : ℕ) → Small c sort (size + tag-size) → fourth c sort size < word-limit
 unfolding fourth
 fourth-small c sort size tag-size S =
-    by (eqb (sort .kind) 2) (λ e. rw e (S .blanks))
-    (λ e. by (eqb (sort .kind) 3) (λ f. rw (e, f) (S .datatype)) (λ f. by (eqb (sort .kind) 4) (λ g. rw (e, f, g) (omega (arith, S .used))) (λ g. rw (e, f, g) (omega arith))))
+    by (eqb (sort .kind) blank-kind) (λ e. rw e (S .blanks))
+    (λ e. by (eqb (sort .kind) literal-kind) (λ f. rw (e, f) (S .datatype)) (λ f. by (eqb (sort .kind) tagged-kind) (λ g. rw (e, f, g) (omega (arith, S .used))) (λ g. rw (e, f, g) (omega arith))))
 
 pub added : (terms terms' : List ℕ) (store store' : Text) (c c' : Counts) (sort : Sort) (x g : Text) (n : ℕ) → TermFits terms store c sort x g → n ≡ length x
-    → terms' ≡ over-at (5 * c .terms) (entry-words (next-entry c sort n (length g))) terms → store' ≡ over-at (c .used) (x ++ g) store
+    → terms' ≡ over-at (term-size * c .terms) (entry-words (next-entry c sort n (length g))) terms → store' ≡ over-at (c .used) (x ++ g) store
     → c' ≡ next-counts c sort (n + length g) → Added terms terms' store store' c c' sort x g
 added terms terms' store store' c c' sort x g n R h w b e =
-    let w' : terms' ≡ over-at (5 * c .terms) (entry-words (next-entry c sort (length x) (length g))) terms = w ∙ rw h in
+    let w' : terms' ≡ over-at (term-size * c .terms) (entry-words (next-entry c sort (length x) (length g))) terms = w ∙ rw h in
     let e' : c' ≡ next-counts c sort (length x + length g) = e ∙ rw h in
     record { words = w'; bytes = b; counts = e'; keeps = λ ts t K M y new. rw (w', b, e') (keeps-added ts terms store c sort x g t K R M y new) }
 
-pub blank-added : (terms terms' : List ℕ) (c c' : Counts) → 5 * c .terms + 5 ≤ length terms → Small c blank-sort 0
-    → terms' ≡ over-at (5 * c .terms) (entry-words (next-entry c blank-sort 0 0)) terms → c' ≡ next-counts c blank-sort 0 → BlankAdded terms terms' c c'
+pub blank-added : (terms terms' : List ℕ) (c c' : Counts) → term-size * c .terms + term-size ≤ length terms → Small c blank-sort 0
+    → terms' ≡ over-at (term-size * c .terms) (entry-words (next-entry c blank-sort 0 0)) terms → c' ≡ next-counts c blank-sort 0 → BlankAdded terms terms' c c'
 blank-added terms terms' c c' room small w e store u =
     added terms terms' store store c c' blank-sort [] [] 0 (record { words = room; bytes = omega arith; small = small }) refl w (sym (over-at-none (c .used) store)) e

@@ -1,6 +1,6 @@
 -- What slices that hold terms say of each of them.
 use mathlib.Core.Path.{_≡_, refl, sym, ap, _∙_}
-use mathlib.Core.List.{List, [], _∷_, _++_}
+use mathlib.Core.List.{List, [], _∷_}
 use mathlib.Core.Bool.{Bool, true, false, _&&_}
 use mathlib.Core.Option.{some}
 use Prim.Native.Nat.{ℕ, zero, suc, _+_, _*_, _<_, _≤_}
@@ -8,13 +8,13 @@ use native.Mathlib.Nat.{add-zero}
 use native.Mathlib.Omega.{arith}
 use lib.Dec.{eqb}
 use borrow.Author.Tests.{eq-eqb, ne-eqb}
-use lib.ListN.{length, getD, take, drop, length-append, take-append-drop}
+use lib.ListN.{length, getD, take, drop, length-append}
 use lib.Seq.{getD-take}
 use Rattle.text.specs.Text.{Text, same-text}
 use Rattle.text.proofs.Compare.{by, contrary, same-eq, same-refl}
 use Rattle.dataset.specs.Terms.{Blank, label, bracket, cell, numbered, Term, iri, blank, literal, tagged}
-use Rattle.table.specs.Layout.{Entry, entry-words, entry-at, tagged-kind, span}
-use Rattle.table.specs.Tables.{same-blank, same-term, number-from, number, or-zero, label-of, text-of, tag-of, term-bytes, entry-of, terms-words, store-bytes, store-size}
+use Rattle.table.specs.Layout.{Entry, term-size, entry-words, entry-at, tagged-kind, span}
+use Rattle.table.specs.Tables.{same-blank, same-term, number-from, number, or-zero, label-of, text-of, tag-of, term-bytes, entry-of, terms-words, store-size}
 use Rattle.table.proofs.Finding.{number-step, number-end, number-positive, positive-some, number-same}
 use Rattle.table.proofs.Store.{text-span, tag-span, inside, bytes-length}
 use Rattle.terms.specs.declared.Counts.{Counts}
@@ -49,19 +49,12 @@ entry-tag all u b (literal s d) e = absurd (omega arith)
 entry-tag all u b (tagged s g) e = omega (arith, length-append s g)
 
 module _ {ts : List Term} {terms : List ℕ} {store : Text} {c : Counts} (K : Keeps ts terms store c) where
-  pub words-room : 5 * c .terms ≤ length terms
+  pub words-room : term-size * c .terms ≤ length terms
   unfolding terms-words
-  words-room = take-fits (5 * c .terms) terms (ap length (K .words) ∙ (words-length ts 0 0 ts ∙ ap (λ (n : ℕ). 5 * n) (sym (K .count))))
+  words-room = take-fits (term-size * c .terms) terms (ap length (K .words) ∙ (words-length ts 0 0 ts ∙ ap (λ (n : ℕ). term-size * n) (sym (K .count))))
 
   pub bytes-room : c .used ≤ length store
   bytes-room = take-fits (c .used) store (ap length (K .bytes) ∙ (bytes-length ts ∙ sym (K .used)))
-
-  -- The whole slices, where all past the terms is as it was at first.
-  pub whole-words : (terms₀ : List ℕ) → drop (5 * c .terms) terms ≡ drop (5 * c .terms) terms₀ → terms ≡ terms-words ts ++ drop (5 * c .terms) terms₀
-  whole-words terms₀ e = sym (take-append-drop (5 * c .terms) terms) ∙ rw (K .words, e)
-
-  pub whole-bytes : (store₀ : Text) → drop (c .used) store ≡ drop (c .used) store₀ → store ≡ store-bytes ts ++ drop (c .used) store₀
-  whole-bytes store₀ e = sym (take-append-drop (c .used) store) ∙ rw (K .bytes, e)
 
   module _ (i : ℕ) (h : i < c .terms) where
     abbrev u : Term
@@ -73,14 +66,14 @@ module _ {ts : List Term} {terms : List ℕ} {store : Text} {c : Counts} (K : Ke
     in-list : i < length ts
     in-list = omega (arith, K .count)
 
-    word : (j : ℕ) → j < 5 → getD terms (5 * i + j) 0 ≡ getD (entry-words the) j 0
+    word : (j : ℕ) → j < term-size → getD terms (term-size * i + j) 0 ≡ getD (entry-words the) j 0
     word j l =
-        sym (getD-take (5 * c .terms) terms (5 * i + j) 0 (omega arith))
-        ∙ (ap (λ (l : List ℕ). getD l (5 * i + j) 0) (K .words) ∙ word-at ts i in-list j l)
+        sym (getD-take (term-size * c .terms) terms (term-size * i + j) 0 (omega arith))
+        ∙ (ap (λ (l : List ℕ). getD l (term-size * i + j) 0) (K .words) ∙ word-at ts i in-list j l)
 
-    word-0 : getD terms (5 * i) 0 ≡ the .kind
+    word-0 : getD terms (term-size * i) 0 ≡ the .kind
     unfolding entry-words
-    word-0 = ap (λ (n : ℕ). getD terms n 0) (sym (add-zero (5 * i))) ∙ word 0 (omega arith)
+    word-0 = ap (λ (n : ℕ). getD terms n 0) (sym (add-zero (term-size * i))) ∙ word 0 (omega arith)
 
     pub entry-held : entry-at terms (suc i) ≡ the
     unfolding entry-at entry-words

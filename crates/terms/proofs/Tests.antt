@@ -1,20 +1,27 @@
 -- The tests of an entry, as the code makes them one after another.
 use mathlib.Core.Path.{_≡_, refl, sym, ap, _∙_}
 use mathlib.Core.Bool.{Bool, true, false}
-use Prim.Native.Nat.{ℕ, suc, _+_, _-_, _<_, _≤_}
+use mathlib.Core.List.{List}
+use Prim.Native.Nat.{ℕ, suc, _+_, _*_, _-_, _<_, _≤_}
+use native.Mathlib.Nat.{add-zero}
 use native.Mathlib.Numerals.{add-one}
 use native.Mathlib.Omega.{arith}
 use lib.Dec.{eqb}
 use borrow.Author.Tests.{eq-eqb, ne-eqb}
-use lib.ListN.{take, drop}
+use lib.ListN.{getD, take, drop}
 use Rattle.text.specs.Text.{Text, cond, same-text}
-use Rattle.table.specs.Layout.{Entry, span}
+use Rattle.table.specs.Layout.{Entry, term-size, entry-at, span}
 use Rattle.terms.specs.declared.Sort.{Sort}
 use Rattle.terms.specs.Code.{same-rest, matches, first}
 
 -- A part of the store between two places.
 pub span-of : (store : Text) (a n end : ℕ) → end ≡ a + n → take (end - a) (drop a store) ≡ span store a n
 span-of store a n end e = let m : end - a ≡ n = omega arith in rw m
+
+-- The kind of an entry, as it is read.
+pub kind-read : (terms : List ℕ) (i r : ℕ) → r ≡ getD terms (term-size * i + 0) 0 → r ≡ entry-at terms (suc i) .kind
+unfolding entry-at
+kind-read terms i r e = rw add-zero at e
 
 module _ (store : Text) (e : Entry) (sort : Sort) (x g : Text) where
   pub other-kind : (e .kind ≡ sort .kind → ⊥) → false ≡ matches store e sort x g

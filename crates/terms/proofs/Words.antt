@@ -9,7 +9,7 @@ use lib.Seq.{split-at, getD-append-add, length-take-le}
 use Rattle.text.specs.Text.{cond}
 use Rattle.text.proofs.Compare.{by}
 use Rattle.dataset.specs.Terms.{Term, iri, blank, literal, tagged}
-use Rattle.table.specs.Layout.{Entry, entry-words}
+use Rattle.table.specs.Layout.{Entry, term-size, entry-words}
 use Rattle.table.specs.Tables.{is-blank, term-bytes, entry-of, words-from, terms-words, store-size}
 use Rattle.table.proofs.Finding.{number-more}
 use Rattle.terms.specs.Keeps.{blank-count, Typed}
@@ -32,7 +32,7 @@ words-append all u b (t ∷ xs) ys =
     ap (λ (l : List ℕ). entry-words (entry-of all u b t) ++ l) (rest ∙ rw (size, after-count b (blank-count xs) t))
     ∙ sym (append-assoc (entry-words (entry-of all u b t)) (words-from all (u + length (term-bytes t)) (after b t) xs) (words-from all (u + (length (term-bytes t) + store-size xs)) (b + after (blank-count xs) t) ys))
 
-pub words-length : (all : List Term) (u b : ℕ) (xs : List Term) → length (words-from all u b xs) ≡ 5 * length xs
+pub words-length : (all : List Term) (u b : ℕ) (xs : List Term) → length (words-from all u b xs) ≡ term-size * length xs
 unfolding words-from entry-words
 words-length all u b [] = refl
 words-length all u b (t ∷ xs) = omega (arith, words-length all (u + length (term-bytes t)) (cond (is-blank t) (suc b) b) xs)
@@ -77,8 +77,8 @@ module _ (ts : List Term) (i : ℕ) (h : i < length ts) where
       ap (words-from ts 0 0) (split-at ts i (iri []) h)
       ∙ (words-append ts 0 0 (take i ts) (u ∷ drop (suc i) ts) ∙ rw (zero-add (store-size (take i ts)), zero-add (blank-count (take i ts))))
 
-  pub word-at : (j : ℕ) → j < 5 → getD (terms-words ts) (5 * i + j) 0 ≡ getD (entry-words the) j 0
+  pub word-at : (j : ℕ) → j < term-size → getD (terms-words ts) (term-size * i + j) 0 ≡ getD (entry-words the) j 0
   unfolding entry-words
   word-at j l =
-      let n : 5 * i ≡ length (words-from ts 0 0 (take i ts)) = sym (words-length ts 0 0 (take i ts) ∙ ap (λ (k : ℕ). 5 * k) (length-take-le i ts (omega arith))) in
+      let n : term-size * i ≡ length (words-from ts 0 0 (take i ts)) = sym (words-length ts 0 0 (take i ts) ∙ ap (λ (k : ℕ). term-size * k) (length-take-le i ts (omega arith))) in
       rw (parted, n) (getD-append-add (words-from ts 0 0 (take i ts)) (entry-words the ++ rest) j 0 ∙ List·getD-append (entry-words the) rest 0 j (omega arith))

@@ -8,7 +8,7 @@ use lib.ListN.{length, getD, take}
 use Rattle.text.specs.Text.{Text, cond}
 use Rattle.text.specs.Slice.{over-at}
 use Rattle.dataset.specs.Terms.{label, bracket, cell, numbered, Term, iri, blank, literal, tagged}
-use Rattle.table.specs.Layout.{Row, row-size, row-words, term-size, entry-words, iri-kind, blank-kind, literal-kind, tagged-kind}
+use Rattle.table.specs.Layout.{Row, row-size, row-words, term-size, entry-words, iri-kind, blank-kind, literal-kind, tagged-kind, word-limit}
 use Rattle.table.specs.Tables.{number, or-zero, is-blank, label-of, terms-words, store-bytes, store-size, rows-words}
 use Rattle.terms.specs.declared.Counts.{Counts}
 use Rattle.terms.specs.declared.Sort.{Sort}
@@ -57,9 +57,9 @@ Means ts sort x g (tagged s h) = (sort .kind ≡ tagged-kind) × ((s ≡ x) × (
 pub record Small (c : Counts) (sort : Sort) (bytes : ℕ) : Type 0 where
   pub terms : c .terms < 4294967294
   pub used : c .used + bytes < 4294967295
-  pub blanks : c .blanks < 4294967296
-  pub kind : sort .kind < 4294967296
-  pub datatype : sort .datatype < 4294967296
+  pub blanks : c .blanks < word-limit
+  pub kind : sort .kind < word-limit
+  pub datatype : sort .datatype < word-limit
 
 -- There is room for one term more.
 pub record TermFits (terms : List ℕ) (store : Text) (c : Counts) (sort : Sort) (x g : Text) : Type 0 where

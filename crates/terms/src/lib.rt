@@ -7,10 +7,14 @@ ghost use lib.ListN.{length, getD};
 ghost use Rattle.text.specs.Slice.{over-at};
 ghost use Rattle.spelling.specs.Form.{joined, bad};
 ghost use Rattle.spelling.specs.declared.Form.the-variants.{Plain};
-ghost use Rattle.table.specs.Layout.{entry-at, entry-words};
+ghost use Rattle.table.specs.Layout.{row-size, term-size, entry-at, entry-words, word-limit};
 ghost use Rattle.terms.specs.Code.{same-rest, matches, first, Inside, Readable, fourth, next-entry, next-counts};
 ghost use Rattle.terms.specs.Keeps.{Small, TermFits, Added, iri-sort, blank-sort, BlankAdded, RowAdded};
 use spelling::Form;
+use table::Layout;
+use table::TermKind;
+use table::TermWord;
+use table::wide;
 
 // How many terms there are, how many bytes of the store they use, and how many of them are blank nodes.
 pub struct Counts {
@@ -25,25 +29,19 @@ pub struct Sort {
     pub datatype: usize,
 }
 
-fn wide(w: u32) -> usize
-    ensures { λ r. ⌜ r ≡ w ⌝ }
-{
-    w as usize
-}
-
 // Whether an entry of the same kind has the same datatype, or the same tag.
 fn same_rest(terms: &[u32], store: &[u8], i: usize, sort: Sort, tag: &[u8]) -> bool
     requires { ⌜ Inside (now terms) (now store) i × (entry-at (now terms) (suc i) .kind ≡ sort .kind) ⌝ }
     ensures { λ r. ⌜ r ≡ same-rest (now (store .entry)) (entry-at (now (terms .entry)) (suc i)) sort (now (tag .entry)) ⌝ }
 {
-    let at = 5 * i;
+    let at = Layout::TERM_WORDS * i;
     let kind = sort.kind;
-    if kind == 3 {
-        return wide(terms[at + 3]) == sort.datatype;
+    if kind == TermKind::LITERAL {
+        return wide(terms[at + TermWord::FOURTH]) == sort.datatype;
     }
-    if kind == 4 {
-        let start = wide(terms[at + 3]);
-        let end = start + wide(terms[at + 4]);
+    if kind == TermKind::TAGGED {
+        let start = wide(terms[at + TermWord::FOURTH]);
+        let end = start + wide(terms[at + TermWord::FIFTH]);
         return text::same(tag, &store[start..end]);
     }
     true
@@ -63,13 +61,13 @@ pub fn is_term(
     requires { ⌜ Inside (now terms) (now store) i ⌝ }
     ensures { λ r. ⌜ r ≡ matches (now (store .entry)) (entry-at (now (terms .entry)) (suc i)) sort (joined (now (front .entry)) form (now (back .entry))) (now (tag .entry)) ⌝ }
 {
-    let at = 5 * i;
+    let at = Layout::TERM_WORDS * i;
     let kind = sort.kind;
-    if wide(terms[at]) != kind {
+    if wide(terms[at + TermWord::KIND]) != kind {
         return false;
     }
-    let start = wide(terms[at + 1]);
-    let end = start + wide(terms[at + 2]);
+    let start = wide(terms[at + TermWord::START]);
+    let end = start + wide(terms[at + TermWord::SIZE]);
     if spelling::same_joined(front, form, back, &store[start..end]) {
         return same_rest(terms, store, i, sort, tag);
     }
@@ -81,12 +79,12 @@ pub fn is_iri(terms: &[u32], store: &[u8], i: usize, front: &[u8], back: &[u8]) 
     requires { ⌜ Inside (now terms) (now store) i ⌝ }
     ensures { λ r. ⌜ r ≡ matches (now (store .entry)) (entry-at (now (terms .entry)) (suc i)) iri-sort (joined (now (front .entry)) Plain (now (back .entry))) [] ⌝ }
 {
-    let at = 5 * i;
-    if wide(terms[at]) != 1 {
+    let at = Layout::TERM_WORDS * i;
+    if wide(terms[at + TermWord::KIND]) != TermKind::IRI {
         return false;
     }
-    let start = wide(terms[at + 1]);
-    let end = start + wide(terms[at + 2]);
+    let start = wide(terms[at + TermWord::START]);
+    let end = start + wide(terms[at + TermWord::SIZE]);
     spelling::same_plain(front, back, &store[start..end])
 }
 
@@ -117,7 +115,7 @@ pub fn find_from(
 
 // Writes words at a place.
 fn put_words(words: &mut [u32], at: usize, s: &[usize])
-    requires { ⌜ (at + length (now s) ≤ length (now words)) × ((i : ℕ) → getD (now s) i 0 < 4294967296) ⌝ }
+    requires { ⌜ (at + length (now s) ≤ length (now words)) × ((i : ℕ) → getD (now s) i 0 < word-limit) ⌝ }
     ensures { λ _. ⌜ now (words .exit) ≡ over-at at (now (s .entry)) (now (words .entry)) ⌝ }
 {
     let mut i: usize = 0;
@@ -129,24 +127,24 @@ fn put_words(words: &mut [u32], at: usize, s: &[usize])
 
 // Adds a row behind the others.
 pub fn add_row(rows: &mut [u32], count: usize, row: &[usize])
-    requires { ⌜ (5 * count + length (now row) ≤ length (now rows)) × ((i : ℕ) → getD (now row) i 0 < 4294967296) ⌝ }
+    requires { ⌜ (row-size * count + length (now row) ≤ length (now rows)) × ((i : ℕ) → getD (now row) i 0 < word-limit) ⌝ }
     ensures { λ _. ⌜ RowAdded (now (rows .entry)) (now (rows .exit)) count (now (row .entry)) ⌝ }
 {
-    put_words(rows, 5 * count, row);
+    put_words(rows, Layout::ROW_WORDS * count, row);
 }
 
 fn fourth_word(counts: Counts, sort: Sort, size: usize) -> usize
-    requires { ⌜ counts .used + size < 4294967296 ⌝ }
+    requires { ⌜ counts .used + size < word-limit ⌝ }
     ensures { λ r. ⌜ r ≡ fourth counts sort size ⌝ }
 {
     let kind = sort.kind;
-    if kind == 2 {
+    if kind == TermKind::BLANK {
         return counts.blanks;
     }
-    if kind == 3 {
+    if kind == TermKind::LITERAL {
         return sort.datatype;
     }
-    if kind == 4 {
+    if kind == TermKind::TAGGED {
         return counts.used + size;
     }
     0
@@ -154,11 +152,11 @@ fn fourth_word(counts: Counts, sort: Sort, size: usize) -> usize
 
 // Writes the words of a term behind those of the others.
 fn put_entry(terms: &mut [u32], counts: Counts, sort: Sort, size: usize, tag: usize)
-    requires { ⌜ (5 * counts .terms + 5 ≤ length (now terms)) × Small counts sort (size + tag) ⌝ }
-    ensures { λ _. ⌜ now (terms .exit) ≡ over-at (5 * counts .terms) (entry-words (next-entry counts sort size tag)) (now (terms .entry)) ⌝ }
+    requires { ⌜ (term-size * counts .terms + term-size ≤ length (now terms)) × Small counts sort (size + tag) ⌝ }
+    ensures { λ _. ⌜ now (terms .exit) ≡ over-at (term-size * counts .terms) (entry-words (next-entry counts sort size tag)) (now (terms .entry)) ⌝ }
 {
     let used = counts.used;
-    let at = 5 * counts.terms;
+    let at = Layout::TERM_WORDS * counts.terms;
     let kind = sort.kind;
     let five = [kind, used, size, fourth_word(counts, sort, size), tag];
     put_words(terms, at, &five);
@@ -187,7 +185,7 @@ fn count_term(counts: Counts, sort: Sort, bytes: usize) -> Counts
     ensures { λ r. ⌜ r ≡ next-counts counts sort bytes ⌝ }
 {
     let kind = sort.kind;
-    if kind == 2 {
+    if kind == TermKind::BLANK {
         return Counts {
             terms: counts.terms + 1,
             used: counts.used + bytes,
@@ -224,11 +222,11 @@ pub fn add(
 
 // Adds a blank node without a label, as each [ and each list cell is; the counts with it.
 pub fn add_blank(terms: &mut [u32], counts: Counts) -> Counts
-    requires { ⌜ (5 * counts .terms + 5 ≤ length (now terms)) × Small counts blank-sort 0 ⌝ }
+    requires { ⌜ (term-size * counts .terms + term-size ≤ length (now terms)) × Small counts blank-sort 0 ⌝ }
     ensures { λ r. ⌜ BlankAdded (now (terms .entry)) (now (terms .exit)) counts r ⌝ }
 {
     let sort = Sort {
-        kind: 2,
+        kind: TermKind::BLANK,
         datatype: 0,
     };
     put_entry(terms, counts, sort, 0, 0);

@@ -8,6 +8,7 @@ ghost use Rattle.term_tree.specs.Holds.{Searchable};
 ghost use Rattle.terms_bench.specs.Iris.{counts};
 use limits::Limits;
 use spelling::Form;
+use table::TermKind;
 use terms::Counts;
 use terms::Sort;
 
@@ -30,7 +31,7 @@ pub extern "C" fn share_iri(
         blanks: 0,
     };
     let sort = Sort {
-        kind: 1,
+        kind: TermKind::IRI,
         datatype: 0,
     };
     let n = Limits::work_size();

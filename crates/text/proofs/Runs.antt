@@ -2,7 +2,7 @@
 use Prim.Native.Nat.{ℕ, zero, suc, _+_, _-_, _≤_, _<_}
 use mathlib.Core.Path.{_≡_, refl, ap, sym, subst, _∙_}
 use mathlib.Core.List.{[], _∷_, _++_}
-use mathlib.Core.Bool.{Bool, true, false, not, _&&_, _||_}
+use mathlib.Core.Bool.{Bool, true, false, not, _&&_}
 use native.Mathlib.Numerals.{add-one}
 use native.Mathlib.Omega.{arith}
 use lib.ListN.{length, getD, take, drop, length-drop, drop-of-length-le}
@@ -60,14 +60,6 @@ module _ (p : ℕ → Bool) (s : Text) (i : ℕ) where
   unfolding until next-at
   next-end h = rw (drop-of-length-le s {i = i} h) (omega arith)
 
-  pub next-fits : i ≤ length s → next-at p s i ≤ length s
-  unfolding next-at
-  next-fits h = omega (arith, until-length p (drop i s), length-drop i s)
-
-  pub next-after : i ≤ next-at p s i
-  unfolding next-at
-  next-after = omega arith
-
   -- The bytes up to the next one that passes the test.
   module _ (k : ℕ) (e : k ≡ next-at p s i) where
     pub next-part : take (k - i) (drop i s) ≡ until p (drop i s)
@@ -88,11 +80,6 @@ module _ (p : ℕ → Bool) (s : Text) (i : ℕ) where
 
     pub next-free : some-byte p (take (k - i) (drop i s)) ≡ false
     next-free = rw next-part (until-free p (drop i s))
-
--- Does the byte stand in a text?
-pub next-some : (p : ℕ → Bool) (s : Text) (k : ℕ) → k ≡ next-at p s 0 → ltb k (length s) ≡ some-byte p s
-unfolding next-at
-next-some p s k e = let z : k ≡ length (until p s) = omega (arith, e) in rw z (sym (until-some p s))
 
 -- A block of bytes that do not pass the test.
 pub free-run : (p : ℕ → Bool) (s : Text) (i n : ℕ) → i + n ≤ length s → free p s i n ≡ true → next-at p s i ≡ next-at p s (i + n)

@@ -9,7 +9,8 @@ ghost use Rattle.text.specs.Slice.{over, laid};
 ghost use Rattle.text.specs.Words.{four-at, eight-at};
 ghost use Rattle.text.specs.Runs.{byte, four, high, free, next-at};
 
-fn wide(b: u8) -> usize
+// A byte as a number.
+pub fn wide(b: u8) -> usize
     ensures { λ r. ⌜ (r ≡ b) × (r < 256) ⌝ }
 {
     b as usize

@@ -6,13 +6,13 @@ use Prim.Native.Nat.{ℕ, zero, suc, pred}
 use Prim.Native.String.{String}
 use lib.Dec.{eqb}
 use lib.ListN.{length}
-use Rattle.text.specs.Text.{ascii, cond}
+use Rattle.text.specs.Text.{ascii, cond, one-of}
 use Rattle.text.proofs.Table.{_⇒_, Gives}
-use Rattle.utf8.specs.Utf8.{width, encodes, Range, _–_}
+use Rattle.utf8.specs.Utf8.{width, encodes, decode, Range, _–_}
 use Rattle.token.specs.Kind.{Kind, kind-code, kind-of-code, IRIREF, «PNAME_NS», «PNAME_LN», «BLANK_NODE_LABEL», at-prefix, at-base, LANGTAG, INTEGER, DECIMAL, DOUBLE, «STRING_LITERAL_QUOTE», «STRING_LITERAL_SINGLE_QUOTE», kw-a, kw-true, kw-false, PREFIX, BASE, GRAPH, dot, comma, semicolon, open-bracket, close-bracket, open-paren, close-paren, open-brace, close-brace, carets, «STRING_LITERAL_LONG_QUOTE», «STRING_LITERAL_LONG_SINGLE_QUOTE»}
 use Rattle.token.specs.Regular.{size, Match, nothing, hit}
 use Rattle.token.specs.Terminals.{token-at}
-use Rattle.token.specs.Tokens.{Lexeme, token, unreadable, lexemes, white-space, line-end, computing}
+use Rattle.token.specs.Tokens.{Lexeme, token, unreadable, between, white-space, line-end, lexemes-from, lexemes, computing}
 
 -- ---- Sets of characters
 
@@ -299,3 +299,20 @@ cuts : Gives cut (
     ∷ [])
 unfolding computing
 cuts = refl
+
+-- Other cuts: only blanks and tabs stand between tokens, and a line end is a token, by itself and behind a comment.
+abbrev line-end-at : List ℕ → Match
+line-end-at [] = nothing
+line-end-at (c ∷ cs) = cond (line-end c) (hit (kind-code semicolon) 1) (token-at (c ∷ cs))
+
+abbrev cut-into-lines : String → List Piece
+cut-into-lines s = map {A = Lexeme} piece-of (let t = encodes (ascii s) in lexemes-from (record { token-at = line-end-at; white-space = one-of " \t" }) t between 0 (decode t))
+
+line-cuts : Gives cut-into-lines (
+    "a .\n" ⇒ (piece kw-a 0 1 ∷ piece dot 2 1 ∷ piece semicolon 3 1 ∷ [])
+    ∷ "#é\n\t. # .\r\n" ⇒ (piece semicolon 3 1 ∷ piece dot 5 1 ∷ piece semicolon 10 1 ∷ piece semicolon 11 1 ∷ [])
+    ∷ "\"\n\"" ⇒ (stuck 0 ∷ [])
+    ∷ "#" ⇒ []
+    ∷ [])
+unfolding computing
+line-cuts = refl

@@ -9,7 +9,7 @@ use lib.Dec.{T, eqb, eqb→eq, eqb-refl}
 use lib.ListN.{getD, List·getD-map}
 use Rattle.text.proofs.Booleans.{and-0, and-1, all, is-true}
 use Rattle.utf8.proofs.Tests.{below-at}
-use Rattle.token.specs.Kind.{Kind, kind-code, kinds, kind-of-code, IRIREF, «PNAME_NS», «PNAME_LN», «BLANK_NODE_LABEL», at-prefix, at-base, LANGTAG, INTEGER, DECIMAL, DOUBLE, «STRING_LITERAL_QUOTE», «STRING_LITERAL_SINGLE_QUOTE», kw-a, kw-true, kw-false, PREFIX, BASE, GRAPH, dot, comma, semicolon, open-bracket, close-bracket, open-paren, close-paren, open-brace, close-brace, carets, «STRING_LITERAL_LONG_QUOTE», «STRING_LITERAL_LONG_SINGLE_QUOTE»}
+use Rattle.token.specs.Kind.{Kind, kind-code, kinds, last-kind, end-kind, kind-of-code, IRIREF, «PNAME_NS», «PNAME_LN», «BLANK_NODE_LABEL», at-prefix, at-base, LANGTAG, INTEGER, DECIMAL, DOUBLE, «STRING_LITERAL_QUOTE», «STRING_LITERAL_SINGLE_QUOTE», kw-a, kw-true, kw-false, PREFIX, BASE, GRAPH, dot, comma, semicolon, open-bracket, close-bracket, open-paren, close-paren, open-brace, close-brace, carets, «STRING_LITERAL_LONG_QUOTE», «STRING_LITERAL_LONG_SINGLE_QUOTE»}
 
 pub kind-back : (k : Kind) → kind-of-code (kind-code k) ≡ k
 kind-back IRIREF = refl
@@ -44,9 +44,9 @@ kind-back «STRING_LITERAL_LONG_QUOTE» = refl
 kind-back «STRING_LITERAL_LONG_SINGLE_QUOTE» = refl
 
 -- The number of the kind with a number.
-pub code-back : (k : ℕ) → (k ≡ 0 → ⊥) → k ≤ 30 → kind-code (kind-of-code k) ≡ k
+pub code-back : (k : ℕ) → (k ≡ end-kind → ⊥) → k ≤ last-kind → kind-code (kind-of-code k) ≡ k
 code-back zero z h = absurd (z refl)
-code-back (suc n) z h = eqb-true (kind-code (kind-of-code (suc n))) (suc n) (is-true (eqb (kind-code (kind-of-code (suc n))) (suc n)) (below-at (λ i. eqb (kind-code (kind-of-code (suc i))) (suc i)) 30 tt n (omega arith)))
+code-back (suc n) z h = eqb-true (kind-code (kind-of-code (suc n))) (suc n) (is-true (eqb (kind-code (kind-of-code (suc n))) (suc n)) (below-at (λ i. eqb (kind-code (kind-of-code (suc i))) (suc i)) last-kind tt n (omega arith)))
 
 -- Are the two kinds the same?
 unfoldable pub same : Kind → Kind → Bool
@@ -77,10 +77,10 @@ all-at p d (x ∷ xs) t s (suc i) = all-at p d xs t (and-1 (p x) (all p xs) s) i
 -- What a test finds of each kind of the list holds of each kind; and so does an equation.
 pub all-kinds : (p : Kind → Bool) → T (all p kinds) → (k : Kind) → T (p k)
 unfolding all
-all-kinds p t k = subst (λ j. T (p j)) (kind-back k) (all-at p dot kinds (all-at p IRIREF kinds (and-0 (p IRIREF) _ t) t 18) t (pred (kind-code k)))
+all-kinds p t k = subst (λ j. T (p j)) (kind-back k) (all-at p dot kinds (all-at p IRIREF kinds (and-0 (p IRIREF) _ t) t (pred (kind-code dot))) t (pred (kind-code k)))
 
 pub each-kind : {A : Type 0} (f g : Kind → A) → map f kinds ≡ map g kinds → (k : Kind) → f k ≡ g k
 each-kind f g p k =
     ap f (sym (kind-back k)) ∙ sym (List·getD-map f kinds (pred (kind-code k)) dot)
-    ∙ ap (λ l. getD l (pred (kind-code k)) (f dot)) p ∙ ap (λ x. getD (map g kinds) (pred (kind-code k)) x) (ap (λ l. getD l 18 (f dot)) p)
+    ∙ ap (λ l. getD l (pred (kind-code k)) (f dot)) p ∙ ap (λ x. getD (map g kinds) (pred (kind-code k)) x) (ap (λ l. getD l (pred (kind-code dot)) (f dot)) p)
     ∙ List·getD-map g kinds (pred (kind-code k)) dot ∙ ap g (kind-back k)

@@ -3,7 +3,7 @@ use mathlib.Core.List.{List, [], _∷_}
 use mathlib.Core.Bool.{Bool, false, _||_}
 use Prim.Native.Nat.{ℕ, pred}
 use lib.Dec.{eqb}
-use lib.ListN.{getD}
+use lib.ListN.{length, getD}
 
 -- A terminal has its own name; a keyword or a mark is named in lower case, but for those in any case.
 pub data Kind : Type 0 where
@@ -55,6 +55,17 @@ kinds =
     ∷ kw-a ∷ kw-true ∷ kw-false ∷ PREFIX ∷ BASE ∷ GRAPH
     ∷ dot ∷ comma ∷ semicolon ∷ open-bracket ∷ close-bracket ∷ open-paren ∷ close-paren ∷ open-brace ∷ close-brace ∷ carets
     ∷ «STRING_LITERAL_LONG_QUOTE» ∷ «STRING_LITERAL_LONG_SINGLE_QUOTE» ∷ []
+
+-- Their numbers go from 1 to the last.
+abbrev pub last-kind : ℕ
+last-kind = length kinds
+
+-- What stands for a kind where there is no token: at the end, and where none can be read. Kinds that are added have numbers below.
+abbrev pub end-kind : ℕ
+end-kind = 0
+
+abbrev pub unreadable-kind : ℕ
+unreadable-kind = 63
 
 -- The kind with a number.
 abbrev pub kind-of-code : ℕ → Kind

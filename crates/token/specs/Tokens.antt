@@ -1,12 +1,12 @@
 -- Cutting a document into tokens.
 use mathlib.Core.List.{List, [], _∷_}
-use mathlib.Core.Bool.{Bool, true, false, _||_}
+use mathlib.Core.Bool.{Bool, true, false, not, _||_}
 use Prim.Native.Nat.{ℕ, zero, suc, _+_, _-_}
 use lib.ListN.{take, drop}
 use Rattle.text.specs.Text.{Text, cond, is, one-of}
 use Rattle.utf8.specs.Utf8.{width, decode, computing as utf8-computing}
 use Rattle.token.specs.Kind.{Kind, kind-of-code, among}
-use Rattle.token.specs.Regular.{nothing, hit}
+use Rattle.token.specs.Regular.{Match, nothing, hit}
 use Rattle.token.specs.Terminals.{token-at}
 
 -- A token: its kind, the place of its first byte, and its bytes.
@@ -28,13 +28,27 @@ pub data Cutting : Type 0 where
   between comment : Cutting
   inside : ℕ → Cutting
 
+-- What a text is cut by: the token at the front of some code points, and the characters between tokens.
+pub record Cuts : Type 0 where
+  pub token-at : List ℕ → Match
+  pub white-space : ℕ → Bool
+
 -- [161s] WS ::= #x20 | #x9 | #xD | #xA
 abbrev pub white-space : ℕ → Bool
 white-space c = one-of " \t\r\n" c
 
+abbrev pub trig-cuts : Cuts
+trig-cuts = record { token-at = token-at; white-space = white-space }
+
 -- 4.2: a comment goes to the end of line, "marked by characters U+000D or U+000A".
 abbrev pub line-end : ℕ → Bool
 line-end c = one-of "\r\n" c
+
+-- Is the code point passed there, and no token looked for? A comment ends before the line end, which stands between tokens again.
+abbrev pub is-passed : Cuts → Cutting → ℕ → Bool
+is-passed cuts between c = cuts .white-space c || is "#" c
+is-passed cuts comment c = not (line-end c) || cuts .white-space c
+is-passed cuts (inside k) c = true
 
 abbrev pub in-comment : ℕ → Cutting
 in-comment c = cond (line-end c) between comment
@@ -44,25 +58,29 @@ abbrev pub passed : ℕ → Cutting
 passed zero = between
 passed (suc k) = inside (suc k)
 
+-- Where it is behind a code point that is passed.
+abbrev pub behind : Cutting → ℕ → Cutting
+behind between c = cond (is "#" c) comment between
+behind comment c = in-comment c
+behind (inside k) c = passed (k - width c)
+
 -- The tokens of the document from the place `at` on, where these code points stand; up to the first place where none can be read.
-unfoldable pub lexemes-from : Text → Cutting → ℕ → List ℕ → List Lexeme
-lexemes-from doc state at [] = []
-lexemes-from doc (inside k) at (c ∷ cs) = lexemes-from doc (passed (k - width c)) (at + width c) cs
-lexemes-from doc comment at (c ∷ cs) = lexemes-from doc (in-comment c) (at + width c) cs
-lexemes-from doc between at (c ∷ cs) =
-    elim (white-space c || is "#" c) [
-      | true ↦ lexemes-from doc (cond (is "#" c) comment between) (at + 1) cs
+unfoldable pub lexemes-from : Cuts → Text → Cutting → ℕ → List ℕ → List Lexeme
+lexemes-from cuts doc state at [] = []
+lexemes-from cuts doc state at (c ∷ cs) =
+    elim (is-passed cuts state c) [
+      | true ↦ lexemes-from cuts doc (behind state c) (at + width c) cs
       | false ↦
-          elim (token-at (c ∷ cs)) [
+          elim (cuts .token-at (c ∷ cs)) [
             | nothing ↦ unreadable at ∷ []
             | hit k n ↦
                 token (record { kind = kind-of-code k; start = at; text = take n (drop at doc) })
-                ∷ lexemes-from doc (passed (n - width c)) (at + width c) cs
+                ∷ lexemes-from cuts doc (passed (n - width c)) (at + width c) cs
           ]
     ]
 
 unfoldable pub lexemes : Text → List Lexeme
-lexemes doc = lexemes-from doc between 0 (decode doc)
+lexemes doc = lexemes-from trig-cuts doc between 0 (decode doc)
 
 -- The tokens, up to the first place where none can be read; whether there is no such place.
 unfoldable pub tokens-of : List Lexeme → List Token

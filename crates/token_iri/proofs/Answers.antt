@@ -11,6 +11,7 @@ use lib.Dec.{ltb}
 use borrow.Author.Tests.{lt-ltb, le-ltb}
 use Rattle.text.specs.Text.{Text, cond, is}
 use Rattle.limits.specs.Limits.{iri-limit, work-size}
+use Rattle.token.specs.Kind.{kind-code, IRIREF, «PNAME_LN», «PNAME_NS»}
 use Rattle.escape.specs.Escape.{bad-escape, unescape, unreserve}
 use Rattle.spelling.specs.Form.{undo, bad, joined}
 use Rattle.spelling.specs.declared.Form.{Form}
@@ -35,7 +36,7 @@ use Rattle.token_iri.proofs.Refused.{iriref-iri, iri-bad, iri-no-base, 
 
 -- A refused token.
 pub refused : (kind : ℕ) (token work : Text) (st : List ℕ) (buffer : Text) (n : ℕ) (r : Address) → 0 < n → r ≡ refused-address n
-    → (Usable work st → Sound (environment-in work st) → (kind ≡ 1 → getD token 0 0 ≡ 60) → (at : ℕ) → n ≡ iri-refusal (awaiting nothing (environment-in work st)) (token-as kind at token))
+    → (Usable work st → Sound (environment-in work st) → (kind ≡ kind-code IRIREF → getD token 0 0 ≡ 60) → (at : ℕ) → n ≡ iri-refusal (awaiting nothing (environment-in work st)) (token-as kind at token))
     → Addresses kind token work st buffer r
 refused kind token work st buffer n r h e f =
     subst (λ (x : Address). Addresses kind token work st buffer x) (sym e)
@@ -50,8 +51,8 @@ refused kind token work st buffer n r h e f =
 -- ---- An IRIREF
 
 module _ (token work : Text) (st : List ℕ) (buffer : Text) where
-  pub refused-bad : (b : Bool) (r : Address) → b ≡ bad-escape token → b ≡ true → r ≡ refused-address 7 → Addresses 1 token work st buffer r
-  refused-bad b r eb h e = refused 1 token work st buffer 7 r (omega arith) e (λ u s g at. iri-bad (environment-in work st) at token (sym eb ∙ h))
+  pub refused-bad : (b : Bool) (r : Address) → b ≡ bad-escape token → b ≡ true → r ≡ refused-address 7 → Addresses (kind-code IRIREF) token work st buffer r
+  refused-bad b r eb h e = refused (kind-code IRIREF) token work st buffer 7 r (omega arith) e (λ u s g at. iri-bad (environment-in work st) at token nothing refl (sym eb ∙ h))
 
   module _ (b : Bool) (eb : b ≡ bad-escape token) (good : b ≡ false) (text : Text) (et : text ≡ inner 1 token) where
     right : bad-escape token ≡ false
@@ -68,10 +69,10 @@ module _ (token work : Text) (st : List ℕ) (buffer : Text) where
       unfolding outcome
       long-outcome l base = rw (own-scheme, lt-ltb iri-limit (length (unescape (inner 1 token))) (omega (arith, own-length)))
 
-      pub refused-long : iri-limit < n → (r : Address) → r ≡ refused-address 11 → Addresses 1 token work st buffer r
+      pub refused-long : iri-limit < n → (r : Address) → r ≡ refused-address 11 → Addresses (kind-code IRIREF) token work st buffer r
       refused-long l r e =
           refused 1 token work st buffer 11 r (omega arith) e
-          (λ u s g at. iri-long (environment-in work st) at token right (long-outcome l (environment-in work st .base)))
+          (λ u s g at. iri-long (environment-in work st) at token nothing refl right (long-outcome l (environment-in work st .base)))
 
       pub token-long : 2 ≤ length token
       token-long = scheme-inside token own-scheme
@@ -84,7 +85,7 @@ module _ (token work : Text) (st : List ℕ) (buffer : Text) where
       unfolding resolved
       as-is base = rw own-scheme
 
-      pub as-written : n ≤ iri-limit → Addresses 1 token work st buffer (record { refused = 0; start = 0; end = 0; form = Escaped; from = 1; to = length token - 1; buffered = false })
+      pub as-written : n ≤ iri-limit → Addresses (kind-code IRIREF) token work st buffer (record { refused = 0; start = 0; end = 0; form = Escaped; from = 1; to = length token - 1; buffered = false })
       unfolding joined undo bad
       as-written l = record {
         order = omega arith;
@@ -92,7 +93,7 @@ module _ (token work : Text) (st : List ℕ) (buffer : Text) where
         back-order = omega (arith, token-long);
         back-inside = omega arith;
         stands = λ u s g at. record {
-          refusal = iri-written (environment-in work st) at token right _ (short-outcome l (environment-in work st .base));
+          refusal = iri-written (environment-in work st) at token nothing refl right _ (short-outcome l (environment-in work st .base));
           iri = λ z. iriref-iri (environment-in work st) at token ∙ rw (inside-read token token-long) (as-is (environment-in work st .base));
           right = λ z. rw (inside-read token token-long) (inside-good token (g refl) right);
           short = λ z. rw (iriref-iri (environment-in work st) at token, as-is (environment-in work st .base)) (omega (arith, own-length));
@@ -104,17 +105,17 @@ module _ (token work : Text) (st : List ℕ) (buffer : Text) where
       is-outcome : Usable work st → Sound (environment-in work st) → getD token 0 0 ≡ 60 → a ≡ outcome (environment-in work st .base) (unescape (inner 1 token))
       is-outcome u s g = w .resolves u s (ap bad-escape et ∙ inside-good token g right) .is ∙ ap (λ (x : Text). outcome (environment-in work st .base) (unescape x)) et
 
-      pub refused-no-base : a ≡ NoBase → (r : Address) → r ≡ refused-address 10 → Addresses 1 token work st buffer r
+      pub refused-no-base : a ≡ NoBase → (r : Address) → r ≡ refused-address 10 → Addresses (kind-code IRIREF) token work st buffer r
       refused-no-base ea r e =
           refused 1 token work st buffer 10 r (omega arith) e
-          (λ u s g at. iri-no-base (environment-in work st) at token right (sym ea ∙ is-outcome u s (g refl)))
+          (λ u s g at. iri-no-base (environment-in work st) at token nothing refl right (sym ea ∙ is-outcome u s (g refl)))
 
-      pub refused-over : a ≡ Long → (r : Address) → r ≡ refused-address 11 → Addresses 1 token work st buffer r
+      pub refused-over : a ≡ Long → (r : Address) → r ≡ refused-address 11 → Addresses (kind-code IRIREF) token work st buffer r
       refused-over ea r e =
           refused 1 token work st buffer 11 r (omega arith) e
-          (λ u s g at. iri-long (environment-in work st) at token right (sym ea ∙ is-outcome u s (g refl)))
+          (λ u s g at. iri-long (environment-in work st) at token nothing refl right (sym ea ∙ is-outcome u s (g refl)))
 
-      pub resolved-there : (k : ℕ) → a ≡ Written k → length buffer ≡ iri-limit → Addresses 1 token work st buffer (record { refused = 0; start = 0; end = 0; form = Plain; from = 0; to = k; buffered = true })
+      pub resolved-there : (k : ℕ) → a ≡ Written k → length buffer ≡ iri-limit → Addresses (kind-code IRIREF) token work st buffer (record { refused = 0; start = 0; end = 0; form = Plain; from = 0; to = k; buffered = true })
       unfolding joined undo bad
       resolved-there k ea room = record {
         order = omega arith;
@@ -128,7 +129,7 @@ module _ (token work : Text) (st : List ℕ) (buffer : Text) where
             iriref-iri (environment-in work st) at token ∙ ap (λ (x : Text). resolved (environment-in work st .base) (unescape x)) (sym et)
             ∙ sym (w .resolves u s (ap bad-escape et ∙ inside-good token (g refl) right) .front k ea) ∙ ap (λ (n : ℕ). take n buffer) same-end in
             record {
-              refusal = iri-written (environment-in work st) at token right k o;
+              refusal = iri-written (environment-in work st) at token nothing refl right k o;
               iri = λ z. same;
               right = λ z. refl;
               short = λ z. rw (iriref-iri (environment-in work st) at token, ← outcome-written (environment-in work st .base) (unescape (inner 1 token)) k o .size) (omega (arith, w .inside k ea));
@@ -154,7 +155,7 @@ module _ (kind : ℕ) (token work : Text) (st : List ℕ) (buffer : Text) where
   pub refused-unusable : (r : Address) → length work < work-size → r ≡ refused-address 9 → Addresses kind token work st buffer r
   refused-unusable r h e = refused kind token work st buffer 9 r (omega arith) e (λ u s g at. absurd (omega (arith, u .room)))
 
-  module _ (least : 2 ≤ kind) (most : kind ≤ 3) (i : ℕ) (colon : i ≡ before (is ":") token) (f : Found) (look : work-size ≤ length work → FoundIn (take i token) (environment-in work st) work f) where
+  module _ (least : kind-code «PNAME_NS» ≤ kind) (most : kind ≤ kind-code «PNAME_LN») (i : ℕ) (colon : i ≡ before (is ":") token) (f : Found) (look : work-size ≤ length work → FoundIn (take i token) (environment-in work st) work f) where
     pub refused-missing : f ≡ Missing → (r : Address) → r ≡ refused-address 9 → Addresses kind token work st buffer r
     refused-missing ef r e =
         refused kind token work st buffer 9 r (omega arith) e
@@ -204,7 +205,7 @@ module _ (kind : ℕ) (token work : Text) (st : List ℕ) (buffer : Text) where
           within : {x : ℕ} → cond (ltb iri-limit (length (take n (drop start work) ++ unreserve (drop 1 (drop i token))))) 11 0 ≡ x → 0 ≡ x
           within q = rw (joined-size, le-ltb iri-limit (n + m) (omega (arith, bounds .1))) at q
 
-pub as-kind : (kind : ℕ) (token work : Text) (st : List ℕ) (buffer : Text) (r : Address) → kind ≡ 1 → Addresses 1 token work st buffer r → Addresses kind token work st buffer r
+pub as-kind : (kind : ℕ) (token work : Text) (st : List ℕ) (buffer : Text) (r : Address) → kind ≡ kind-code IRIREF → Addresses (kind-code IRIREF) token work st buffer r → Addresses kind token work st buffer r
 as-kind kind token work st buffer r e a = subst (λ (k : ℕ). Addresses k token work st buffer r) (sym e) a
 
 -- ---- Forms that read the same

@@ -19,13 +19,13 @@ use Rattle.environment.specs.Environment.{Environment}
 use Rattle.environment.specs.Code.{environment-in, is-declared, declare-answer, after-declare, Usable, Beside, Declares, SetsBase}
 use Rattle.environment.specs.declared.Declared.{Declared}
 use Rattle.environment.specs.declared.Declared.the-variants.{Done, TooLong, TooMany}
-use Rattle.dataset.specs.Constructors.{inner, iri-of, namespace-of, awaiting}
+use Rattle.dataset.specs.Constructors.{inner, iri-of, new-base, namespace-of, awaiting}
 use Rattle.machine.specs.Refusals.{one-prefix-more}
 use Rattle.token_iri.specs.Tests.{token-as, Sound, outcome}
 use Rattle.token_iri.specs.Addresses.{Resolves, WritesReference, GoodReference, DeclaresNamespace, DeclaresBase}
 use Rattle.token_iri.proofs.Between.{inside-good}
 use Rattle.token_iri.proofs.Bases.{written-scheme}
-use Rattle.token_iri.proofs.Refused.{iriref-iri, namespace-bad, namespace-no-base, namespace-long, namespace-written, base-bad, base-no-base, base-long, base-written, one-more}
+use Rattle.token_iri.proofs.Refused.{iriref-iri, iri-bad, iri-no-base, iri-long, iri-written, namespace-stops, namespace-last, one-more}
 
 nothing-changed : (work : Text) (st : List ℕ) → Beside work work st st
 nothing-changed work st = record { own = λ k h. refl; behind = refl; long = refl }
@@ -58,10 +58,10 @@ module _ (e : Environment) (p ns : Text) (hp : length p ≤ prefix-limit) (hn : 
 -- A bad escape.
 module _ (token work : Text) (st : List ℕ) (b : Bool) (eb : b ≡ bad-escape token) (h : b ≡ true) where
   pub namespace-refused-bad : (p : Text) → DeclaresNamespace token p work work st st 7
-  namespace-refused-bad p = record { refusal = λ at. namespace-bad (environment-in work st) at token (sym eb ∙ h) p; leaves = λ z. absurd (omega arith); beside = nothing-changed work st; words = refl }
+  namespace-refused-bad p = record { refusal = λ at. namespace-stops (awaiting (namespace-of p) (environment-in work st)) (token-as 1 at token) 6 (iri-bad (environment-in work st) at token (namespace-of p) refl (sym eb ∙ h)); leaves = λ z. absurd (omega arith); beside = nothing-changed work st; words = refl }
 
   pub base-refused-bad : DeclaresBase token work work st st 7
-  base-refused-bad = record { refusal = λ at. base-bad (environment-in work st) at token (sym eb ∙ h); leaves = λ z. absurd (omega arith); beside = nothing-changed work st; words = refl }
+  base-refused-bad = record { refusal = λ at. iri-bad (environment-in work st) at token new-base refl (sym eb ∙ h); leaves = λ z. absurd (omega arith); beside = nothing-changed work st; words = refl }
 
 module _ (token work : Text) (st : List ℕ) (u : Usable work st) (sound : Sound (environment-in work st)) (g : GoodReference token) (text : Text) (et : text ≡ inner 1 token) (lent : Text) (el : lent ≡ work) (buffer : Text) (a : Resolution) (w : WritesReference text lent st buffer a) where
   abbrev e : Environment
@@ -74,16 +74,16 @@ module _ (token work : Text) (st : List ℕ) (u : Usable work st) (sound : Sound
 
   module _ (p : Text) where
     pub namespace-refused-no-base : a ≡ NoBase → DeclaresNamespace token p work work st st 10
-    namespace-refused-no-base ea = record { refusal = λ at. namespace-no-base e at token (g .good) (sym ea ∙ resolves .is) p; leaves = λ z. absurd (omega arith); beside = nothing-changed work st; words = refl }
+    namespace-refused-no-base ea = record { refusal = λ at. namespace-stops (awaiting (namespace-of p) e) (token-as 1 at token) 9 (iri-no-base e at token (namespace-of p) refl (g .good) (sym ea ∙ resolves .is)); leaves = λ z. absurd (omega arith); beside = nothing-changed work st; words = refl }
 
     pub namespace-refused-long : a ≡ Long → DeclaresNamespace token p work work st st 11
-    namespace-refused-long ea = record { refusal = λ at. namespace-long e at token (g .good) (sym ea ∙ resolves .is) p; leaves = λ z. absurd (omega arith); beside = nothing-changed work st; words = refl }
+    namespace-refused-long ea = record { refusal = λ at. namespace-stops (awaiting (namespace-of p) e) (token-as 1 at token) 10 (iri-long e at token (namespace-of p) refl (g .good) (sym ea ∙ resolves .is)); leaves = λ z. absurd (omega arith); beside = nothing-changed work st; words = refl }
 
   pub base-refused-no-base : a ≡ NoBase → DeclaresBase token work work st st 10
-  base-refused-no-base ea = record { refusal = λ at. base-no-base e at token (g .good) (sym ea ∙ resolves .is); leaves = λ z. absurd (omega arith); beside = nothing-changed work st; words = refl }
+  base-refused-no-base ea = record { refusal = λ at. iri-no-base e at token new-base refl (g .good) (sym ea ∙ resolves .is); leaves = λ z. absurd (omega arith); beside = nothing-changed work st; words = refl }
 
   pub base-refused-long : a ≡ Long → DeclaresBase token work work st st 11
-  base-refused-long ea = record { refusal = λ at. base-long e at token (g .good) (sym ea ∙ resolves .is); leaves = λ z. absurd (omega arith); beside = nothing-changed work st; words = refl }
+  base-refused-long ea = record { refusal = λ at. iri-long e at token new-base refl (g .good) (sym ea ∙ resolves .is); leaves = λ z. absurd (omega arith); beside = nothing-changed work st; words = refl }
 
   pub fits : (k : ℕ) → a ≡ Written k → k ≤ length buffer
   fits k ea = w .inside k ea
@@ -102,7 +102,7 @@ module _ (token work : Text) (st : List ℕ) (u : Usable work st) (sound : Sound
       pub namespace-declared : d ≡ Done → DeclaresNamespace token p work work' st st' 0
       unfolding after-declare
       namespace-declared ed = record {
-        refusal = λ at. free (had-room e p (take k buffer) short iri-short (sym ed ∙ declared u .answer)) (namespace-written e at token (g .good) k outcome-is p);
+        refusal = λ at. free (had-room e p (take k buffer) short iri-short (sym ed ∙ declared u .answer)) (namespace-last (awaiting (namespace-of p) e) (token-as 1 at token) (iri-written e at token (namespace-of p) refl (g .good) k outcome-is));
         leaves = λ z at. record {
           after = declared u .after ∙ rw (ed, iri-is at);
           usable = declared u .usable;
@@ -117,7 +117,7 @@ module _ (token work : Text) (st : List ℕ) (u : Usable work st) (sound : Sound
 
       pub namespace-too-many : d ≡ TooMany → DeclaresNamespace token p work work' st st' 12
       namespace-too-many ed = record {
-        refusal = λ at. taken (was-full e p (take k buffer) short iri-short (sym ed ∙ declared u .answer)) (namespace-written e at token (g .good) k outcome-is p);
+        refusal = λ at. taken (was-full e p (take k buffer) short iri-short (sym ed ∙ declared u .answer)) (namespace-last (awaiting (namespace-of p) e) (token-as 1 at token) (iri-written e at token (namespace-of p) refl (g .good) k outcome-is));
         leaves = λ z. absurd (omega arith);
         beside = declared u .beside;
         words = declared u .usable .words ∙ sym (u .words);
@@ -132,7 +132,7 @@ module _ (token work : Text) (st : List ℕ) (u : Usable work st) (sound : Sound
     module _ (work' : Text) (st' : List ℕ) (d : Bool) (declared : Usable work st → SetsBase work work' st st' (take k buffer) d) where
       pub base-declared : d ≡ true → DeclaresBase token work work' st st' 0
       base-declared ed = record {
-        refusal = λ at. base-written e at token (g .good) k outcome-is;
+        refusal = λ at. iri-written e at token new-base refl (g .good) k outcome-is;
         leaves = λ z at. record {
           after = declared u .after ∙ rw (ed, iri-is at);
           usable = declared u .usable;

@@ -1,5 +1,5 @@
 -- The refusals by the facts that the code finds.
-use Prim.Native.Nat.{ℕ, _+_, _≤_}
+use Prim.Native.Nat.{ℕ, suc, _≤_}
 use mathlib.Core.Path.{_≡_, refl, sym, _∙_, subst}
 use mathlib.Core.List.{List, [], _∷_, _++_}
 use mathlib.Core.Bool.{true, false, not, _&&_}
@@ -11,7 +11,7 @@ use borrow.Author.Tests.{eqb-true, eqb-false}
 use Rattle.text.specs.Text.{Text, cond, is, is-none, same-text}
 use Rattle.text.proofs.Compare.{by}
 use Rattle.limits.specs.Limits.{iri-limit, prefixes-limit}
-use Rattle.token.specs.Kind.{IRIREF, names, strings}
+use Rattle.token.specs.Kind.{kind-code, IRIREF, names, strings, «PNAME_NS», «PNAME_LN»}
 use Rattle.token.specs.Tokens.{Token, has-kind}
 use Rattle.escape.specs.Escape.{bad-escape, unescape, unreserve}
 use Rattle.iri.specs.Resolve.{resolved}
@@ -20,76 +20,46 @@ use Rattle.iri.specs.declared.Resolution.the-variants.{Written, Long, NoBase}
 use Rattle.iri.proofs.Places.{until-take, from-drop}
 use Rattle.environment.specs.Environment.{Binding, Environment, lookup}
 use Rattle.environment.specs.Code.{is-declared}
-use Rattle.dataset.specs.Constructors.{inner, reference, prefix, local, resolved-reference, joined-name, iri-of, nothing, new-base, namespace-of, awaiting}
-use Rattle.machine.specs.Refusals.{no-character, undeclared, no-base, too-long, one-prefix-more}
-use Rattle.token_iri.specs.Tests.{token-as, iri-refusal, namespace-refusal, base-refusal, outcome}
-use Rattle.token_iri.proofs.Bases.{outcome-no-base, WasLong, outcome-long, WasWritten, outcome-written}
+use Rattle.dataset.specs.Constructors.{inner, reference, prefix, local, resolved-reference, joined-name, iri-of, InForce, Awaited, nothing, namespace-of, awaiting}
+use Rattle.machine.specs.Refusals.{declared-name, no-character, undeclared, no-base, too-long, one-prefix-more, escape-tests, iri-tests, prefix-tests}
+use Rattle.machine.proofs.Firsts.{number-past, number-stands}
+use Rattle.token_iri.specs.Tests.{token-as, iri-refusal, namespace-refusal, outcome}
+use Rattle.token_iri.proofs.Bases.{outcome-no-base, outcome-long, outcome-written}
 
 -- ---- An IRIREF
 
-module _ (e : Environment) (at : ℕ) (s : Text) where
-  pub iriref-iri : iri-of e (token-as 1 at s) ≡ resolved (e .base) (unescape (inner 1 s))
-  unfolding iri-of resolved-reference reference
-  iriref-iri = refl
+pub iriref-iri : (e : Environment) (at : ℕ) (s : Text) → iri-of e (token-as 1 at s) ≡ resolved (e .base) (unescape (inner 1 s))
+unfolding iri-of resolved-reference reference
+iriref-iri e at s = refl
 
-  module _ (h : bad-escape s ≡ true) where
-    pub iri-bad : 7 ≡ iri-refusal (awaiting nothing e) (token-as 1 at s)
-    unfolding iri-refusal no-character
-    iri-bad = rw h
-
-    pub namespace-bad : (p : Text) → 7 ≡ namespace-refusal (awaiting (namespace-of p) e) (token-as 1 at s)
-    unfolding namespace-refusal no-character
-    namespace-bad p = rw h
-
-    pub base-bad : 7 ≡ base-refusal (awaiting new-base e) (token-as 1 at s)
-    unfolding base-refusal no-character
-    base-bad = rw h
+-- Where it is awaited as `a`, but for a declared prefix.
+module _ (e : Environment) (at : ℕ) (s : Text) (a : Awaited) (n : declared-name a ≡ false) where
+  pub iri-bad : bad-escape s ≡ true → 7 ≡ iri-refusal (awaiting a e) (token-as 1 at s)
+  unfolding iri-refusal no-character
+  iri-bad h = rw h
 
   module _ (h : bad-escape s ≡ false) where
-    module _ (o : NoBase ≡ outcome (e .base) (unescape (inner 1 s))) where
-      pub iri-no-base : 10 ≡ iri-refusal (awaiting nothing e) (token-as 1 at s)
-      unfolding iri-refusal no-character undeclared no-base reference
-      iri-no-base = rw (h, outcome-no-base (e .base) (unescape (inner 1 s)) o)
+    pub iri-no-base : NoBase ≡ outcome (e .base) (unescape (inner 1 s)) → 10 ≡ iri-refusal (awaiting a e) (token-as 1 at s)
+    unfolding iri-refusal no-character undeclared no-base reference
+    iri-no-base o = rw (h, outcome-no-base (e .base) (unescape (inner 1 s)) o)
 
-      pub namespace-no-base : (p : Text) → 10 ≡ namespace-refusal (awaiting (namespace-of p) e) (token-as 1 at s)
-      unfolding namespace-refusal no-character no-base reference
-      namespace-no-base p = rw (h, outcome-no-base (e .base) (unescape (inner 1 s)) o)
+    pub iri-long : Long ≡ outcome (e .base) (unescape (inner 1 s)) → 11 ≡ iri-refusal (awaiting a e) (token-as 1 at s)
+    unfolding iri-refusal no-character undeclared no-base too-long reference
+    iri-long o = let w = outcome-long (e .base) (unescape (inner 1 s)) o in rw (h, w .based, w .long)
 
-      pub base-no-base : 10 ≡ base-refusal (awaiting new-base e) (token-as 1 at s)
-      unfolding base-refusal no-character no-base reference
-      base-no-base = rw (h, outcome-no-base (e .base) (unescape (inner 1 s)) o)
+    pub iri-written : (k : ℕ) → Written k ≡ outcome (e .base) (unescape (inner 1 s)) → 0 ≡ iri-refusal (awaiting a e) (token-as 1 at s)
+    unfolding iri-refusal no-character undeclared no-base too-long reference
+    iri-written k o = let w = outcome-written (e .base) (unescape (inner 1 s)) k o in rw (h, w .based, w .short, n)
 
-    module _ (o : Long ≡ outcome (e .base) (unescape (inner 1 s))) where
-      was-long : WasLong (e .base) (unescape (inner 1 s))
-      was-long = outcome-long (e .base) (unescape (inner 1 s)) o
+-- A namespace: the refusals of its IRI, then 12.
+module _ (f : InForce) (t : Token) where
+  pub namespace-stops : (c : ℕ) → suc c ≡ iri-refusal f t → suc c ≡ namespace-refusal f t
+  unfolding iri-refusal namespace-refusal
+  namespace-stops c e = e ∙ sym (number-stands (escape-tests t ++ iri-tests f t) (prefix-tests f) (λ z. omega (arith, e, z)))
 
-      pub iri-long : 11 ≡ iri-refusal (awaiting nothing e) (token-as 1 at s)
-      unfolding iri-refusal no-character undeclared no-base too-long reference
-      iri-long = rw (h, was-long .based, was-long .long)
-
-      pub namespace-long : (p : Text) → 11 ≡ namespace-refusal (awaiting (namespace-of p) e) (token-as 1 at s)
-      unfolding namespace-refusal no-character no-base too-long reference
-      namespace-long p = rw (h, was-long .based, was-long .long)
-
-      pub base-long : 11 ≡ base-refusal (awaiting new-base e) (token-as 1 at s)
-      unfolding base-refusal no-character no-base too-long reference
-      base-long = rw (h, was-long .based, was-long .long)
-
-    module _ (k : ℕ) (o : Written k ≡ outcome (e .base) (unescape (inner 1 s))) where
-      was-written : WasWritten (e .base) (unescape (inner 1 s)) k
-      was-written = outcome-written (e .base) (unescape (inner 1 s)) k o
-
-      pub iri-written : 0 ≡ iri-refusal (awaiting nothing e) (token-as 1 at s)
-      unfolding iri-refusal no-character undeclared no-base too-long reference
-      iri-written = rw (h, was-written .based, was-written .short)
-
-      pub namespace-written : (p : Text) → cond (one-prefix-more (awaiting (namespace-of p) e)) 12 0 ≡ namespace-refusal (awaiting (namespace-of p) e) (token-as 1 at s)
-      unfolding namespace-refusal no-character no-base too-long reference
-      namespace-written p = rw (h, was-written .based, was-written .short) (by (one-prefix-more (awaiting (namespace-of p) e)) (λ m. rw m) (λ m. rw m))
-
-      pub base-written : 0 ≡ base-refusal (awaiting new-base e) (token-as 1 at s)
-      unfolding base-refusal no-character no-base too-long reference
-      base-written = rw (h, was-written .based, was-written .short)
+  pub namespace-last : 0 ≡ iri-refusal f t → cond (one-prefix-more f) 12 0 ≡ namespace-refusal f t
+  unfolding iri-refusal namespace-refusal
+  namespace-last e = by (one-prefix-more f) (λ m. rw m) (λ m. rw m) ∙ sym (number-past (escape-tests t ++ iri-tests f t) (prefix-tests f) refl (sym e))
 
 -- "a 33rd distinct prefix", as the code counts.
 declared-none : (p : Text) (bs : List Binding) → is-none (lookup p bs) ≡ not (is-declared p bs)
@@ -103,12 +73,12 @@ one-more e p = rw (declared-none p (e .namespaces))
 
 -- ---- A prefixed name
 
-two-or-three : (P : ℕ → Type 0) → P 2 → P 3 → (kind : ℕ) → 2 ≤ kind → kind ≤ 3 → P kind
+two-or-three : (P : ℕ → Type 0) → P (kind-code «PNAME_NS») → P (kind-code «PNAME_LN») → (kind : ℕ) → kind-code «PNAME_NS» ≤ kind → kind ≤ kind-code «PNAME_LN» → P kind
 two-or-three P two three kind l m =
-    by (eqb kind 2) (λ e. subst P (sym (eqb-true kind 2 e)) two) (λ e. subst P (third (eqb-false kind 2 e)) three)
+    by (eqb kind (kind-code «PNAME_NS»)) (λ e. subst P (sym (eqb-true kind (kind-code «PNAME_NS») e)) two) (λ e. subst P (third (eqb-false kind (kind-code «PNAME_NS») e)) three)
   where
-    third : (kind ≡ 2 → ⊥) → 3 ≡ kind
-    third n = by (eqb kind 3) (λ e. sym (eqb-true kind 3 e)) (λ e. absurd (omega (arith, n, eqb-false kind 3 e)))
+    third : (kind ≡ kind-code «PNAME_NS» → ⊥) → kind-code «PNAME_LN» ≡ kind
+    third n = by (eqb kind (kind-code «PNAME_LN»)) (λ e. sym (eqb-true kind (kind-code «PNAME_LN») e)) (λ e. absurd (omega (arith, n, eqb-false kind (kind-code «PNAME_LN») e)))
 
 module _ (e : Environment) (t : Token) (name : has-kind names t ≡ true) (other : has-kind (IRIREF ∷ []) t ≡ false) (escapes : has-kind (IRIREF ∷ strings) t ≡ false) where
   missing-refused : lookup (prefix t) (e .namespaces) ≡ none → 9 ≡ iri-refusal (awaiting nothing e) t
@@ -128,7 +98,7 @@ module _ (e : Environment) (t : Token) (name : has-kind names t ≡ true) (other
     unfolding iri-refusal no-character undeclared no-base too-long
     name-refusal = rw (escapes, name, found, other, name-joined) (by (ltb iri-limit (length (ns ++ local t))) (λ h. rw h) (λ h. rw h))
 
-module _ (e : Environment) (kind at : ℕ) (s : Text) (least : 2 ≤ kind) (most : kind ≤ 3) (i : ℕ) (colon : i ≡ before (is ":") s) where
+module _ (e : Environment) (kind at : ℕ) (s : Text) (least : kind-code «PNAME_NS» ≤ kind) (most : kind ≤ kind-code «PNAME_LN») (i : ℕ) (colon : i ≡ before (is ":") s) where
   is-name : has-kind names (token-as kind at s) ≡ true
   is-name = two-or-three (λ k. has-kind names (token-as k at s) ≡ true) refl refl kind least most
 

@@ -6,9 +6,10 @@ use Prim.Native.Nat.{ℕ, _-_, _≤_}
 use lib.ListN.{length, getD, take, drop}
 use Rattle.text.specs.Text.{Text, cond}
 use Rattle.limits.specs.Limits.{iri-limit, work-size}
+use Rattle.token.specs.Kind.{kind-code, IRIREF}
 use Rattle.token.specs.Tokens.{Token}
 use Rattle.escape.specs.Escape.{bad-escape, unescape}
-use Rattle.spelling.specs.Form.{undo, bad, joined}
+use Rattle.spelling.specs.Form.{bad, joined}
 use Rattle.spelling.specs.declared.Form.{Form}
 use Rattle.spelling.specs.declared.Form.the-variants.{Plain}
 use Rattle.iri.specs.Resolve.{resolved}
@@ -17,7 +18,7 @@ use Rattle.iri.specs.declared.Resolution.the-variants.{Written}
 use Rattle.environment.specs.Environment.{Environment, declare, set-base}
 use Rattle.environment.specs.Code.{environment-in, Usable, Beside}
 use Rattle.dataset.specs.Constructors.{iri-of, nothing, new-base, namespace-of, awaiting}
-use Rattle.token_iri.specs.Tests.{token-as, Sound, iri-refusal, namespace-refusal, base-refusal, outcome}
+use Rattle.token_iri.specs.Tests.{token-as, Sound, iri-refusal, namespace-refusal, outcome}
 use Rattle.token_iri.specs.declared.Address.{Address}
 
 -- The front and the back of the IRI.
@@ -44,7 +45,7 @@ pub record Addresses (kind : ℕ) (token work : Text) (st : List ℕ) (buffer : 
   pub inside : r .end ≤ work-size
   pub back-order : r .from ≤ r .to
   pub back-inside : r .to ≤ length (cond (r .buffered) buffer token)
-  pub stands : Usable work st → Sound (environment-in work st) → (kind ≡ 1 → getD token 0 0 ≡ 60) → (at : ℕ)
+  pub stands : Usable work st → Sound (environment-in work st) → (kind ≡ kind-code IRIREF → getD token 0 0 ≡ 60) → (at : ℕ)
       → StandsFor (environment-in work st) (token-as kind at token) r (front-of r work) (back-of r token buffer)
 
 -- The same address with its back in a form that reads the same.
@@ -83,7 +84,7 @@ pub record DeclaresNamespace (token p work work' : Text) (st st' : List ℕ) (r 
   pub words : length st' ≡ length st
 
 pub record DeclaresBase (token work work' : Text) (st st' : List ℕ) (r : ℕ) : Type 0 where
-  pub refusal : (at : ℕ) → r ≡ base-refusal (awaiting new-base (environment-in work st)) (token-as 1 at token)
+  pub refusal : (at : ℕ) → r ≡ iri-refusal (awaiting new-base (environment-in work st)) (token-as 1 at token)
   pub leaves : r ≡ 0 → (at : ℕ) → Leaves (set-base (iri-of (environment-in work st) (token-as 1 at token)) (environment-in work st)) work' st'
   pub beside : Beside work work' st st'
   pub words : length st' ≡ length st

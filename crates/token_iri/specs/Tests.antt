@@ -1,6 +1,6 @@
 -- The tests of a token that stands for an IRI, in number order, and those of the IRI that a directive awaits.
 use mathlib.Core.Path.{_≡_}
-use mathlib.Core.List.{[], _∷_}
+use mathlib.Core.List.{_++_}
 use mathlib.Core.Bool.{true, not, _&&_, _||_}
 use Prim.Native.Nat.{ℕ}
 use lib.Dec.{ltb}
@@ -16,8 +16,8 @@ use Rattle.iri.specs.declared.Resolution.the-variants.{Written, Long, NoBase}
 use Rattle.environment.specs.Environment.{Environment}
 use Rattle.dataset.specs.Constructors.{InForce}
 use Rattle.table.specs.Tables.{or-zero}
-use Rattle.machine.specs.Refusals.{no-character, undeclared, no-base, long-resolved, too-long, one-prefix-more}
-use Rattle.machine.specs.Step.{_when_, first-refusal}
+use Rattle.machine.specs.Refusals.{long-resolved, escape-tests, iri-tests, prefix-tests}
+use Rattle.machine.specs.Call.{first-refusal}
 
 -- The token of this kind with these bytes, at any place.
 abbrev pub token-as : ℕ → ℕ → Text → Token
@@ -29,13 +29,10 @@ Sound e = (empty (e .base) || has-scheme (e .base)) ≡ true
 
 -- 0 where no test holds.
 unfoldable pub iri-refusal : InForce → Token → ℕ
-iri-refusal f t = or-zero (first-refusal (7 when no-character t ∷ 9 when undeclared f t ∷ 10 when no-base f t ∷ 11 when too-long f t ∷ []))
+iri-refusal f t = or-zero (first-refusal (escape-tests t ++ iri-tests f t))
 
 unfoldable pub namespace-refusal : InForce → Token → ℕ
-namespace-refusal f t = or-zero (first-refusal (7 when no-character t ∷ 10 when no-base f t ∷ 11 when too-long f t ∷ 12 when one-prefix-more f ∷ []))
-
-unfoldable pub base-refusal : InForce → Token → ℕ
-base-refusal f t = or-zero (first-refusal (7 when no-character t ∷ 10 when no-base f t ∷ 11 when too-long f t ∷ []))
+namespace-refusal f t = or-zero (first-refusal (escape-tests t ++ iri-tests f t ++ prefix-tests f))
 
 -- What becomes of a reference without bad escapes against the base in force.
 unfoldable pub outcome : Text → Text → Resolution

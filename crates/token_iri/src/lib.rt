@@ -6,6 +6,7 @@ ghost use Prim.Native.Nat.{_+_, _≤_, _<_};
 ghost use lib.ListN.{length, getD};
 ghost use Rattle.text.specs.Text.{Text, is, empty};
 ghost use Rattle.limits.specs.Limits.{iri-limit, prefix-limit};
+ghost use Rattle.token.specs.Kind.{kind-code, IRIREF, «PNAME_NS», «PNAME_LN»};
 ghost use Rattle.escape.specs.Escape.{unescape};
 ghost use Rattle.spelling.specs.Form.{undo};
 ghost use Rattle.iri.specs.Iri.{has-scheme};
@@ -18,8 +19,10 @@ use environment::Declared;
 use environment::Found;
 use environment::Layout;
 use iri::Resolution;
+use limits::Answer;
 use limits::Limits;
 use spelling::Form;
+use token::Kind;
 
 // The IRI is work[start..end] before a back of this form, which is from..to of the buffer or of the token. Where
 // `refused` is not 0 it is the refusal's number, and the parts are empty.
@@ -111,16 +114,16 @@ fn reference_address(
     buffer: &mut [u8],
 ) -> Address
     requires { ⌜ length (now buffer) ≡ iri-limit ⌝ }
-    ensures { λ r. ⌜ Addresses 1 (now (token .entry)) (now (work .entry)) (now (st .entry)) (now (buffer .exit)) r ⌝ }
+    ensures { λ r. ⌜ Addresses (kind-code IRIREF) (now (token .entry)) (now (work .entry)) (now (st .entry)) (now (buffer .exit)) r ⌝ }
 {
     if escape::has_bad_escape(token) {
-        return refuse(7);
+        return refuse(Answer::ESCAPE);
     }
     let text = inside(token);
     let form = spelling::simplest(Form::Escaped, text);
     if with_scheme(form, text) {
         if Limits::IRI < spelling::undone_length(form, text) {
-            return refuse(11);
+            return refuse(Answer::IRI_LENGTH);
         }
         return Address {
             refused: 0,
@@ -134,8 +137,8 @@ fn reference_address(
     }
     let a = write_reference(text, work, st, buffer);
     match a {
-        Resolution::NoBase => refuse(10),
-        Resolution::Long => refuse(11),
+        Resolution::NoBase => refuse(Answer::NO_BASE),
+        Resolution::Long => refuse(Answer::IRI_LENGTH),
         Resolution::Written(k) => Address {
             refused: 0,
             start: 0,
@@ -175,21 +178,21 @@ fn local_start(s: &[u8], at: usize) -> usize
 
 // The namespace stays in the work slice, the local part in the token.
 fn name_address(token: &[u8], kind: usize, work: &[u8], st: &[usize; Layout::WORDS]) -> Address
-    requires { ⌜ (2 ≤ kind) × (kind ≤ 3) ⌝ }
+    requires { ⌜ (kind-code «PNAME_NS» ≤ kind) × (kind ≤ kind-code «PNAME_LN») ⌝ }
     ensures { λ r. ⌜ ((buffer : Text) → Addresses kind (now (token .entry)) (now (work .entry)) (now (st .entry)) buffer r) ⌝ }
 {
     if work.len() < Limits::WORK {
-        return refuse(9);
+        return refuse(Answer::PREFIX);
     }
     let at = colon(token);
     let found = environment::look_up(work, st, &token[..at]);
     let Found::At(start, n) = found else {
-        return refuse(9);
+        return refuse(Answer::PREFIX);
     };
     let from = local_start(token, at);
     let form = spelling::simplest(Form::Reserved, &token[from..]);
     if Limits::IRI - n < spelling::undone_length(form, &token[from..]) {
-        return refuse(11);
+        return refuse(Answer::IRI_LENGTH);
     }
     Address {
         refused: 0,
@@ -202,7 +205,7 @@ fn name_address(token: &[u8], kind: usize, work: &[u8], st: &[usize; Layout::WOR
     }
 }
 
-// The IRI of an IRIREF (kind 1) or of a prefixed name (2 and 3), or the first of the refusals 7, 9, 10 and 11.
+// The IRI of an IRIREF or of a prefixed name, or the first of the refusals 7, 9, 10 and 11.
 pub fn address_of(
     token: &[u8],
     kind: usize,
@@ -210,10 +213,10 @@ pub fn address_of(
     st: &[usize; Layout::WORDS],
     buffer: &mut [u8],
 ) -> Address
-    requires { ⌜ ((1 ≤ kind) × (kind ≤ 3)) × (length (now buffer) ≡ iri-limit) ⌝ }
+    requires { ⌜ ((kind-code IRIREF ≤ kind) × (kind ≤ kind-code «PNAME_LN»)) × (length (now buffer) ≡ iri-limit) ⌝ }
     ensures { λ r. ⌜ Addresses kind (now (token .entry)) (now (work .entry)) (now (st .entry)) (now (buffer .exit)) r ⌝ }
 {
-    if kind == 1 {
+    if kind == Kind::IRIREF {
         return reference_address(token, work, st, buffer);
     }
     name_address(token, kind, work, st)
@@ -233,14 +236,14 @@ fn declare_written(
     let text = inside(token);
     let a = write_reference(text, &work[0..], st, buffer);
     match a {
-        Resolution::NoBase => 10,
-        Resolution::Long => 11,
+        Resolution::NoBase => Answer::NO_BASE,
+        Resolution::Long => Answer::IRI_LENGTH,
         Resolution::Written(k) => {
             let d = environment::declare(work, st, prefix, &buffer[..k]);
             match d {
                 Declared::Done => 0,
-                Declared::TooLong => 11,
-                Declared::TooMany => 12,
+                Declared::TooLong => Answer::IRI_LENGTH,
+                Declared::TooMany => Answer::PREFIXES,
             }
         }
     }
@@ -257,7 +260,7 @@ pub fn declare_namespace(
     ensures { λ r. ⌜ DeclaresNamespace (now (token .entry)) (now (prefix .entry)) (now (work .entry)) (now (work .exit)) (now (st .entry)) (now (st .exit)) r ⌝ }
 {
     if escape::has_bad_escape(token) {
-        return 7;
+        return Answer::ESCAPE;
     }
     let mut buffer = [0u8; Limits::IRI];
     declare_written(token, prefix, work, st, &mut buffer)
@@ -276,13 +279,13 @@ fn set_written(
     let text = inside(token);
     let a = write_reference(text, &work[0..], st, buffer);
     match a {
-        Resolution::NoBase => 10,
-        Resolution::Long => 11,
+        Resolution::NoBase => Answer::NO_BASE,
+        Resolution::Long => Answer::IRI_LENGTH,
         Resolution::Written(k) => {
             if environment::set_base(work, st, &buffer[..k]) {
                 return 0;
             }
-            11
+            Answer::IRI_LENGTH
         }
     }
 }
@@ -293,7 +296,7 @@ pub fn declare_base(token: &[u8], work: &mut [u8], st: &mut [usize; Layout::WORD
     ensures { λ r. ⌜ DeclaresBase (now (token .entry)) (now (work .entry)) (now (work .exit)) (now (st .entry)) (now (st .exit)) r ⌝ }
 {
     if escape::has_bad_escape(token) {
-        return 7;
+        return Answer::ESCAPE;
     }
     let mut buffer = [0u8; Limits::IRI];
     set_written(token, work, st, &mut buffer)

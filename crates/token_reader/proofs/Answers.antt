@@ -13,9 +13,10 @@ use Rattle.text.specs.Text.{Text}
 use Rattle.text.proofs.Compare.{by}
 use Rattle.utf8.specs.Utf8.{decode, decode-from, bad-from, first-bad}
 use Rattle.utf8.proofs.Decoding.{tail-eq}
+use Rattle.token.specs.Kind.{unreadable-kind}
 use Rattle.token.specs.Regular.{Match, nothing, hit}
 use Rattle.token.specs.Terminals.{token-at}
-use Rattle.token.specs.Tokens.{between, lexemes-from}
+use Rattle.token.specs.Tokens.{between, trig-cuts, lexemes-from}
 use Rattle.token.proofs.KindCodes.{code-back}
 use Rattle.automaton.specs.Run.{tok, answer}
 use Rattle.automaton.specs.declared.Next.{Next}
@@ -53,7 +54,7 @@ module _ (doc : Text) (place b k n : ℕ) (v : first-bad (drop place doc) ≡ no
       sym (ap (first-of (length doc)) (t .0) ∙ ap₂ (λ (j m : ℕ). found j (place + b) (place + b + m)) (code-back k (kind-some z) (t .1 .1 .0))
       (length-take-le n (drop (place + b) doc) h))
 
-  next-unreadable : place + b < length doc → n ≡ 0 → found 31 (place + b) (place + b) ≡ next-from doc place
+  next-unreadable : place + b < length doc → n ≡ 0 → found unreadable-kind (place + b) (place + b) ≡ next-from doc place
   unfolding next-from first-of
   next-unreadable h z = sym (ap (first-of (length doc)) (cut-none doc place b v e k n f h (kind-none z)))
 
@@ -65,7 +66,7 @@ past-left doc place h = drop-of-length-le doc {i = place} (omega arith)
 
 rest-past : (doc : Text) (place : ℕ) → length doc < place → rest doc place ≡ []
 unfolding rest decode decode-from lexemes-from
-rest-past doc place h = ap (λ (s : Text). lexemes-from doc between place (decode s)) (past-left doc place h)
+rest-past doc place h = ap (λ (s : Text). lexemes-from trig-cuts doc between place (decode s)) (past-left doc place h)
 
 none-bad : (doc : Text) (place : ℕ) → length doc < place → first-bad (drop place doc) ≡ none
 unfolding first-bad bad-from
@@ -132,7 +133,7 @@ module _ (doc : Text) (place b : ℕ) (r : Next) (i : place ≤ length doc) (p :
     within = token-within;
   }
 
-  pub no-token : r .len ≡ 0 → place + b < length doc → NextFrom doc place (found 31 (place + b) (place + b))
+  pub no-token : r .len ≡ 0 → place + b < length doc → NextFrom doc place (found unreadable-kind (place + b) (place + b))
   no-token z h = record {
     right = λ v. next-unreadable doc place b (r .kind) (r .len) v (g .right v) (match v) h z;
     front = λ n v l.

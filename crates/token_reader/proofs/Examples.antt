@@ -7,10 +7,10 @@ use lib.ListN.{drop}
 use Rattle.text.specs.Text.{Text, ascii}
 use Rattle.text.proofs.Table.{_⇒_, Gives}
 use Rattle.utf8.specs.Utf8.{encodes, first-bad}
-use Rattle.token.specs.Kind.{kind-code, «PNAME_LN», INTEGER, «STRING_LITERAL_QUOTE», kw-a, dot}
+use Rattle.token.specs.Kind.{kind-code, end-kind, unreadable-kind, «PNAME_LN», INTEGER, «STRING_LITERAL_QUOTE», kw-a, dot}
 use Rattle.token.specs.Tokens.{computing}
 use Rattle.lexer.specs.Rest.{rest}
-use Rattle.token_reader.specs.Next.{found, end-kind, unreadable-kind, first-of, next-from, NextFrom}
+use Rattle.token_reader.specs.Next.{found, first-of, next-from, NextFrom}
 use Rattle.token_reader.specs.declared.TokenAt.{TokenAt}
 
 abbrev document : Text

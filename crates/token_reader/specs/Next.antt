@@ -6,20 +6,13 @@ use Prim.Native.Nat.{ℕ, _+_, _≤_, _<_}
 use lib.ListN.{length, take, drop}
 use Rattle.text.specs.Text.{Text}
 use Rattle.utf8.specs.Utf8.{first-bad}
-use Rattle.token.specs.Kind.{kind-code}
+use Rattle.token.specs.Kind.{kind-code, end-kind, unreadable-kind}
 use Rattle.token.specs.Tokens.{Lexeme, token, unreadable}
 use Rattle.lexer.specs.Rest.{rest}
 use Rattle.token_reader.specs.declared.TokenAt.{TokenAt}
 
 abbrev pub found : ℕ → ℕ → ℕ → TokenAt
 found kind start end = record { kind = kind; start = start; end = end }
-
--- What no kind of token has as its number: the end, and that none can be read.
-abbrev pub end-kind : ℕ
-end-kind = 0
-
-abbrev pub unreadable-kind : ℕ
-unreadable-kind = 31
 
 -- The first of some tokens of a document of `size` bytes, or where none can be read, or the end.
 unfoldable pub first-of : ℕ → List Lexeme → TokenAt

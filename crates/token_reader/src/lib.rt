@@ -3,25 +3,26 @@
 // `next_token_from`, which takes the document and the place by themselves.
 ghost use mathlib.Core.Path.{_≡_};
 ghost use Rattle.token_reader.specs.Next.{NextFrom};
+use token::Kind;
 
 pub struct TokenReader<'a> {
     pub document: &'a [u8],
     pub place: usize,
 }
 
-// The token at a place: its kind (of automaton::Token, or END or UNREADABLE), the place of its first byte, and the place behind it.
+// The token at a place: its kind (of token::Kind, or END or UNREADABLE), the place of its first byte, and the place behind it.
 pub struct TokenAt {
-    pub kind: u8,
+    pub kind: usize,
     pub start: usize,
     pub end: usize,
 }
 
 impl TokenAt {
     // The document has no token from the place on.
-    pub const END: u8 = 0;
+    pub const END: usize = Kind::END;
 
     // No token can be read where the next would begin.
-    pub const UNREADABLE: u8 = 31;
+    pub const UNREADABLE: usize = Kind::UNREADABLE;
 }
 
 // The first token from a place on. A place past the end is as the end. Nothing is known of the text ahead: the reader keeps

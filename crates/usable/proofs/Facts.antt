@@ -10,8 +10,8 @@ use lib.ListN.{length}
 use lib.Dec.{leb}
 use Rattle.text.specs.Text.{Text}
 use Rattle.text.proofs.Compare.{and-left, and-right}
-use Rattle.table.specs.Layout.{Slices, row-at}
-use Rattle.table.specs.Usable.{each, counts-fit, good-term, good-row, usable}
+use Rattle.table.specs.Layout.{Slices, row-size, row-at, term-size}
+use Rattle.table.specs.Usable.{each, Takes, counts-fit, good-term, good-row, usable}
 use Rattle.usable.specs.Lent.{slices, lent, row-test}
 
 -- ---- Each number passes
@@ -26,38 +26,38 @@ each-at p from (suc n) e (suc i) h =
 -- ---- The counts go past no slice
 
 pub record Fits (s : Slices) : Type 0 where
-  pub rows : 5 * s .row-count ≤ length (s .rows)
-  pub terms : 5 * s .term-count ≤ length (s .terms)
+  pub rows : row-size * s .row-count ≤ length (s .rows)
+  pub terms : term-size * s .term-count ≤ length (s .terms)
   pub store : s .store-count ≤ length (s .store)
 
 pub counts-in : (s : Slices) → counts-fit s ≡ true → Fits s
 unfolding counts-fit
 counts-in s e =
-    let a = leb (5 * s .row-count) (length (s .rows)) in
-    let b = leb (5 * s .term-count) (length (s .terms)) in
+    let a = leb (row-size * s .row-count) (length (s .rows)) in
+    let b = leb (term-size * s .term-count) (length (s .terms)) in
     let c = leb (s .store-count) (length (s .store)) in
     record {
-      rows = leb-true (5 * s .row-count) (length (s .rows)) (and-left a b (and-left (a && b) c e));
-      terms = leb-true (5 * s .term-count) (length (s .terms)) (and-right a b (and-left (a && b) c e));
+      rows = leb-true (row-size * s .row-count) (length (s .rows)) (and-left a b (and-left (a && b) c e));
+      terms = leb-true (term-size * s .term-count) (length (s .terms)) (and-right a b (and-left (a && b) c e));
       store = leb-true (s .store-count) (length (s .store)) (and-right (a && b) c e);
     }
 
 -- ---- The parts of the check
 
 -- A test of terms does not look at rows, and one of rows not at the store.
-pub terms-alone : (rows : List ℕ) (rc : ℕ) (terms : List ℕ) (tc : ℕ) (store : Text) (sc : ℕ)
-    → each (good-term (lent terms 0 store sc)) 1 tc ≡ each (good-term (slices rows rc terms tc store sc)) 1 tc
+pub terms-alone : (w : Takes) (rows : List ℕ) (rc : ℕ) (terms : List ℕ) (tc : ℕ) (store : Text) (sc : ℕ)
+    → each (good-term w (lent terms 0 store sc)) 1 tc ≡ each (good-term w (slices rows rc terms tc store sc)) 1 tc
 unfolding good-term
-terms-alone rows rc terms tc store sc = refl
+terms-alone w rows rc terms tc store sc = refl
 
 pub rows-alone : (rows : List ℕ) (rc : ℕ) (terms : List ℕ) (tc : ℕ) (store : Text) (sc : ℕ)
     → each (row-test rows terms tc) 0 rc ≡ each (λ i. good-row (slices rows rc terms tc store sc) (row-at rows i)) 0 rc
 unfolding good-row
 rows-alone rows rc terms tc store sc = refl
 
-module _ (s : Slices) (e : usable s ≡ true) where
+module _ (w : Takes) (s : Slices) (e : usable w s ≡ true) where
   terms-good : Bool
-  terms-good = each (good-term s) 1 (s .term-count)
+  terms-good = each (good-term w s) 1 (s .term-count)
 
   rows-good : Bool
   rows-good = each (λ i. good-row s (row-at (s .rows) i)) 0 (s .row-count)
@@ -66,12 +66,12 @@ module _ (s : Slices) (e : usable s ≡ true) where
   unfolding usable terms-good rows-good
   usable-fits = counts-in s (and-left (counts-fit s) terms-good (and-left (counts-fit s && terms-good) rows-good e))
 
-  pub usable-term : (n : ℕ) → 1 ≤ n → n ≤ s .term-count → good-term s n ≡ true
+  pub usable-term : (n : ℕ) → 1 ≤ n → n ≤ s .term-count → good-term w s n ≡ true
   unfolding usable terms-good rows-good
   usable-term n h l =
       let i : 1 + (n - 1) ≡ n = omega arith in
-      subst (λ (m : ℕ). good-term s m ≡ true) i
-      (each-at (good-term s) 1 (s .term-count) (and-right (counts-fit s) terms-good (and-left (counts-fit s && terms-good) rows-good e)) (n - 1) (omega arith))
+      subst (λ (m : ℕ). good-term w s m ≡ true) i
+      (each-at (good-term w s) 1 (s .term-count) (and-right (counts-fit s) terms-good (and-left (counts-fit s && terms-good) rows-good e)) (n - 1) (omega arith))
 
   pub usable-row : (i : ℕ) → i < s .row-count → good-row s (row-at (s .rows) i) ≡ true
   unfolding usable terms-good rows-good

@@ -6,8 +6,8 @@ use lib.Dec.{eqb}
 use lib.ListN.{length}
 use Rattle.text.specs.Text.{Text, is-none}
 use Rattle.utf8.specs.Utf8.{first-bad}
-use Rattle.table.specs.Layout.{Slices, iri-kind, blank-kind, literal-kind, tagged-kind, row-at}
-use Rattle.table.specs.Usable.{the, text, inside, has-kind, good-iri, good-datatype, good-tag, resource, good-row}
+use Rattle.table.specs.Layout.{Slices, row-size, term-size, iri-kind, blank-kind, literal-kind, tagged-kind, row-at}
+use Rattle.table.specs.Usable.{Takes, the, text, inside, has-kind, good-iri, good-datatype, good-tag, resource, good-row}
 
 abbrev pub slices : List ℕ → ℕ → List ℕ → ℕ → Text → ℕ → Slices
 slices rows row-count terms term-count store store-count =
@@ -17,18 +17,21 @@ slices rows row-count terms term-count store store-count =
 abbrev pub lent : List ℕ → ℕ → Text → ℕ → Slices
 lent terms term-count store store-count = slices [] 0 terms term-count store store-count
 
--- The n-th group of five, from 1 on, stands in the words.
+-- The term n, from 1 on, and the row i, from 0 on, stand in the words.
 abbrev pub Stands : List ℕ → ℕ → Type 0
-Stands words n = (1 ≤ n) × (5 * n ≤ length words)
+Stands terms n = (1 ≤ n) × (term-size * n ≤ length terms)
+
+abbrev pub RowStands : List ℕ → ℕ → Type 0
+RowStands rows i = row-size * (i + 1) ≤ length rows
 
 -- The two halves of a term's test.
 abbrev pub readable : Slices → ℕ → Bool
 readable s n = inside s (the s n .start) (the s n .size) && is-none (first-bad (text s n))
 
-abbrev pub right-kind : Slices → ℕ → Bool
-right-kind s n =
-    (has-kind s iri-kind n && good-iri s n) || has-kind s blank-kind n || (has-kind s literal-kind n && good-datatype s n)
-    || (has-kind s tagged-kind n && good-tag s n)
+abbrev pub right-kind : Takes → Slices → ℕ → Bool
+right-kind w s n =
+    (has-kind s iri-kind n && good-iri w s n) || has-kind s blank-kind n || (has-kind s literal-kind n && good-datatype s n)
+    || (has-kind s tagged-kind n && good-tag w s n)
 
 -- A term's text lies in the store.
 abbrev pub SpanIn : Slices → ℕ → Type 0

@@ -2,34 +2,24 @@
 ghost use mathlib.Core.Path.{_≡_};
 ghost use Prim.Native.Nat.{pred, _+_, _*_, _≤_, _<_};
 ghost use lib.ListN.{length, getD};
-ghost use Rattle.table.specs.Layout.{span};
-ghost use Rattle.usable.specs.Lent.{Stands};
+ghost use Rattle.table.specs.Layout.{row-size, term-size, span, word-limit};
+ghost use Rattle.usable.specs.Lent.{Stands, RowStands};
+use table::Layout;
 
-// The kinds of term, its first word.
-pub struct Kind {}
-
-impl Kind {
-    pub const IRI: usize = 1;
-
-    pub const BLANK: usize = 2;
-
-    pub const LITERAL: usize = 3;
-
-    pub const TAGGED: usize = 4;
+// The word k of the term n, from 1 on.
+pub fn term_word(terms: &[u32], n: usize, k: usize) -> usize
+    requires { ⌜ Stands (now terms) n × (k < term-size) ⌝ }
+    ensures { λ r. ⌜ (r ≡ getD (now (terms .entry)) (term-size * pred n + k) 0) × (r < word-limit) ⌝ }
+{
+    terms[Layout::TERM_WORDS * (n - 1) + k] as usize
 }
 
-pub fn wide(n: u32) -> usize
-    ensures { λ r. ⌜ r ≡ n ⌝ }
+// The word k of the row i, from 0 on.
+pub fn row_word(rows: &[u32], i: usize, k: usize) -> usize
+    requires { ⌜ RowStands (now rows) i × (k < row-size) ⌝ }
+    ensures { λ r. ⌜ (r ≡ getD (now (rows .entry)) (row-size * i + k) 0) × (r < word-limit) ⌝ }
 {
-    n as usize
-}
-
-// The word k of the n-th group of five, from 1 on: a term, or a row.
-pub fn word(words: &[u32], n: usize, k: usize) -> usize
-    requires { ⌜ Stands (now words) n × (k < 5) ⌝ }
-    ensures { λ r. ⌜ (r ≡ getD (now (words .entry)) (5 * pred n + k) 0) × (r < 4294967296) ⌝ }
-{
-    words[5 * (n - 1) + k] as usize
+    rows[Layout::ROW_WORDS * i + k] as usize
 }
 
 // The part of the store with a start and a size.

@@ -5,9 +5,10 @@ pub mod rows;
 pub mod tags;
 
 ghost use mathlib.Core.Path.{_≡_};
-ghost use Rattle.table.specs.Usable.{counts-fit, usable};
+ghost use Rattle.table.specs.Usable.{for-long-form, counts-fit, usable};
 ghost use Rattle.usable.specs.Lent.{slices};
-use crate::fields::wide;
+use table::Layout;
+use table::wide;
 
 // Not: "a count goes past its slice".
 fn fit_counts(
@@ -20,10 +21,10 @@ fn fit_counts(
 ) -> bool
     ensures { λ r. ⌜ r ≡ counts-fit (slices (now (rows .entry)) «row_count» (now (terms .entry)) «term_count» (now (store .entry)) «store_count») ⌝ }
 {
-    if rows.len() < 5 * wide(row_count) {
+    if rows.len() < Layout::ROW_WORDS * wide(row_count) {
         return false;
     }
-    if terms.len() < 5 * wide(term_count) {
+    if terms.len() < Layout::TERM_WORDS * wide(term_count) {
         return false;
     }
     wide(store_count) <= store.len()
@@ -38,7 +39,7 @@ pub fn is_usable(
     store: &[u8],
     store_count: u32,
 ) -> bool
-    ensures { λ r. ⌜ r ≡ usable (slices (now (rows .entry)) «row_count» (now (terms .entry)) «term_count» (now (store .entry)) «store_count») ⌝ }
+    ensures { λ r. ⌜ r ≡ usable for-long-form (slices (now (rows .entry)) «row_count» (now (terms .entry)) «term_count» (now (store .entry)) «store_count») ⌝ }
 {
     if !fit_counts(rows, row_count, terms, term_count, store, store_count) {
         return false;

@@ -11,7 +11,7 @@ use Rattle.text.specs.Text.{Text}
 use Rattle.text.specs.Slice.{over-at}
 use Rattle.text.proofs.Over.{over-fits}
 use Rattle.table.specs.Layout.{Slices, row-at}
-use Rattle.table.specs.Usable.{usable}
+use Rattle.table.specs.Usable.{for-long-form, usable}
 use Rattle.table.specs.LongForm.{Written, term-form, triple-form, line, lines-from, long-form, write}
 use Rattle.writer.specs.Writing.{Countable, Wrote}
 use Rattle.writer.specs.Drawn.{drawn}
@@ -37,11 +37,11 @@ module _ (s : Slices) where
   unfolding long-form
   form = lines-drawn 0 (s .row-count)
 
-  pub not-usable : (x : Text) → usable s ≡ false → written 18 0 x ≡ write s x
+  pub not-usable : (x : Text) → usable for-long-form s ≡ false → written 18 0 x ≡ write s x
   unfolding write
   not-usable x e = rw e
 
-  module _ (x : Text) (e : usable s ≡ true) where
+  module _ (x : Text) (e : usable for-long-form s ≡ true) where
     pub too-long : leb (length (lines-from tables 0 (s .row-count))) (length x) ≡ false → written 17 0 x ≡ write s x
     unfolding write
     too-long f = rw (e, form, lt-ltb (length x) (length (lines-from tables 0 (s .row-count))) (leb-false _ _ f))

@@ -6,7 +6,7 @@ use Prim.Native.Nat.{ℕ}
 use borrow.Author.Tests.{eq-eqb, ne-eqb}
 use Rattle.text.specs.Text.{Text, ascii, cond, same-text}
 use Rattle.dataset.specs.Terms.{xsd-string}
-use Rattle.table.specs.Layout.{Slices, literal-kind}
+use Rattle.table.specs.Layout.{Slices, literal-kind, iri-kind, blank-kind}
 use Rattle.table.specs.Usable.{the, text, tag, has-kind}
 use Rattle.table.specs.LongForm.{iri-form, string-form, type-form, term-form}
 use Rattle.utf8.proofs.Tests.{by}
@@ -22,29 +22,29 @@ module _ (d : Text) where
   type-some e = rw e
 
 module _ (s : Slices) (n : ℕ) where
-  pub literal-typed : the s n .kind ≡ 3 → literal-form s n ≡ string-form (text s n) ++ type-form (text s (the s n .fourth))
+  pub literal-typed : the s n .kind ≡ literal-kind → literal-form s n ≡ string-form (text s n) ++ type-form (text s (the s n .fourth))
   unfolding literal-form
-  literal-typed e = rw (eq-eqb (the s n .kind) 3 e)
+  literal-typed e = rw (eq-eqb (the s n .kind) literal-kind e)
 
-  pub literal-tagged : (the s n .kind ≡ 3 → ⊥) → literal-form s n ≡ string-form (text s n) ++ tag-form (tag s n)
+  pub literal-tagged : (the s n .kind ≡ literal-kind → ⊥) → literal-form s n ≡ string-form (text s n) ++ tag-form (tag s n)
   unfolding literal-form
-  literal-tagged e = rw (ne-eqb (the s n .kind) 3 e)
+  literal-tagged e = rw (ne-eqb (the s n .kind) literal-kind e)
 
   pub literal-string : {at : ℕ} → Countable at (literal-form s n) → Countable at (string-form (text s n))
   unfolding literal-form
   literal-string r = room-before (string-form (text s n)) (cond (has-kind s literal-kind n) (type-form (text s (the s n .fourth))) (tag-form (tag s n))) r
 
-  pub term-iri : the s n .kind ≡ 1 → term-form s n ≡ iri-form (text s n)
+  pub term-iri : the s n .kind ≡ iri-kind → term-form s n ≡ iri-form (text s n)
   unfolding term-form
-  term-iri e = rw (eq-eqb (the s n .kind) 1 e)
+  term-iri e = rw (eq-eqb (the s n .kind) iri-kind e)
 
-  module _ (h : the s n .kind ≡ 1 → ⊥) where
-    pub term-blank : the s n .kind ≡ 2 → term-form s n ≡ blank-form (the s n .fourth)
+  module _ (h : the s n .kind ≡ iri-kind → ⊥) where
+    pub term-blank : the s n .kind ≡ blank-kind → term-form s n ≡ blank-form (the s n .fourth)
     unfolding term-form
-    term-blank e = rw (ne-eqb (the s n .kind) 1 h, eq-eqb (the s n .kind) 2 e)
+    term-blank e = rw (ne-eqb (the s n .kind) iri-kind h, eq-eqb (the s n .kind) blank-kind e)
 
-    pub term-literal : (the s n .kind ≡ 2 → ⊥) → term-form s n ≡ literal-form s n
+    pub term-literal : (the s n .kind ≡ blank-kind → ⊥) → term-form s n ≡ literal-form s n
     unfolding term-form literal-form
     term-literal e =
-        rw (ne-eqb (the s n .kind) 1 h, ne-eqb (the s n .kind) 2 e)
+        rw (ne-eqb (the s n .kind) iri-kind h, ne-eqb (the s n .kind) blank-kind e)
         (by (has-kind s literal-kind n) (λ f. rw f) (λ f. rw f (append-assoc (string-form (text s n)) (ascii "@") (tag s n))))

@@ -11,8 +11,8 @@ use Rattle.text.specs.Text.{ascii, between, is-none}
 use Rattle.text.proofs.Compare.{and-left, and-right, contrary}
 use Rattle.utf8.specs.Utf8.{first-bad}
 use Rattle.utf8.proofs.Tests.{by, between-true}
-use Rattle.table.specs.Layout.{Row, Slices, row-at, iri-kind, blank-kind}
-use Rattle.table.specs.Usable.{the, text, inside, has-kind, good-iri, good-datatype, good-tag, is-tag, tag, good-term, good-row, present, resource, usable}
+use Rattle.table.specs.Layout.{Row, Slices, row-at, iri-kind, blank-kind, literal-kind, tagged-kind}
+use Rattle.table.specs.Usable.{Takes, the, text, inside, has-kind, good-iri, good-datatype, good-tag, tag, good-term, good-row, present, resource, usable}
 use Rattle.table.specs.LongForm.{string-form, type-form, term-form, triple-form, line}
 use Rattle.usable.specs.Lent.{Stands, SpanIn, readable, right-kind}
 use Rattle.usable.proofs.Facts.{usable-fits, usable-term, usable-row}
@@ -25,14 +25,14 @@ between-in : (lo hi c : ℕ) → lo ≤ c → c ≤ hi → between lo hi c ≡ t
 between-in lo hi c h k = rw (le-leb lo c h, le-leb c hi k)
 
 -- A test by kind holds: what it says of the kinds 3 and 4.
-module _ (k : ℕ) (a b c : Bool) (t : ((eqb k 1 && a) || eqb k 2 || (eqb k 3 && b) || (eqb k 4 && c)) ≡ true) where
-  third : k ≡ 3 → b ≡ true
+module _ (k : ℕ) (a b c : Bool) (t : ((eqb k iri-kind && a) || eqb k blank-kind || (eqb k literal-kind && b) || (eqb k tagged-kind && c)) ≡ true) where
+  third : k ≡ literal-kind → b ≡ true
   third h = by b (λ e. e) (λ e. contrary (sym (rw (h, e) at t)))
 
-  fourth : (k ≡ 1 → ⊥) → (k ≡ 2 → ⊥) → (k ≡ 3 → ⊥) → c ≡ true
-  fourth h i j = and-right (eqb k 4) c (rw (ne-eqb k 1 h, ne-eqb k 2 i, ne-eqb k 3 j) at t)
+  fourth : (k ≡ iri-kind → ⊥) → (k ≡ blank-kind → ⊥) → (k ≡ literal-kind → ⊥) → c ≡ true
+  fourth h i j = and-right (eqb k tagged-kind) c (rw (ne-eqb k iri-kind h, ne-eqb k blank-kind i, ne-eqb k literal-kind j) at t)
 
-module _ (s : Slices) (e : usable s ≡ true) where
+module _ (w : Takes) (s : Slices) (e : usable w s ≡ true) where
   -- ---- Terms
 
   module _ (n : ℕ) (p : present s n ≡ true) where
@@ -40,43 +40,43 @@ module _ (s : Slices) (e : usable s ≡ true) where
     bounds = between-true 1 (s .term-count) n p
 
     stands : Stands (s .terms) n
-    stands = let f = usable-fits s e .terms in let b = bounds .0 in let c = bounds .1 in (b, omega arith)
+    stands = let f = usable-fits w s e .terms in let b = bounds .0 in let c = bounds .1 in (b, omega arith)
 
-    good : good-term s n ≡ true
-    good = usable-term s e n (bounds .0) (bounds .1)
+    good : good-term w s n ≡ true
+    good = usable-term w s e n (bounds .0) (bounds .1)
 
     text-good : readable s n ≡ true
     unfolding good-term
-    text-good = and-left (readable s n) (right-kind s n) good
+    text-good = and-left (readable s n) (right-kind w s n) good
 
-    kind-good : right-kind s n ≡ true
+    kind-good : right-kind w s n ≡ true
     unfolding good-term
-    kind-good = and-right (readable s n) (right-kind s n) good
+    kind-good = and-right (readable s n) (right-kind w s n) good
 
     text-within : the s n .start + the s n .size ≤ s .store-count
     text-within = leb-true (the s n .start + the s n .size) (s .store-count) (and-left (inside s (the s n .start) (the s n .size)) (is-none (first-bad (text s n))) text-good)
 
     text-stands : SpanIn s n
-    text-stands = let f = usable-fits s e .store in let t = text-within in omega arith
+    text-stands = let f = usable-fits w s e .store in let t = text-within in omega arith
 
     text-size : length (text s n) ≤ s .store-count
     text-size = let t = text-within in let b = span-bound (s .store) (the s n .start) (the s n .size) in omega arith
 
-    typed : the s n .kind ≡ 3 → present s (the s n .fourth) ≡ true
+    typed : the s n .kind ≡ literal-kind → present s (the s n .fourth) ≡ true
     typed k =
         let d = the s n .fourth in
-        let t = third (the s n .kind) (good-iri s n) (good-datatype s n) (good-tag s n) kind-good k in
+        let t = third (the s n .kind) (good-iri w s n) (good-datatype s n) (good-tag w s n) kind-good k in
         let u = and-left (leb 1 d && ltb d n) (has-kind s iri-kind d) t in
         let l = leb-true 1 d (and-left (leb 1 d) (ltb d n) u) in
         let m = ltb-true d n (and-right (leb 1 d) (ltb d n) u) in
         let b = bounds .1 in
         between-in 1 (s .term-count) d l (omega arith)
 
-    tagged : (the s n .kind ≡ 1 → ⊥) → (the s n .kind ≡ 2 → ⊥) → (the s n .kind ≡ 3 → ⊥) → the s n .fourth + the s n .fifth ≤ s .store-count
+    tagged : (the s n .kind ≡ iri-kind → ⊥) → (the s n .kind ≡ blank-kind → ⊥) → (the s n .kind ≡ literal-kind → ⊥) → the s n .fourth + the s n .fifth ≤ s .store-count
     tagged i b l =
         leb-true (the s n .fourth + the s n .fifth) (s .store-count)
-        (and-left (inside s (the s n .fourth) (the s n .fifth)) (is-tag (tag s n))
-        (fourth (the s n .kind) (good-iri s n) (good-datatype s n) (good-tag s n) kind-good i b l))
+        (and-left (inside s (the s n .fourth) (the s n .fifth)) (w .tag (tag s n))
+        (fourth (the s n .kind) (good-iri w s n) (good-datatype s n) (good-tag w s n) kind-good i b l))
 
   module _ (n : ℕ) (p : present s n ≡ true) where
     writable : Writable (bare s) n
@@ -85,26 +85,26 @@ module _ (s : Slices) (e : usable s ≡ true) where
       text-in = text-stands n p;
       type-stands = λ k. stands (the s n .fourth) (typed n p k);
       type-in = λ k. text-stands (the s n .fourth) (typed n p k);
-      tag-in = λ i b l. let f = usable-fits s e .store in let t = tagged n p i b l in omega arith;
+      tag-in = λ i b l. let f = usable-fits w s e .store in let t = tagged n p i b l in omega arith;
     }
 
     -- A literal with a datatype is the longest.
     term-bound : length (term-form (bare s) n) ≤ 12 * s .store-count + 13
     term-bound =
-        by (eqb (the s n .kind) 1)
-        (λ q. let a = iri-form-bound (text s n) in let t = text-size n p in rw (term-iri (bare s) n (eqb-true (the s n .kind) 1 q)) (omega arith))
+        by (eqb (the s n .kind) iri-kind)
+        (λ q. let a = iri-form-bound (text s n) in let t = text-size n p in rw (term-iri (bare s) n (eqb-true (the s n .kind) iri-kind q)) (omega arith))
         (λ q.
-        by (eqb (the s n .kind) 2)
+        by (eqb (the s n .kind) blank-kind)
         (λ r.
         let a = digits-bound 10 (the s n .fourth) in
-        rw (term-blank (bare s) n (eqb-false (the s n .kind) 1 q) (eqb-true (the s n .kind) 2 r)) (omega arith))
+        rw (term-blank (bare s) n (eqb-false (the s n .kind) iri-kind q) (eqb-true (the s n .kind) blank-kind r)) (omega arith))
         (λ r.
-        rw (term-literal (bare s) n (eqb-false (the s n .kind) 1 q) (eqb-false (the s n .kind) 2 r))
-        (by (eqb (the s n .kind) 3)
-        (λ u. typed-bound (eqb-true (the s n .kind) 3 u))
-        (λ u. tagged-bound (eqb-false (the s n .kind) 1 q) (eqb-false (the s n .kind) 2 r) (eqb-false (the s n .kind) 3 u)))))
+        rw (term-literal (bare s) n (eqb-false (the s n .kind) iri-kind q) (eqb-false (the s n .kind) blank-kind r))
+        (by (eqb (the s n .kind) literal-kind)
+        (λ u. typed-bound (eqb-true (the s n .kind) literal-kind u))
+        (λ u. tagged-bound (eqb-false (the s n .kind) iri-kind q) (eqb-false (the s n .kind) blank-kind r) (eqb-false (the s n .kind) literal-kind u)))))
       where
-        typed-bound : the s n .kind ≡ 3 → length (literal-form (bare s) n) ≤ 12 * s .store-count + 13
+        typed-bound : the s n .kind ≡ literal-kind → length (literal-form (bare s) n) ≤ 12 * s .store-count + 13
         typed-bound k =
             let d = text s (the s n .fourth) in
             let a = string-form-bound (text s n) in let t = text-size n p in
@@ -112,7 +112,7 @@ module _ (s : Slices) (e : usable s ≡ true) where
             let c = length-append (string-form (text s n)) (type-form d) in
             rw (literal-typed (bare s) n k) (omega arith)
 
-        tagged-bound : (the s n .kind ≡ 1 → ⊥) → (the s n .kind ≡ 2 → ⊥) → (the s n .kind ≡ 3 → ⊥) → length (literal-form (bare s) n) ≤ 12 * s .store-count + 13
+        tagged-bound : (the s n .kind ≡ iri-kind → ⊥) → (the s n .kind ≡ blank-kind → ⊥) → (the s n .kind ≡ literal-kind → ⊥) → length (literal-form (bare s) n) ≤ 12 * s .store-count + 13
         tagged-bound i b l =
             let a = string-form-bound (text s n) in let t = text-size n p in
             let v = tagged n p i b l in let u = span-bound (s .store) (the s n .fourth) (the s n .fifth) in
@@ -164,7 +164,7 @@ module _ (s : Slices) (e : usable s ≡ true) where
         let c = term-form (bare s) (r .object) in
         let u = term-bound (r .subject) subject-in in
         let v = term-bound (r .predicate) predicate-in in
-        let w = term-bound (r .object) object-in in
+        let x = term-bound (r .object) object-in in
         let f = length-append a (ascii " ") in
         let g = length-append b (ascii " ") in
         let k = length-append c (ascii " .") in
@@ -193,9 +193,9 @@ module _ (s : Slices) (e : usable s ≡ true) where
   pub ready : Ready (drawn (s .rows) (s .terms) (s .store)) (s .row-count)
   ready i h =
       let r = row-at (s .rows) i in
-      let t = usable-row s e i h in
+      let t = usable-row w s e i h in
       record {
-        stands = let f = usable-fits s e .rows in omega arith;
+        stands = let f = usable-fits w s e .rows in omega arith;
         graph = λ n. writable (r .graph) (graph-in r t n);
         subject = writable (r .subject) (subject-in r t);
         predicate = writable (r .predicate) (predicate-in r t);
@@ -203,4 +203,4 @@ module _ (s : Slices) (e : usable s ≡ true) where
       }
 
   pub short : s .store-count < 2 ^ 32 → Short (drawn (s .rows) (s .terms) (s .store)) (s .row-count)
-  short l i h = record { fits = let b = line-bound (row-at (s .rows) i) (usable-row s e i h) in omega arith }
+  short l i h = record { fits = let b = line-bound (row-at (s .rows) i) (usable-row w s e i h) in omega arith }

@@ -1,14 +1,14 @@
 -- The pieces of a line, as the routines write them, and what tables must have for it.
 use mathlib.Core.Path.{_≡_}
 use mathlib.Core.List.{List, _++_}
-use Prim.Native.Nat.{ℕ, _+_, _*_, _≤_, _<_}
-use lib.ListN.{length}
+use Prim.Native.Nat.{ℕ, _+_, _≤_, _<_, pred, _*_}
+use lib.ListN.{length, getD}
 use Rattle.text.specs.Text.{Text, ascii, cond}
-use Rattle.table.specs.Layout.{Slices, literal-kind, row-at}
+use Rattle.table.specs.Layout.{Slices, term-size, iri-kind, blank-kind, literal-kind, row-at}
 use Rattle.table.specs.Usable.{the, text, tag, has-kind}
 use Rattle.table.specs.LongForm.{decimal, string-form, type-form, term-form, line}
 use Rattle.writer.specs.Writing.{Countable}
-use Rattle.usable.specs.Lent.{slices, lent, Stands, SpanIn}
+use Rattle.usable.specs.Lent.{slices, lent, Stands, RowStands, SpanIn}
 
 abbrev pub tag-form : Text → Text
 tag-form t = ascii "@" ++ t
@@ -21,17 +21,21 @@ literal-form s n =
     string-form (text s n)
     ++ cond (has-kind s literal-kind n) (type-form (text s (the s n .fourth))) (tag-form (tag s n))
 
+-- The word k of the term n.
+abbrev pub word-of : List ℕ → ℕ → ℕ → ℕ
+word-of terms n k = getD terms (term-size * pred n + k) 0
+
 -- A term that can be written: its spans, and those of its datatype, lie in the store.
 pub record Writable (s : Slices) (n : ℕ) : Type 0 where
   pub stands : Stands (s .terms) n
   pub text-in : SpanIn s n
-  pub type-stands : the s n .kind ≡ 3 → Stands (s .terms) (the s n .fourth)
-  pub type-in : the s n .kind ≡ 3 → SpanIn s (the s n .fourth)
-  pub tag-in : (the s n .kind ≡ 1 → ⊥) → (the s n .kind ≡ 2 → ⊥) → (the s n .kind ≡ 3 → ⊥) → the s n .fourth + the s n .fifth ≤ length (s .store)
+  pub type-stands : the s n .kind ≡ literal-kind → Stands (s .terms) (the s n .fourth)
+  pub type-in : the s n .kind ≡ literal-kind → SpanIn s (the s n .fourth)
+  pub tag-in : (the s n .kind ≡ iri-kind → ⊥) → (the s n .kind ≡ blank-kind → ⊥) → (the s n .kind ≡ literal-kind → ⊥) → the s n .fourth + the s n .fifth ≤ length (s .store)
 
 -- Neither an IRI nor a blank node.
 abbrev pub NoResource : Slices → ℕ → Type 0
-NoResource s n = (the s n .kind ≡ 1 → ⊥) × (the s n .kind ≡ 2 → ⊥)
+NoResource s n = (the s n .kind ≡ iri-kind → ⊥) × (the s n .kind ≡ blank-kind → ⊥)
 
 -- ---- Rows
 
@@ -48,7 +52,7 @@ bare s = lent (s .terms) 0 (s .store) 0
 
 -- A row that can be written.
 pub record WritableRow (s : Slices) (i : ℕ) : Type 0 where
-  pub stands : 5 * (i + 1) ≤ length (s .rows)
+  pub stands : RowStands (s .rows) i
   pub graph : (row-at (s .rows) i .graph ≡ 0 → ⊥) → Writable (bare s) (row-at (s .rows) i .graph)
   pub subject : Writable (bare s) (row-at (s .rows) i .subject)
   pub predicate : Writable (bare s) (row-at (s .rows) i .predicate)

@@ -4,11 +4,11 @@ ghost use Prim.Native.Nat.{_+_, _≤_, _<_};
 ghost use lib.ListN.{length};
 ghost use Rattle.text.specs.Text.{same-text};
 ghost use Rattle.dataset.specs.Terms.{xsd-string};
-ghost use Rattle.table.specs.Usable.{the, text, tag};
+ghost use Rattle.table.specs.Layout.{term-size, span};
 ghost use Rattle.table.specs.LongForm.{type-form, term-form};
-ghost use Rattle.usable.specs.Lent.{Stands, SpanIn, lent};
+ghost use Rattle.usable.specs.Lent.{Stands, lent};
 ghost use Rattle.writer.specs.Writing.{Countable, Wrote};
-ghost use Rattle.writer.specs.Drawn.{Writable, NoResource, blank-form, tag-form, literal-form};
+ghost use Rattle.writer.specs.Drawn.{word-of, Writable, NoResource, blank-form, tag-form, literal-form};
 use crate::bytes::Rule;
 use crate::bytes::put;
 use crate::bytes::put_digits;
@@ -17,9 +17,10 @@ use crate::bytes::put_iri;
 use crate::bytes::put_string;
 use crate::bytes::put_three;
 use crate::bytes::put_two;
-use usable::fields::Kind;
+use table::TermKind;
+use table::TermWord;
 use usable::fields::part;
-use usable::fields::word;
+use usable::fields::term_word;
 
 // Whether the text is the datatype that is not written.
 fn is_xsd_string(s: &[u8]) -> bool
@@ -58,22 +59,13 @@ fn put_blank(number: usize, out: &mut [u8], at: usize) -> usize
     put_digits(10, number, out, next)
 }
 
-// The text of a term, and the tag of a tagged literal.
-fn text_of<'a>(terms: &[u32], store: &'a [u8], n: usize) -> &'a [u8]
-    requires { ⌜ Stands (now terms) n × SpanIn (lent (now terms) 0 (now store) 0) n ⌝ }
-    ensures { λ r. ⌜ now r ≡ text (lent (now (terms .entry)) 0 (now (store .entry)) 0) n ⌝ }
+// The part of the store whose start is the word k of a term, and whose size the word behind it: its text, or its tag.
+fn span_of<'a>(terms: &[u32], store: &'a [u8], n: usize, k: usize) -> &'a [u8]
+    requires { ⌜ Stands (now terms) n × ((k + 1 < term-size) × (word-of (now terms) n k + word-of (now terms) n (k + 1) ≤ length (now store))) ⌝ }
+    ensures { λ r. ⌜ now r ≡ span (now (store .entry)) (word-of (now (terms .entry)) n k) (word-of (now (terms .entry)) n (k + 1)) ⌝ }
 {
-    let start = word(terms, n, 1);
-    let size = word(terms, n, 2);
-    part(store, start, size)
-}
-
-fn tag_of<'a>(terms: &[u32], store: &'a [u8], n: usize) -> &'a [u8]
-    requires { ⌜ Stands (now terms) n × (the (lent (now terms) 0 (now store) 0) n .fourth + the (lent (now terms) 0 (now store) 0) n .fifth ≤ length (now store)) ⌝ }
-    ensures { λ r. ⌜ now r ≡ tag (lent (now (terms .entry)) 0 (now (store .entry)) 0) n ⌝ }
-{
-    let start = word(terms, n, 3);
-    let size = word(terms, n, 4);
+    let start = term_word(terms, n, k);
+    let size = term_word(terms, n, k + 1);
     part(store, start, size)
 }
 
@@ -82,12 +74,12 @@ fn put_literal(terms: &[u32], store: &[u8], n: usize, out: &mut [u8], at: usize)
     requires { ⌜ Writable (lent (now terms) 0 (now store) 0) n × (NoResource (lent (now terms) 0 (now store) 0) n × Countable at (literal-form (lent (now terms) 0 (now store) 0) n)) ⌝ }
     ensures { λ r. ⌜ Wrote at (literal-form (lent (now (terms .entry)) 0 (now (store .entry)) 0) n) (now (out .entry)) (now (out .exit)) r ⌝ }
 {
-    let end = put_string(text_of(terms, store, n), out, at);
-    if word(terms, n, 0) == Kind::LITERAL {
-        let d = word(terms, n, 3);
-        return put_type(text_of(terms, store, d), out, end);
+    let end = put_string(span_of(terms, store, n, TermWord::START), out, at);
+    if term_word(terms, n, TermWord::KIND) == TermKind::LITERAL {
+        let d = term_word(terms, n, TermWord::FOURTH);
+        return put_type(span_of(terms, store, d, TermWord::START), out, end);
     }
-    put_tag(tag_of(terms, store, n), out, end)
+    put_tag(span_of(terms, store, n, TermWord::FOURTH), out, end)
 }
 
 // Writes the term n; the place behind it.
@@ -95,12 +87,12 @@ pub fn put_term(terms: &[u32], store: &[u8], n: usize, out: &mut [u8], at: usize
     requires { ⌜ Writable (lent (now terms) 0 (now store) 0) n × Countable at (term-form (lent (now terms) 0 (now store) 0) n) ⌝ }
     ensures { λ r. ⌜ Wrote at (term-form (lent (now (terms .entry)) 0 (now (store .entry)) 0) n) (now (out .entry)) (now (out .exit)) r ⌝ }
 {
-    let kind = word(terms, n, 0);
-    if kind == Kind::IRI {
-        return put_iri(text_of(terms, store, n), out, at);
+    let kind = term_word(terms, n, TermWord::KIND);
+    if kind == TermKind::IRI {
+        return put_iri(span_of(terms, store, n, TermWord::START), out, at);
     }
-    if kind == Kind::BLANK {
-        return put_blank(word(terms, n, 3), out, at);
+    if kind == TermKind::BLANK {
+        return put_blank(term_word(terms, n, TermWord::FOURTH), out, at);
     }
     put_literal(terms, store, n, out, at)
 }

@@ -7,7 +7,8 @@ ghost use mathlib.Core.Path.{_≡_};
 ghost use Rattle.table.specs.LongForm.{write};
 ghost use Rattle.usable.specs.Lent.{slices};
 ghost use Rattle.writer.specs.Answer.{answer};
-use usable::fields::wide;
+use limits::Answer;
+use table::wide;
 
 // The answer's number, 0, 17 or 18, and after 0 the length written.
 pub struct Written {
@@ -29,20 +30,20 @@ pub fn write_long_form(
 {
     if !usable::is_usable(rows, row_count, terms, term_count, store, store_count) {
         return Written {
-            number: 18,
+            number: Answer::TABLES,
             position: 0,
         };
     }
     let count = wide(row_count);
     if !lines::fit_lines(rows, count, terms, store, out.len()) {
         return Written {
-            number: 17,
+            number: Answer::OUTPUT,
             position: 0,
         };
     }
     let end = lines::put_lines(rows, count, terms, store, out);
     Written {
-        number: 0,
+        number: Answer::ACCEPTED,
         position: end,
     }
 }

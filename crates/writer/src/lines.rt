@@ -12,7 +12,8 @@ use crate::bytes::put;
 use crate::bytes::put_three;
 use crate::bytes::put_two;
 use crate::forms::put_term;
-use usable::fields::word;
+use table::RowWord;
+use usable::fields::row_word;
 
 // A term and a blank.
 fn put_part(terms: &[u32], store: &[u8], n: usize, out: &mut [u8], at: usize) -> usize
@@ -35,10 +36,21 @@ fn put_triple(
     requires { ⌜ WritableRow (drawn (now rows) (now terms) (now store)) i × Countable at (triple-form (drawn (now rows) (now terms) (now store)) (row-at (now rows) i)) ⌝ }
     ensures { λ r. ⌜ Wrote at (triple-form (drawn (now (rows .entry)) (now (terms .entry)) (now (store .entry))) (row-at (now (rows .entry)) i)) (now (out .entry)) (now (out .exit)) r ⌝ }
 {
-    let n = i + 1;
-    let predicate = put_part(terms, store, word(rows, n, 1), out, at);
-    let object = put_part(terms, store, word(rows, n, 2), out, predicate);
-    let dot = put_term(terms, store, word(rows, n, 3), out, object);
+    let predicate = put_part(terms, store, row_word(rows, i, RowWord::SUBJECT), out, at);
+    let object = put_part(
+        terms,
+        store,
+        row_word(rows, i, RowWord::PREDICATE),
+        out,
+        predicate,
+    );
+    let dot = put_term(
+        terms,
+        store,
+        row_word(rows, i, RowWord::OBJECT),
+        out,
+        object,
+    );
     put_two(out, dot, b' ', b'.')
 }
 
@@ -47,7 +59,7 @@ fn put_line(rows: &[u32], i: usize, terms: &[u32], store: &[u8], out: &mut [u8],
     requires { ⌜ WritableRow (drawn (now rows) (now terms) (now store)) i × Countable at (line (drawn (now rows) (now terms) (now store)) (row-at (now rows) i)) ⌝ }
     ensures { λ r. ⌜ Wrote at (line (drawn (now (rows .entry)) (now (terms .entry)) (now (store .entry))) (row-at (now (rows .entry)) i)) (now (out .entry)) (now (out .exit)) r ⌝ }
 {
-    let graph = word(rows, i + 1, 0);
+    let graph = row_word(rows, i, RowWord::GRAPH);
     if graph == 0 {
         let end = put_triple(rows, i, terms, store, out, at);
         return put(out, end, b'\n');

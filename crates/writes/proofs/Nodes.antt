@@ -7,9 +7,10 @@ use native.Mathlib.Omega.{arith}
 use lib.ListN.{length, take, drop, set}
 use lib.Dec.{eqb}
 use Rattle.text.specs.Text.{Text, cond}
-use Rattle.text.proofs.Compare.{by, contrary}
+use Rattle.text.proofs.Compare.{by}
 use Rattle.environment.specs.Code.{cell}
 use Rattle.environment.proofs.Cells.{front-cell, most-small}
+use Rattle.table.specs.Layout.{iri-kind, blank-kind, literal-kind, tagged-kind, word-limit}
 use Rattle.machine.proofs.Extends.{adds-new-term, adds-term}
 use Rattle.limits.specs.Limits.{work-size}
 use Rattle.spelling.specs.Form.{undo, joined}
@@ -21,7 +22,7 @@ use Rattle.state.specs.declared.Spot.{Spot}
 use Rattle.state.specs.declared.Node.{Node}
 use Rattle.state.specs.Words.{node-word, Stays}
 use Rattle.state.specs.Represents.{Tables, Wrote}
-use Rattle.state.specs.Writes.{place-of, cells-of, new-element, begin, node-iri, node-write, placed, opened-at, closed, SpotFits, NodeFits}
+use Rattle.state.specs.Writes.{new-kind, place-of, cells-of, new-element, begin, node-iri, node-write, placed, opened-at, closed, SpotFits, NodeFits}
 use Rattle.writes.specs.Ready.{Ready, Writes, put-at}
 use Rattle.writes.specs.Steps.{Part, TermReady, TermWrites, FreshReady, FreshWrites, NumberWrites, PutReady, Below}
 use Rattle.writes.proofs.Compose.{Grows, grows-return, grows-bind, ready-first, ready-next, writes-return, writes-bind, writes-then-return}
@@ -31,25 +32,25 @@ use Rattle.writes.proofs.Rows.{wrote}
 -- ---- A node by its kind
 
 module _ (n : Node) (work back text tag : Text) (at : ℕ) where
-  pub node-one : n .kind ≡ 1 → node-write n work back text tag at ≡ term (iri (node-iri n work back))
+  pub iri-write : n .kind ≡ iri-kind → node-write n work back text tag at ≡ term (iri (node-iri n work back))
   unfolding node-write
-  node-one e = rw e
+  iri-write e = rw e
 
-  pub node-two : n .kind ≡ 2 → node-write n work back text tag at ≡ term (blank (label text))
+  pub blank-write : n .kind ≡ blank-kind → node-write n work back text tag at ≡ term (blank (label text))
   unfolding node-write
-  node-two e = rw e
+  blank-write e = rw e
 
-  pub node-three : n .kind ≡ 3 → node-write n work back text tag at ≡ typed (undo (n .text) text) (node-iri n work back)
+  pub literal-write : n .kind ≡ literal-kind → node-write n work back text tag at ≡ typed (undo (n .text) text) (node-iri n work back)
   unfolding node-write
-  node-three e = rw e
+  literal-write e = rw e
 
-  pub node-four : n .kind ≡ 4 → node-write n work back text tag at ≡ term (tagged (undo (n .text) text) tag)
+  pub tagged-write : n .kind ≡ tagged-kind → node-write n work back text tag at ≡ term (tagged (undo (n .text) text) tag)
   unfolding node-write
-  node-four e = rw e
+  tagged-write e = rw e
 
-  pub node-five : n .kind ≡ 5 → node-write n work back text tag at ≡ new-term (blank (bracket at))
+  pub new-write : n .kind ≡ new-kind → node-write n work back text tag at ≡ new-term (blank (bracket at))
   unfolding node-write
-  node-five e = rw e
+  new-write e = rw e
 
 pub ready-as : (w z : Write ℕ) (work : Text) (terms : List ℕ) (store : Text) (st : List ℕ) → w ≡ z → TermReady w work terms store st → TermReady z work terms store st
 ready-as w z work terms store st e r = subst (λ (v : Write ℕ). TermReady v work terms store st) e r
@@ -74,12 +75,12 @@ grows-cond false w z g h = h
 grows-node : (n : Node) (work back text tag : Text) (at : ℕ) → Grows (node-write n work back text tag at)
 unfolding node-write
 grows-node n work back text tag at =
-    grows-cond (eqb (n .kind) 1) _ _ (λ m. adds-term (iri (node-iri n work back)) .extends m)
-    (grows-cond (eqb (n .kind) 2) _ _ (λ m. adds-term (blank (label text)) .extends m)
-    (grows-cond (eqb (n .kind) 3) _ _
+    grows-cond (eqb (n .kind) iri-kind) _ _ (λ m. adds-term (iri (node-iri n work back)) .extends m)
+    (grows-cond (eqb (n .kind) blank-kind) _ _ (λ m. adds-term (blank (label text)) .extends m)
+    (grows-cond (eqb (n .kind) literal-kind) _ _
     (grows-bind (term (iri (node-iri n work back))) (λ d. term (literal (undo (n .text) text) (node-iri n work back))) (λ m. adds-term (iri (node-iri n work back)) .extends m)
     (λ d m. adds-term (literal (undo (n .text) text) (node-iri n work back)) .extends m))
-    (grows-cond (eqb (n .kind) 4) _ _ (λ m. adds-term (tagged (undo (n .text) text) tag) .extends m) (λ m. adds-new-term (blank (bracket at)) .extends m))))
+    (grows-cond (eqb (n .kind) tagged-kind) _ _ (λ m. adds-term (tagged (undo (n .text) text) tag) .extends m) (λ m. adds-new-term (blank (bracket at)) .extends m))))
 
 -- The IRI of a node stands in the environment's bytes, which no write changes.
 front-part : (work work' : Text) (start end : ℕ) → take work-size work' ≡ take work-size work → start ≤ end → end ≤ work-size → take (end - start) (drop start work') ≡ take (end - start) (drop start work)
@@ -264,7 +265,7 @@ module _ (s : Spot) where
       unfolding closed
       closed-ready cs e = ready-cells list-end (cells-of (s .last)) cs work t st e r
 
-      pub closed-wrote : (cs : Cells) → cells-of (s .last) ≡ cs → (k : ℕ) (work' : Text) (t' : Tables) (st' : List ℕ) → k < 4294967296 → Writes (list-end cs) k work work' t t' st st' → Result (closed s) work' t' (set st' node-word k)
+      pub closed-wrote : (cs : Cells) → cells-of (s .last) ≡ cs → (k : ℕ) (work' : Text) (t' : Tables) (st' : List ℕ) → k < word-limit → Writes (list-end cs) k work work' t t' st st' → Result (closed s) work' t' (set st' node-word k)
       unfolding closed
       closed-wrote cs e k work' t' st' h W =
           wrote (closed s) k work work' t t' st st' (set st' node-word k) (writes-cells list-end (cells-of (s .last)) cs k work work' t t' st st' e W) h (r .represents .usable .words) refl

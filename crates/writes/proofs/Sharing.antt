@@ -12,7 +12,7 @@ use Rattle.term_tree.specs.Tree.{Links, Vacant}
 use Rattle.text.specs.Text.{Text}
 use Rattle.limits.specs.Limits.{work-size}
 use Rattle.environment.proofs.Directives.{whole}
-use Rattle.dataset.specs.Terms.{Term, Blank, label, iri, blank, literal, tagged}
+use Rattle.dataset.specs.Terms.{Term, label, iri, blank, literal, tagged}
 use Rattle.table.specs.Tables.{number, or-zero}
 use Rattle.table.proofs.Finding.{number-last, number-within, zero-none, positive-some}
 use Rattle.terms.specs.declared.Counts.{Counts}
@@ -20,7 +20,7 @@ use Rattle.terms.specs.declared.Sort.{Sort}
 use Rattle.terms.specs.Keeps.{Typed, Means, TermFits, Added, BlankAdded, iri-sort, blank-sort}
 use Rattle.terms.specs.Code.{Readable, next-entry}
 use Rattle.text.proofs.Over.{over-at-length}
-use Rattle.table.specs.Layout.{entry-words}
+use Rattle.table.specs.Layout.{entry-words, term-size, literal-kind, tagged-kind, word-limit}
 use Rattle.terms.proofs.Kept.{bytes-room}
 use Rattle.term_tree.specs.Holds.{Finds, Numbers, Searchable}
 use Rattle.term_tree.proofs.Indexes.{searchable, holds-blank, holds-added, end-part}
@@ -78,7 +78,7 @@ module _ (sort : Sort) (x g : Text) (r : ℕ) (work : Text) (rows terms : List �
 
 -- ---- Numbers fit 32 bits
 
-small-room : (n k : ℕ) → k ≤ counted n → k < 4294967296
+small-room : (n k : ℕ) → k ≤ counted n → k < word-limit
 small-room n k h = omega (arith, counted-room n .1)
 
 pub number-found : (sort : Sort) (x g : Text) (r : ℕ) (work : Text) (terms : List ℕ) (store : Text) (st : List ℕ) → Finds terms store (drop work-size work) (counts-of st) sort x g r
@@ -86,7 +86,7 @@ pub number-found : (sort : Sort) (x g : Text) (r : ℕ) (work : Text) (terms : L
 number-found sort x g r work terms store st F S h =
     let m = S .ready .memory in
     let found = found-some sort x g r work (S .rows) terms store st F h (S .ready .old) m (S .asked) (S .ready .represents) (S .asks) in
-    (h, small-room (length terms / 5) r (omega (arith, number-within (S .asked) (m .terms) r found, S .ready .represents .fits .terms)))
+    (h, small-room (length terms / term-size) r (omega (arith, number-within (S .asked) (m .terms) r found, S .ready .represents .fits .terms)))
 
 -- Room for the term that was not found.
 pub room-absent : (sort : Sort) (x g : Text) (r : ℕ) (work : Text) (terms : List ℕ) (store : Text) (st : List ℕ) → Finds terms store (drop work-size work) (counts-of st) sort x g r
@@ -101,7 +101,7 @@ room-absent sort x g r work terms store st F S h =
 
 added-lengths : (sort : Sort) (x g : Text) (terms terms' : List ℕ) (store store' : Text) (c c' : Counts) → Added terms terms' store store' c c' sort x g → (length terms' ≡ length terms) × (length store' ≡ length store)
 added-lengths sort x g terms terms' store store' c c' A =
-    (ap length (A .words) ∙ over-at-length (5 * c .terms) (entry-words (next-entry c sort (length x) (length g))) terms, ap length (A .bytes) ∙ over-at-length (c .used) (x ++ g) store)
+    (ap length (A .words) ∙ over-at-length (term-size * c .terms) (entry-words (next-entry c sort (length x) (length g))) terms, ap length (A .bytes) ∙ over-at-length (c .used) (x ++ g) store)
 
 module _ (sort : Sort) (x g : Text) (slot r n : ℕ) (work work' : Text) (rows terms terms' : List ℕ) (store store' : Text) (st st' : List ℕ) where
   pub shares-added : Finds terms store (drop work-size work) (counts-of st) sort x g r → r ≡ 0 → Vacant (drop work-size work) x g (type-of sort) slot → TermFits terms store (counts-of st) sort x g
@@ -131,7 +131,7 @@ module _ (sort : Sort) (x g : Text) (slot r n : ℕ) (work work' : Text) (rows t
 -- ---- Terms of each kind
 
 -- From a search to the write of one term.
-module _ (sort : Sort) (x g : Text) (u : Term) (asks : (m : Memory) → Asks sort x g m u) (d : sort .datatype < 4294967296) where
+module _ (sort : Sort) (x g : Text) (u : Term) (asks : (m : Memory) → Asks sort x g m u) (d : sort .datatype < word-limit) where
   pub share-ready : (work : Text) (terms : List ℕ) (store : Text) (st : List ℕ) → TermReady (term u) work terms store st → ShareReady sort x g work terms store st
   share-ready work terms store st (rows, r) = record { rows = rows; asked = u; ready = r; asks = asks (r .memory); datatype = d }
 
@@ -157,7 +157,7 @@ label-asked [] h m = absurd (omega arith)
 label-asked (c ∷ x) h m = record { means = (refl, (refl, refl)); typed = tt; named = refl }
 
 abbrev pub tagged-sort : Sort
-tagged-sort = record { kind = 4; datatype = 0 }
+tagged-sort = record { kind = tagged-kind; datatype = 0 }
 
 pub tagged-asked : (x g : Text) (m : Memory) → Asks tagged-sort x g m (tagged x g)
 unfolding Means Typed
@@ -165,7 +165,7 @@ tagged-asked x g m = record { means = (refl, (refl, refl)); typed = tt; named = 
 
 -- A literal, once its datatype has the number d.
 abbrev pub literal-sort : ℕ → Sort
-literal-sort d = record { kind = 3; datatype = d }
+literal-sort d = record { kind = literal-kind; datatype = d }
 
 literal-asked : (s x : Text) (d : ℕ) (m : Memory) → number (iri x) (m .terms) ≡ some d → Asks (literal-sort d) s [] m (literal s x)
 unfolding Means Typed

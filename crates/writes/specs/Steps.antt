@@ -10,6 +10,7 @@ use Rattle.spelling.specs.Form.{bad}
 use Rattle.spelling.specs.declared.Form.{Form}
 use Rattle.dataset.specs.Terms.{Blank, Term, blank}
 use Rattle.table.specs.Tables.{label-of}
+use Rattle.table.specs.Layout.{word-limit}
 use Rattle.terms.specs.declared.Counts.{Counts}
 use Rattle.terms.specs.declared.Sort.{Sort}
 use Rattle.terms.specs.Keeps.{findable, Typed, Means, Added}
@@ -48,11 +49,11 @@ pub record ShareReady (sort : Sort) (x g work : Text) (terms : List ℕ) (store 
   pub asked : Term
   pub ready : Ready (term asked) work (lent-tables rows terms store) st
   pub asks : Asks sort x g (ready .memory) asked
-  pub datatype : sort .datatype < 4294967296
+  pub datatype : sort .datatype < word-limit
 
 -- A number of a term.
 abbrev pub Number : ℕ → Type 0
-Number n = (0 < n) × (n < 4294967296)
+Number n = (0 < n) × (n < word-limit)
 
 -- The term that was asked for has the number r.
 pub record Shares (sort : Sort) (x g : Text) (r : ℕ) (work work' : Text) (t t' : Tables) (st st' : List ℕ) : Type 0 where
@@ -100,10 +101,10 @@ pub record RowReady (s p o at : ℕ) (rows st : List ℕ) : Type 0 where
   pub terms : List ℕ
   pub store : Text
   pub ready : Ready (row s p o at) work (lent-tables rows terms store) st
-  pub subject : s < 4294967296
-  pub predicate : p < 4294967296
-  pub object : o < 4294967296
-  pub position : at < 4294967296
+  pub subject : s < word-limit
+  pub predicate : p < word-limit
+  pub object : o < word-limit
+  pub position : at < word-limit
 
 abbrev pub RowWrites : ℕ → ℕ → ℕ → ℕ → List ℕ → List ℕ → List ℕ → List ℕ → Type 0
 RowWrites s p o at rows rows' st st' = (work : Text) (terms : List ℕ) (store : Text) → Writes (row s p o at) done work work (lent-tables rows terms store) (lent-tables rows' terms store) st st'
@@ -115,16 +116,16 @@ NumberWrites w r work work' t t' st st' = Number r × Writes w r work work' t t'
 
 pub record HoldReady (x y n at : ℕ) (work : Text) (t : Tables) (st : List ℕ) : Type 0 where
   pub ready : Ready (hold (place-of x y) n at) work t st
-  pub first : x < 4294967296
-  pub second : y < 4294967296
-  pub node : n < 4294967296
-  pub position : at < 4294967296
+  pub first : x < word-limit
+  pub second : y < word-limit
+  pub node : n < word-limit
+  pub position : at < word-limit
 
 pub record PutReady (x y at : ℕ) (w : Write ℕ) (work : Text) (t : Tables) (st : List ℕ) : Type 0 where
   pub ready : Ready (put-at (place-of x y) at w) work t st
-  pub first : x < 4294967296
-  pub second : y < 4294967296
-  pub position : at < 4294967296
+  pub first : x < word-limit
+  pub second : y < word-limit
+  pub position : at < word-limit
 
 -- What a node belongs to has the number x: a new cell where it is an element, else what the place says.
 pub record Below (s : Spot) (x : ℕ) (work work' : Text) (t t' : Tables) (st st' : List ℕ) : Type 0 where

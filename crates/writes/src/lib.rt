@@ -26,14 +26,10 @@ use spelling::Form;
 use state::Node;
 use state::Spot;
 use state::Words;
+use table::TermKind;
 use terms::Counts;
 use terms::Sort;
-
-fn wide(b: u8) -> usize
-    ensures { λ r. ⌜ (r ≡ b) × (r < 256) ⌝ }
-{
-    b as usize
-}
+use text::wide;
 
 fn set_counts(st: &mut [usize; Layout::WORDS], c: Counts)
     requires { ⌜ length (now st) ≡ words-size ⌝ }
@@ -157,7 +153,7 @@ fn share_iri(
         return kept;
     }
     let sort = Sort {
-        kind: 1,
+        kind: TermKind::IRI,
         datatype: 0,
     };
     let number = share(
@@ -188,7 +184,7 @@ fn share_label(
     ensures { λ r. ⌜ TermWrites (term (blank (label (now (text .entry))))) r (now (work .entry)) (now (work .exit)) (now (terms .entry)) (now (terms .exit)) (now (store .entry)) (now (store .exit)) (now (st .entry)) (now (st .exit)) ⌝ }
 {
     let sort = Sort {
-        kind: 2,
+        kind: TermKind::BLANK,
         datatype: 0,
     };
     share(
@@ -219,7 +215,7 @@ fn share_tagged(
     ensures { λ r. ⌜ TermWrites (term (tagged (undo form (now (text .entry))) (now (tag .entry)))) r (now (work .entry)) (now (work .exit)) (now (terms .entry)) (now (terms .exit)) (now (store .entry)) (now (store .exit)) (now (st .entry)) (now (st .exit)) ⌝ }
 {
     let sort = Sort {
-        kind: 4,
+        kind: TermKind::TAGGED,
         datatype: 0,
     };
     share(work, terms, store, st, sort, 0, 0, form, text, tag)
@@ -243,7 +239,7 @@ fn share_typed(
 {
     let d = share_iri(work, terms, store, st, start, end, form, back);
     let sort = Sort {
-        kind: 3,
+        kind: TermKind::LITERAL,
         datatype: d,
     };
     share(work, terms, store, st, sort, 0, 0, shape, text, &text[..0])
@@ -339,8 +335,8 @@ fn put_row(
 {
     let count = st[Words::ROWS];
     let graph = st[Words::GRAPH];
-    let five = [graph, s, p, o, at];
-    terms::add_row(rows, count, &five);
+    let row = [graph, s, p, o, at];
+    terms::add_row(rows, count, &row);
     st[Words::ROWS] = count + 1;
 }
 
@@ -478,16 +474,16 @@ fn node(
     let end = node.end;
     let form = node.form;
     let shape = node.text;
-    if kind == 1 {
+    if kind == Node::IRI {
         return share_iri(work, terms, store, st, start, end, form, back);
     }
-    if kind == 2 {
+    if kind == Node::BLANK {
         return share_label(work, terms, store, st, text);
     }
-    if kind == 3 {
+    if kind == Node::LITERAL {
         return share_typed(work, terms, store, st, start, end, form, back, shape, text);
     }
-    if kind == 4 {
+    if kind == Node::TAGGED {
         return share_tagged(work, terms, store, st, shape, text, tag);
     }
     fresh(terms, st)

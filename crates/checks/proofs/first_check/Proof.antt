@@ -5,15 +5,6 @@ use Rattle.limits.specs.Limits.{document-limit, work-size}
 use Rattle.checks.proofs.first_check.Statement.{statement}
 use Rattle.checks.proofs.first_check.Tie as tie
 
-returns : tie.Need-returns
-returns c = simp (lt-ltb document-limit _ (c .if1 .taken))
-
-returns-2 : tie.Need-returns-2
-returns-2 c = simp (le-ltb document-limit _ (c .before .if1 .left), lt-leb _ 1 (c .if2 .taken))
-
-is-bad-base-requires : tie.Need-is-bad-base-requires
-is-bad-base-requires c κs = search needs
-
 returns-3 : tie.Need-returns-3
 returns-3 c = simp (le-ltb document-limit _ (c .before .before .before .if1 .left), le-leb _ 1 (c .before .before .if2 .left), sym (c .before .is-bad-base .ensures) ∙ c .if3 .taken)
 
@@ -26,4 +17,4 @@ returns-5 c =
     simp (le-ltb document-limit _ (c .before .before .before .before .if1 .left), le-leb _ 1 (c .before .before .before .if2 .left), sym (c .before .before .is-bad-base .ensures) ∙ c .before .if3 .left, le-ltb _ work-size (c .if4 .left))
 
 pub first-check-spec : {M : Type 1} → statement M
-first-check-spec = tie.close (tie.spec returns returns-2 is-bad-base-requires returns-3 returns-4 returns-5)
+first-check-spec = tie.close (tie.spec (λ c. simp (lt-ltb document-limit _ (c .if1 .taken))) (λ c. simp (le-ltb document-limit _ (c .before .if1 .left), lt-leb _ 1 (c .if2 .taken))) (λ c κs. search needs) returns-3 returns-4 returns-5)

@@ -18,41 +18,14 @@ abbrev μ-loop : tie.MeasureT-loop
 loop-holds : tie.Need-loop-holds Inv-loop μ-loop
 loop-holds c = (omega arith, place-start (c .before .before .args .prefix .now) (binding (c .before .before .args .work .now) (c .before .before .args .lens .now)) (c .before .before .args .n))
 
-mul-start : tie.Need-mul-start Inv-loop μ-loop
-mul-start c = search needs
-
-mul-at-most : tie.Need-mul-at-most Inv-loop μ-loop
-mul-at-most c = search needs
-
-element-copy-out-at-most : tie.Need-element-copy-out-at-most Inv-loop μ-loop
-element-copy-out-at-most c = search needs
-
-at-most-requires : tie.Need-at-most-requires Inv-loop μ-loop
-at-most-requires c κs = search needs
-
 add-end : tie.Need-add-end Inv-loop μ-loop
 add-end c = omega (arith, c .at-most .ensures .1)
-
-sub-same : tie.Need-sub-same Inv-loop μ-loop
-sub-same c = search needs
-
-part-same-start : tie.Need-part-same-start Inv-loop μ-loop
-part-same-start c = search needs
 
 part-same-end : tie.Need-part-same-end Inv-loop μ-loop
 part-same-end c = omega (arith, c .at-most .ensures .1)
 
-same-requires : tie.Need-same-requires Inv-loop μ-loop
-same-requires c κs = search needs
-
 returns : tie.Need-returns Inv-loop μ-loop
 returns c = (omega (arith, c .before .before .before .before .before .before .loop .inv .1, place-here (c .before .before .before .before .before .before .before .before .before .args .prefix .now) (binding (c .before .before .before .before .before .before .before .before .before .args .work .now) (c .before .before .before .before .before .before .before .before .before .args .lens .now)) (c .before .before .before .before .before .before .before .before .before .args .n) (c .before .before .before .before .before .before .loop .i) (omega arith) (sym (prefix-read (c .before .before .before .before .before .before .before .before .before .args .work .now) (c .before .before .before .before .before .before .before .before .before .args .lens .now) (c .before .before .before .before .before .before .loop .i) (c .before .before .before .before .before .before .before .before .before .args .prefix .now) (c .before .before .before .at-most .result) (c .before .same .result) (c .before .before .before .at-most .ensures .0) (c .before .same .ensures)) ∙ c .if1 .taken)), omega arith)
-
-add-i : tie.Need-add-i Inv-loop μ-loop
-add-i c = search needs
-
-loop-less : tie.Need-loop-less Inv-loop μ-loop
-loop-less c = search needs
 
 loop-again : tie.Need-loop-again Inv-loop μ-loop
 loop-again c = (omega arith, omega (arith, c .before .before .before .before .before .before .loop .inv .1, place-further (c .before .before .before .before .before .before .before .before .before .args .prefix .now) (binding (c .before .before .before .before .before .before .before .before .before .args .work .now) (c .before .before .before .before .before .before .before .before .before .args .lens .now)) (c .before .before .before .before .before .before .before .before .before .args .n) (c .before .before .before .before .before .before .loop .i) (omega arith) (sym (prefix-read (c .before .before .before .before .before .before .before .before .before .args .work .now) (c .before .before .before .before .before .before .before .before .before .args .lens .now) (c .before .before .before .before .before .before .loop .i) (c .before .before .before .before .before .before .before .before .before .args .prefix .now) (c .before .before .before .at-most .result) (c .before .same .result) (c .before .before .before .at-most .ensures .0) (c .before .same .ensures)) ∙ c .if1 .left)))
@@ -67,17 +40,17 @@ find-spec =
     Inv-loop
     μ-loop
     loop-holds
-    mul-start
-    mul-at-most
-    element-copy-out-at-most
-    at-most-requires
+    (λ c. search needs)
+    (λ c. search needs)
+    (λ c. search needs)
+    (λ c κs. search needs)
     add-end
-    sub-same
-    part-same-start
+    (λ c. search needs)
+    (λ c. search needs)
     part-same-end
-    same-requires
+    (λ c κs. search needs)
     returns
-    add-i
-    loop-less
+    (λ c. search needs)
+    (λ c. search needs)
     loop-again
     returns-2)

@@ -17,41 +17,17 @@ Inv-loop t j b i₀ i = (i ≤ length b) × (begins b (drop j t) ≡ begins (dro
 abbrev μ-loop : tie.MeasureT-loop
 μ-loop t j b i₀ i = length b - i
 
-sub-if1 : tie.Need-sub-if1 Inv-loop μ-loop
-sub-if1 c = search needs
-
 returns : tie.Need-returns Inv-loop μ-loop
 returns c = sym (begins-short (c .before .before .before .args .b .now) (drop (c .before .before .before .args .j) (c .before .before .before .args .t .now)) (omega (arith, length-drop (c .before .before .before .args .j) (c .before .before .before .args .t .now))))
 
 loop-holds : tie.Need-loop-holds Inv-loop μ-loop
 loop-holds c = (omega arith, ap (λ (n : ℕ). begins (c .before .before .before .args .b .now) (drop n (c .before .before .before .args .t .now))) (sym (add-zero (c .before .before .before .args .j))))
 
-add-wide : tie.Need-add-wide Inv-loop μ-loop
-add-wide c = search needs
-
-shared-slice-read-wide : tie.Need-shared-slice-read-wide Inv-loop μ-loop
-shared-slice-read-wide c = search needs
-
-wide-requires : tie.Need-wide-requires Inv-loop μ-loop
-wide-requires c κs = search needs
-
-mul-if2 : tie.Need-mul-if2 Inv-loop μ-loop
-mul-if2 c = search needs
-
-shared-slice-read-if2 : tie.Need-shared-slice-read-if2 Inv-loop μ-loop
-shared-slice-read-if2 c = search needs
-
 returns-2 : tie.Need-returns-2 Inv-loop μ-loop
-returns-2 c = sym (c .before .before .before .before .before .loop .inv .1 ∙ begins-not (c .before .before .before .before .before .before .before .before .before .args .b .now) (c .before .before .before .before .before .before .before .before .before .args .t .now) (c .before .before .before .before .before .loop .i) (c .before .before .before .before .before .before .before .before .before .args .j + c .before .before .before .before .before .loop .i) (omega arith) (omega arith) (λ e. c .if2 .taken (c .before .before .wide .ensures ∙ e)))
-
-add-i : tie.Need-add-i Inv-loop μ-loop
-add-i c = search needs
-
-loop-less : tie.Need-loop-less Inv-loop μ-loop
-loop-less c = search needs
+returns-2 c = sym (c .before .before .before .before .before .loop .inv .1 ∙ begins-not (c .before .before .before .before .before .before .before .before .before .args .b .now) (c .before .before .before .before .before .before .before .before .before .args .t .now) (c .before .before .before .before .before .loop .i) (c .before .before .before .before .before .before .before .before .before .args .j + c .before .before .before .before .before .loop .i) (omega arith) (omega arith) (λ e. c .if2 .taken (c .before .before .wide .ensures .0 ∙ e)))
 
 loop-again : tie.Need-loop-again Inv-loop μ-loop
-loop-again c = (omega arith, c .before .before .before .before .before .loop .inv .1 ∙ on-more (c .before .before .before .before .before .before .before .before .before .args .b .now) (c .before .before .before .before .before .before .before .before .before .args .t .now) (c .before .before .before .before .before .loop .i) (c .before .before .before .before .before .before .before .before .before .args .j) (omega arith) (omega arith) (sym (c .before .before .wide .ensures) ∙ c .if2 .left))
+loop-again c = (omega arith, c .before .before .before .before .before .loop .inv .1 ∙ on-more (c .before .before .before .before .before .before .before .before .before .args .b .now) (c .before .before .before .before .before .before .before .before .before .args .t .now) (c .before .before .before .before .before .loop .i) (c .before .before .before .before .before .before .before .before .before .args .j) (omega arith) (omega arith) (sym (c .before .before .wide .ensures .0) ∙ c .if2 .left))
 
 returns-3 : tie.Need-returns-3 Inv-loop μ-loop
 returns-3 c = sym (c .before .loop .inv .1 ∙ begins-end (c .before .before .before .before .before .args .b .now) _ (c .before .loop .i) (omega arith))
@@ -62,16 +38,16 @@ goes-on-spec =
     (tie.spec
     Inv-loop
     μ-loop
-    sub-if1
+    (λ c. search needs)
     returns
     loop-holds
-    add-wide
-    shared-slice-read-wide
-    wide-requires
-    mul-if2
-    shared-slice-read-if2
+    (λ c. search needs)
+    (λ c. search needs)
+    (λ c κs. search needs)
+    (λ c. search needs)
+    (λ c. search needs)
     returns-2
-    add-i
-    loop-less
+    (λ c. search needs)
+    (λ c. search needs)
     loop-again
     returns-3)

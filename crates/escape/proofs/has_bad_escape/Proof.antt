@@ -20,29 +20,17 @@ Inv-loop s scan₀ i₀ scan i = ((i ≤ length s) × Fair scan) × ((eqb (scan 
 abbrev μ-loop : tie.MeasureT-loop
 μ-loop s scan₀ i₀ scan i = length s - i
 
-has-backslash-requires : tie.Need-has-backslash-requires Inv-loop μ-loop
-has-backslash-requires c κs = search needs
-
 returns : tie.Need-returns Inv-loop μ-loop
 returns c = plain-good (c .before .before .before .args .s .now) (sym (c .before .has-backslash .ensures) ∙ not-true _ (c .if1 .taken))
 
-text-requires : tie.Need-text-requires Inv-loop μ-loop
-text-requires c κs = search needs
-
 loop-holds : tie.Need-loop-holds Inv-loop μ-loop
 loop-holds c = ((omega arith, fair-start (c .text .result) (c .text .ensures)), (text-place (c .text .result) (c .text .ensures), bad-start (c .text .result) (c .text .ensures) (c .before .before .before .before .args .s .now)))
-
-plain-to-requires : tie.Need-plain-to-requires Inv-loop μ-loop
-plain-to-requires c κs = search needs
 
 loop-less : tie.Need-loop-less Inv-loop μ-loop
 loop-less c = omega (arith, c .before .plain-to .ensures .fits)
 
 loop-again : tie.Need-loop-again Inv-loop μ-loop
 loop-again c = ((c .before .plain-to .ensures .fits, c .before .before .before .loop .inv .0 .1), (c .before .before .before .loop .inv .1 .0, c .before .before .before .loop .inv .1 .1 ∙ c .before .plain-to .ensures .named (c .before .before .before .loop .scan) refl (c .before .before .before .loop .inv .1 .0)))
-
-letter-at-requires : tie.Need-letter-at-requires Inv-loop μ-loop
-letter-at-requires c κs = search needs
 
 add-i : tie.Need-add-i Inv-loop μ-loop
 add-i c = omega (arith, c .before .letter-at .ensures .0 (c .if3 .taken) .fits)
@@ -53,23 +41,8 @@ loop-less-2 c = omega (arith, c .before .letter-at .ensures .0 (c .if3 .taken) .
 loop-again-2 : tie.Need-loop-again-2 Inv-loop μ-loop
 loop-again-2 c = ((c .before .letter-at .ensures .0 (c .if3 .taken) .fits, c .before .before .before .before .before .loop .inv .0 .1), (c .before .before .before .before .before .loop .inv .1 .0, c .before .before .before .before .before .loop .inv .1 .1 ∙ c .before .letter-at .ensures .0 (c .if3 .taken) .named (c .before .before .before .before .before .loop .scan) refl (c .before .before .before .before .before .loop .inv .1 .0)))
 
-shared-slice-read-step : tie.Need-shared-slice-read-step Inv-loop μ-loop
-shared-slice-read-step c = search needs
-
-step-requires : tie.Need-step-requires Inv-loop μ-loop
-step-requires c κs = search needs
-
-is-bad-requires : tie.Need-is-bad-requires Inv-loop μ-loop
-is-bad-requires c κs = search needs
-
 returns-2 : tie.Need-returns-2 Inv-loop μ-loop
 returns-2 c = sym (c .before .before .before .before .before .before .before .before .before .loop .inv .1 .1 ∙ bad-here (c .before .before .before .before .before .before .before .before .before .loop .scan) (c .before .before .step .result) (c .before .before .before .before .before .before .before .before .before .before .before .before .before .before .args .s .now) (c .before .before .before .before .before .before .before .before .before .loop .i) (omega arith) (c .before .before .before .before .before .before .before .before .before .loop .inv .0 .1) (c .before .before .step .ensures) (c .before .before .before .shared-slice-known2 .given (c .before .before .before .before .before .before .before .before .before .loop .i) .fits) (c .before .before .before .before .before .before .before .before .before .loop .inv .1 .0) (c .before .is-bad .result) (c .before .is-bad .ensures) (c .if4 .taken))
-
-add-i-2 : tie.Need-add-i-2 Inv-loop μ-loop
-add-i-2 c = search needs
-
-loop-less-3 : tie.Need-loop-less-3 Inv-loop μ-loop
-loop-less-3 c = search needs
 
 loop-again-3 : tie.Need-loop-again-3 Inv-loop μ-loop
 loop-again-3 c = ((omega arith, fair-more (c .before .before .before .before .before .before .before .before .before .loop .scan) (c .before .before .step .result) (c .before .before .before .before .before .before .before .before .before .before .before .before .before .before .args .s .now) (c .before .before .before .before .before .before .before .before .before .loop .i) (omega arith) (c .before .before .before .before .before .before .before .before .before .loop .inv .0 .1) (c .before .before .step .ensures) (c .before .before .before .shared-slice-known2 .given (c .before .before .before .before .before .before .before .before .before .loop .i) .fits)), (text-more (c .before .before .before .before .before .before .before .before .before .loop .scan) (c .before .before .step .result) (c .before .before .before .before .before .before .before .before .before .before .before .before .before .before .args .s .now) (c .before .before .before .before .before .before .before .before .before .loop .i) (omega arith) (c .before .before .before .before .before .before .before .before .before .loop .inv .0 .1) (c .before .before .step .ensures) (c .before .before .before .shared-slice-known2 .given (c .before .before .before .before .before .before .before .before .before .loop .i) .fits) (c .before .before .before .before .before .before .before .before .before .loop .inv .1 .0), c .before .before .before .before .before .before .before .before .before .loop .inv .1 .1 ∙ bad-further (c .before .before .before .before .before .before .before .before .before .loop .scan) (c .before .before .step .result) (c .before .before .before .before .before .before .before .before .before .before .before .before .before .before .args .s .now) (c .before .before .before .before .before .before .before .before .before .loop .i) (omega arith) (c .before .before .before .before .before .before .before .before .before .loop .inv .0 .1) (c .before .before .step .ensures) (c .before .before .before .shared-slice-known2 .given (c .before .before .before .before .before .before .before .before .before .loop .i) .fits) (c .before .before .before .before .before .before .before .before .before .loop .inv .1 .0) (c .before .is-bad .result) (c .before .is-bad .ensures) (c .if4 .left)))
@@ -83,22 +56,22 @@ has-bad-escape-spec =
     (tie.spec
     Inv-loop
     μ-loop
-    has-backslash-requires
+    (λ c κs. search needs)
     returns
-    text-requires
+    (λ c κs. search needs)
     loop-holds
-    plain-to-requires
+    (λ c κs. search needs)
     loop-less
     loop-again
-    letter-at-requires
+    (λ c κs. search needs)
     add-i
     loop-less-2
     loop-again-2
-    shared-slice-read-step
-    step-requires
-    is-bad-requires
+    (λ c. search needs)
+    (λ c κs. search needs)
+    (λ c κs. search needs)
     returns-2
-    add-i-2
-    loop-less-3
+    (λ c. search needs)
+    (λ c. search needs)
     loop-again-3
     returns-3)

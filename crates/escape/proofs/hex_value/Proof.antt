@@ -9,44 +9,32 @@ returns : tie.Need-returns
 unfolding hex-value
 returns c = (simp (lt-ltb (c .before .args .c) 58 (omega arith)) (omega arith), omega arith)
 
-wide-requires : tie.Need-wide-requires
-wide-requires c κs = search needs
-
 returns-2 : tie.Need-returns-2
 unfolding hex-value
-returns-2 c = (simp (lt-ltb (c .before .before .before .args .c) 58 (omega arith)) (c .wide .ensures), omega (arith, c .wide .ensures))
-
-sub-wide : tie.Need-sub-wide
-sub-wide c = search needs
-
-wide-requires-2 : tie.Need-wide-requires-2
-wide-requires-2 c κs = search needs
+returns-2 c = (simp (lt-ltb (c .before .before .before .args .c) 58 (omega arith)) (c .wide .ensures .0), omega (arith, c .wide .ensures .0))
 
 returns-3 : tie.Need-returns-3
 unfolding hex-value
-returns-3 c = (simp (lt-ltb _ _ (c .before .if3 .taken), le-ltb _ _ (c .before .before .if2 .left), le-ltb _ _ (c .before .before .before .if1 .left)) (c .wide2 .ensures), omega (arith, c .wide2 .ensures))
+returns-3 c = (simp (lt-ltb _ _ (c .before .if3 .taken), le-ltb _ _ (c .before .before .if2 .left), le-ltb _ _ (c .before .before .before .if1 .left)) (c .wide2 .ensures .0), omega (arith, c .wide2 .ensures .0))
 
 returns-4 : tie.Need-returns-4
 unfolding hex-value
 returns-4 c = (simp (le-ltb (c .before .before .before .before .args .c) 58 (omega arith), le-ltb (c .before .before .before .before .args .c) 71 (omega arith)) (omega arith), omega arith)
 
-wide-requires-3 : tie.Need-wide-requires-3
-wide-requires-3 c κs = search needs
-
 returns-5 : tie.Need-returns-5
 unfolding hex-value
-returns-5 c = (simp (le-ltb (c .before .before .before .before .before .args .c) 58 (omega arith), le-ltb (c .before .before .before .before .before .args .c) 71 (omega arith)) (c .wide3 .ensures), omega (arith, c .wide3 .ensures, c .before .before .before .before .before .fits .c))
+returns-5 c = (simp (le-ltb (c .before .before .before .before .before .args .c) 58 (omega arith), le-ltb (c .before .before .before .before .before .args .c) 71 (omega arith)) (c .wide3 .ensures .0), omega (arith, c .wide3 .ensures .0, c .before .before .before .before .before .fits .c))
 
 pub hex-value-spec : {M : Type 1} → statement M
 hex-value-spec =
     tie.close
     (tie.spec
     returns
-    wide-requires
+    (λ c κs. search needs)
     returns-2
-    sub-wide
-    wide-requires-2
+    (λ c. search needs)
+    (λ c κs. search needs)
     returns-3
     returns-4
-    wide-requires-3
+    (λ c κs. search needs)
     returns-5)

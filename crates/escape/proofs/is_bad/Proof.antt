@@ -4,9 +4,6 @@ use borrow.Author.Needs.{needs}
 use Rattle.escape.proofs.is_bad.Statement.{statement}
 use Rattle.escape.proofs.is_bad.Tie as tie
 
-names-no-character-requires : tie.Need-names-no-character-requires
-names-no-character-requires c κs = search needs
-
 returns : tie.Need-returns
 unfolding bad
 returns c = simp (lt-ltb _ _ (c .before .if1 .taken)) (c .names-no-character .ensures)
@@ -16,4 +13,4 @@ unfolding bad
 returns-2 c = simp (le-ltb _ _ (c .if1 .left))
 
 pub is-bad-spec : {M : Type 1} → statement M
-is-bad-spec = tie.close (tie.spec names-no-character-requires returns returns-2)
+is-bad-spec = tie.close (tie.spec (λ c κs. search needs) returns returns-2)

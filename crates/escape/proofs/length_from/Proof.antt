@@ -16,17 +16,11 @@ Inv-loop s scan₀ i₀ total₀ scan i total = ((i ≤ length s) × Fair scan) 
 abbrev μ-loop : tie.MeasureT-loop
 μ-loop s scan₀ i₀ total₀ scan i total = length s - i
 
-has-backslash-requires : tie.Need-has-backslash-requires Inv-loop μ-loop
-has-backslash-requires c κs = search needs
-
 returns : tie.Need-returns Inv-loop μ-loop
 returns c = plain-length (c .before .before .before .args .start) (c .before .before .before .pre) (c .before .before .before .args .s .now) (sym (c .before .has-backslash .ensures) ∙ not-true _ (c .if1 .taken))
 
 loop-holds : tie.Need-loop-holds Inv-loop μ-loop
 loop-holds c = ((omega arith, c .before .before .before .pre .fair), omega arith)
-
-plain-to-requires : tie.Need-plain-to-requires Inv-loop μ-loop
-plain-to-requires c κs = search needs
 
 sub-total : tie.Need-sub-total Inv-loop μ-loop
 sub-total c = c .before .plain-to .ensures .after
@@ -40,9 +34,6 @@ loop-less c = omega (arith, c .before .plain-to .ensures .fits)
 loop-again : tie.Need-loop-again Inv-loop μ-loop
 loop-again c = ((c .before .plain-to .ensures .fits, c .before .before .before .loop .inv .0 .1), omega (arith, stretch-length (c .before .before .before .loop .scan) (c .before .before .before .before .before .before .before .args .s .now) (c .before .before .before .loop .i) (c .before .plain-to .result) _ (c .before .plain-to .ensures) (c .before .plain-to .result - c .before .before .before .loop .i) (plain-size (c .before .plain-to .ensures)), c .before .before .before .loop .inv .1))
 
-letter-at-requires : tie.Need-letter-at-requires Inv-loop μ-loop
-letter-at-requires c κs = search needs
-
 add-total-2 : tie.Need-add-total-2 Inv-loop μ-loop
 add-total-2 c = omega (arith, stretch-length (c .before .before .before .before .before .loop .scan) (c .before .before .before .before .before .before .before .before .before .args .s .now) (c .before .before .before .before .before .loop .i) (c .before .before .before .before .before .loop .i + 2) _ (c .before .letter-at .ensures .0 (c .if3 .taken)) 1 refl, c .before .before .before .before .before .before .before .before .before .pre .short (c .before .before .before .before .before .before .before .before .before .args .s .now), c .before .before .before .before .before .loop .inv .1)
 
@@ -55,20 +46,8 @@ loop-less-2 c = omega (arith, c .before .letter-at .ensures .0 (c .if3 .taken) .
 loop-again-2 : tie.Need-loop-again-2 Inv-loop μ-loop
 loop-again-2 c = ((c .before .letter-at .ensures .0 (c .if3 .taken) .fits, c .before .before .before .before .before .loop .inv .0 .1), omega (arith, stretch-length (c .before .before .before .before .before .loop .scan) (c .before .before .before .before .before .before .before .before .before .args .s .now) (c .before .before .before .before .before .loop .i) (c .before .before .before .before .before .loop .i + 2) _ (c .before .letter-at .ensures .0 (c .if3 .taken)) 1 refl, c .before .before .before .before .before .loop .inv .1))
 
-shared-slice-read-step : tie.Need-shared-slice-read-step Inv-loop μ-loop
-shared-slice-read-step c = search needs
-
-step-requires : tie.Need-step-requires Inv-loop μ-loop
-step-requires c κs = search needs
-
 add-total-3 : tie.Need-add-total-3 Inv-loop μ-loop
 add-total-3 c = omega (arith, length-more (c .before .before .before .before .before .before .before .before .loop .scan) (c .before .step .result) (c .before .before .before .before .before .before .before .before .before .before .before .before .args .s .now) (c .before .before .before .before .before .before .before .before .loop .i) (omega arith) (c .before .before .before .before .before .before .before .before .loop .inv .0 .1) (c .before .step .ensures) (c .before .before .shared-slice-known2 .given (c .before .before .before .before .before .before .before .before .loop .i) .fits), c .before .before .before .before .before .before .before .before .before .before .before .before .pre .short (c .before .before .before .before .before .before .before .before .before .before .before .before .args .s .now), c .before .before .before .before .before .before .before .before .loop .inv .1)
-
-add-i-2 : tie.Need-add-i-2 Inv-loop μ-loop
-add-i-2 c = search needs
-
-loop-less-3 : tie.Need-loop-less-3 Inv-loop μ-loop
-loop-less-3 c = search needs
 
 loop-again-3 : tie.Need-loop-again-3 Inv-loop μ-loop
 loop-again-3 c = ((omega arith, fair-more (c .before .before .before .before .before .before .before .before .loop .scan) (c .before .step .result) (c .before .before .before .before .before .before .before .before .before .before .before .before .args .s .now) (c .before .before .before .before .before .before .before .before .loop .i) (omega arith) (c .before .before .before .before .before .before .before .before .loop .inv .0 .1) (c .before .step .ensures) (c .before .before .shared-slice-known2 .given (c .before .before .before .before .before .before .before .before .loop .i) .fits)), omega (arith, length-more (c .before .before .before .before .before .before .before .before .loop .scan) (c .before .step .result) (c .before .before .before .before .before .before .before .before .before .before .before .before .args .s .now) (c .before .before .before .before .before .before .before .before .loop .i) (omega arith) (c .before .before .before .before .before .before .before .before .loop .inv .0 .1) (c .before .step .ensures) (c .before .before .shared-slice-known2 .given (c .before .before .before .before .before .before .before .before .loop .i) .fits), c .before .before .before .before .before .before .before .before .loop .inv .1))
@@ -82,23 +61,23 @@ length-from-spec =
     (tie.spec
     Inv-loop
     μ-loop
-    has-backslash-requires
+    (λ c κs. search needs)
     returns
     loop-holds
-    plain-to-requires
+    (λ c κs. search needs)
     sub-total
     add-total
     loop-less
     loop-again
-    letter-at-requires
+    (λ c κs. search needs)
     add-total-2
     add-i
     loop-less-2
     loop-again-2
-    shared-slice-read-step
-    step-requires
+    (λ c. search needs)
+    (λ c κs. search needs)
     add-total-3
-    add-i-2
-    loop-less-3
+    (λ c. search needs)
+    (λ c. search needs)
     loop-again-3
     returns-2)

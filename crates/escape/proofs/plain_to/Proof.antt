@@ -4,20 +4,11 @@ use borrow.Author.Needs.{needs}
 use Rattle.escape.proofs.plain_to.Statement.{statement}
 use Rattle.escape.proofs.plain_to.Tie as tie
 
-shared-slice-read-if1 : tie.Need-shared-slice-read-if1
-shared-slice-read-if1 c = search needs
-
 returns : tie.Need-returns
 returns c = stretch-none (c .before .before .before .args .left) (c .before .before .before .args .s .now) (c .before .before .before .args .at) (omega arith)
 
-next-requires : tie.Need-next-requires
-next-requires c κs = search needs
-
 returns-2 : tie.Need-returns-2
 returns-2 c = rw (c .before .if2 .taken) (stretch-text (c .before .before .before .before .before .args .s .now) (c .before .before .before .before .before .args .at) (c .next .result) (c .next .ensures .0) (c .next .ensures .1 .0) (c .next .ensures .1 .1))
-
-next-requires-2 : tie.Need-next-requires-2
-next-requires-2 c κs = search needs
 
 returns-3 : tie.Need-returns-3
 returns-3 c = rw (c .before .if3 .taken) (stretch-name (c .before .before .before .before .before .before .args .s .now) (c .before .before .before .before .before .before .args .at) (c .next2 .result) (c .next2 .ensures .0) (c .next2 .ensures .1 .0) (c .next2 .ensures .1 .1))
@@ -29,10 +20,10 @@ pub plain-to-spec : {M : Type 1} → statement M
 plain-to-spec =
     tie.close
     (tie.spec
-    shared-slice-read-if1
+    (λ c. search needs)
     returns
-    next-requires
+    (λ c κs. search needs)
     returns-2
-    next-requires-2
+    (λ c κs. search needs)
     returns-3
     returns-4)

@@ -20,35 +20,11 @@ abbrev μ-loop : tie.MeasureT-loop
 loop-holds : tie.Need-loop-holds Inv-loop μ-loop
 loop-holds c = (omega arith, over-at-start (c .args .j) (low (c .args .b .now)) (c .args .out .now))
 
-add-if1 : tie.Need-add-if1 Inv-loop μ-loop
-add-if1 c = search needs
-
 same-length : tie.Need-same-length Inv-loop μ-loop
 same-length c = ap length (c .before .before .loop .inv .1) ∙ over-at-length (c .before .before .before .args .j) _ (c .before .before .before .args .out .now)
 
 returns : tie.Need-returns Inv-loop μ-loop
 returns c = c .before .before .loop .inv .1 ∙ over-at-enough (c .before .before .before .args .j) (low (c .before .before .before .args .b .now)) (c .before .before .before .args .out .now) (c .before .before .loop .i) (omega (arith, ap length (c .before .before .loop .inv .1), over-at-length (c .before .before .before .args .j) (take (c .before .before .loop .i) (low (c .before .before .before .args .b .now))) (c .before .before .before .args .out .now)))
-
-mul-out : tie.Need-mul-out Inv-loop μ-loop
-mul-out c = search needs
-
-shared-slice-read-out : tie.Need-shared-slice-read-out Inv-loop μ-loop
-shared-slice-read-out c = search needs
-
-cast-out : tie.Need-cast-out Inv-loop μ-loop
-cast-out c = search needs
-
-add-out : tie.Need-add-out Inv-loop μ-loop
-add-out c = search needs
-
-slice-write-out : tie.Need-slice-write-out Inv-loop μ-loop
-slice-write-out c = search needs
-
-add-i : tie.Need-add-i Inv-loop μ-loop
-add-i c = search needs
-
-loop-less : tie.Need-loop-less Inv-loop μ-loop
-loop-less c = search needs
 
 loop-again : tie.Need-loop-again Inv-loop μ-loop
 loop-again c = (omega arith, over-at-next (c .before .before .before .before .args .j) (low (c .before .before .before .before .args .b .now)) (c .before .before .before .before .args .out .now) (c .before .before .before .loop .out) (c .before .before .before .loop .i) _ (omega (arith, low-length (c .before .before .before .before .args .b .now))) (sym (low-at (c .before .before .before .before .args .b .now) (c .before .before .before .loop .i))) (c .before .before .before .loop .inv .1))
@@ -66,16 +42,16 @@ put-spec =
     Inv-loop
     μ-loop
     loop-holds
-    add-if1
+    (λ c. search needs)
     same-length
     returns
-    mul-out
-    shared-slice-read-out
-    cast-out
-    add-out
-    slice-write-out
-    add-i
-    loop-less
+    (λ c. search needs)
+    (λ c. search needs)
+    (λ c. search needs)
+    (λ c. search needs)
+    (λ c. search needs)
+    (λ c. search needs)
+    (λ c. search needs)
     loop-again
     same-length-2
     returns-2)

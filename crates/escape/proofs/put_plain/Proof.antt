@@ -11,25 +11,10 @@ use Rattle.escape.proofs.put_plain.Tie as tie
 returns : tie.Need-returns
 returns c = sym (over-at-past (c .before .before .before .args .j) (c .before .before .before .args .s .now) (c .before .before .before .args .out .now) (omega arith))
 
-sub-copy : tie.Need-sub-copy
-sub-copy c = search needs
-
-part-copy-start : tie.Need-part-copy-start
-part-copy-start c = search needs
-
-part-copy-end : tie.Need-part-copy-end
-part-copy-end c = search needs
-
-copy-requires : tie.Need-copy-requires
-copy-requires c κs = search needs
-
-same-length : tie.Need-same-length
-same-length c = search needs
-
 returns-2 : tie.Need-returns-2
 returns-2 c = over-part (c .before .before .before .before .before .before .before .args .j) (c .before .before .before .before .before .before .before .args .s .now) (c .before .before .before .before .before .before .before .args .out .now) _ (length (c .before .before .before .before .before .before .before .args .out .now) - c .before .before .before .before .before .before .before .args .j) refl (c .before .before .copy .ensures)
 
 pub put-plain-spec : {M : Type 1} → statement M
 put-plain-spec =
     tie.close
-    (tie.spec returns sub-copy part-copy-start part-copy-end copy-requires same-length returns-2)
+    (tie.spec returns (λ c. search needs) (λ c. search needs) (λ c. search needs) (λ c κs. search needs) (λ c. search needs) returns-2)

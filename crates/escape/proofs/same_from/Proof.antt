@@ -18,47 +18,17 @@ Inv-loop s t scan₀ i₀ j₀ scan i j = ((i ≤ length s) × Fair scan) × ((j
 abbrev μ-loop : tie.MeasureT-loop
 μ-loop s t scan₀ i₀ j₀ scan i j = length s - i
 
-has-backslash-requires : tie.Need-has-backslash-requires Inv-loop μ-loop
-has-backslash-requires c κs = search needs
-
-same-requires : tie.Need-same-requires Inv-loop μ-loop
-same-requires c κs = search needs
-
 returns : tie.Need-returns Inv-loop μ-loop
 returns c = plain-same (c .before .before .before .before .before .args .start) (c .before .before .before .before .before .pre) (c .before .before .before .before .before .args .s .now) (sym (c .before .before .has-backslash .ensures) ∙ not-true _ (c .before .if1 .taken)) (c .before .before .before .before .before .args .t .now) (c .same .result) (c .same .ensures)
 
 loop-holds : tie.Need-loop-holds Inv-loop μ-loop
 loop-holds c = ((omega arith, c .before .before .before .before .pre .fair), (omega arith, refl))
 
-plain-to-requires : tie.Need-plain-to-requires Inv-loop μ-loop
-plain-to-requires c κs = search needs
-
 sub-begins : tie.Need-sub-begins Inv-loop μ-loop
 sub-begins c = c .before .plain-to .ensures .after
 
-part-begins-start : tie.Need-part-begins-start Inv-loop μ-loop
-part-begins-start c = search needs
-
-part-begins-end : tie.Need-part-begins-end Inv-loop μ-loop
-part-begins-end c = search needs
-
-sub-begins-2 : tie.Need-sub-begins-2 Inv-loop μ-loop
-sub-begins-2 c = search needs
-
-part-begins-start-2 : tie.Need-part-begins-start-2 Inv-loop μ-loop
-part-begins-start-2 c = search needs
-
-part-begins-end-2 : tie.Need-part-begins-end-2 Inv-loop μ-loop
-part-begins-end-2 c = search needs
-
-begins-requires : tie.Need-begins-requires Inv-loop μ-loop
-begins-requires c κs = search needs
-
 returns-2 : tie.Need-returns-2 Inv-loop μ-loop
 returns-2 c = sym (c .before .before .before .before .before .before .before .loop .inv .1 .1 ∙ stretch-not (c .before .before .before .before .before .before .before .loop .scan) (c .before .before .before .before .before .before .before .before .before .before .before .before .args .s .now) (c .before .before .before .before .before .before .before .loop .i) (c .before .before .before .before .before .plain-to .result) _ (c .before .before .before .before .before .plain-to .ensures) (c .before .before .before .before .before .plain-to .result - c .before .before .before .before .before .before .before .loop .i) (plain-size (c .before .before .before .before .before .plain-to .ensures)) (c .before .before .before .before .before .before .before .before .before .before .before .before .args .t .now) (c .before .before .before .before .before .before .before .loop .j) (c .before .begins .result) (c .before .begins .ensures ∙ ap (begins _) (to-end (c .before .before .before .before .before .before .before .before .before .before .before .before .args .t .now) (c .before .before .before .before .before .before .before .loop .j))) (not-true _ (c .if3 .taken)))
-
-sub-j : tie.Need-sub-j Inv-loop μ-loop
-sub-j c = search needs
 
 add-j : tie.Need-add-j Inv-loop μ-loop
 add-j c = omega (arith, stretch-fits (c .before .before .before .before .before .before .before .loop .scan) (c .before .before .before .before .before .before .before .before .before .before .before .before .args .s .now) (c .before .before .before .before .before .before .before .loop .i) (c .before .before .before .before .before .plain-to .result) _ (c .before .before .before .before .before .plain-to .ensures) (c .before .before .before .before .before .plain-to .result - c .before .before .before .before .before .before .before .loop .i) (plain-size (c .before .before .before .before .before .plain-to .ensures)) (c .before .before .before .before .before .before .before .before .before .before .before .before .args .t .now) (c .before .before .before .before .before .before .before .loop .j) (c .before .begins .result) (c .before .begins .ensures ∙ ap (begins _) (to-end (c .before .before .before .before .before .before .before .before .before .before .before .before .args .t .now) (c .before .before .before .before .before .before .before .loop .j))) (omega arith) (not-false _ (c .if3 .left)))
@@ -68,18 +38,6 @@ loop-less c = omega (arith, c .before .before .before .before .before .plain-to 
 
 loop-again : tie.Need-loop-again Inv-loop μ-loop
 loop-again c = ((c .before .before .before .before .before .plain-to .ensures .fits, c .before .before .before .before .before .before .before .loop .inv .0 .1), (stretch-fits (c .before .before .before .before .before .before .before .loop .scan) (c .before .before .before .before .before .before .before .before .before .before .before .before .args .s .now) (c .before .before .before .before .before .before .before .loop .i) (c .before .before .before .before .before .plain-to .result) _ (c .before .before .before .before .before .plain-to .ensures) (c .before .before .before .before .before .plain-to .result - c .before .before .before .before .before .before .before .loop .i) (plain-size (c .before .before .before .before .before .plain-to .ensures)) (c .before .before .before .before .before .before .before .before .before .before .before .before .args .t .now) (c .before .before .before .before .before .before .before .loop .j) (c .before .begins .result) (c .before .begins .ensures ∙ ap (begins _) (to-end (c .before .before .before .before .before .before .before .before .before .before .before .before .args .t .now) (c .before .before .before .before .before .before .before .loop .j))) (omega arith) (not-false _ (c .if3 .left)), c .before .before .before .before .before .before .before .loop .inv .1 .1 ∙ stretch-same (c .before .before .before .before .before .before .before .loop .scan) (c .before .before .before .before .before .before .before .before .before .before .before .before .args .s .now) (c .before .before .before .before .before .before .before .loop .i) (c .before .before .before .before .before .plain-to .result) _ (c .before .before .before .before .before .plain-to .ensures) (c .before .before .before .before .before .plain-to .result - c .before .before .before .before .before .before .before .loop .i) (plain-size (c .before .before .before .before .before .plain-to .ensures)) (c .before .before .before .before .before .before .before .before .before .before .before .before .args .t .now) (c .before .before .before .before .before .before .before .loop .j) (c .before .begins .result) (c .before .begins .ensures ∙ ap (begins _) (to-end (c .before .before .before .before .before .before .before .before .before .before .before .before .args .t .now) (c .before .before .before .before .before .before .before .loop .j))) (not-false _ (c .if3 .left))))
-
-letter-at-requires : tie.Need-letter-at-requires Inv-loop μ-loop
-letter-at-requires c κs = search needs
-
-sub-t27 : tie.Need-sub-t27 Inv-loop μ-loop
-sub-t27 c = search needs
-
-slice-aggregate-goes-on : tie.Need-slice-aggregate-goes-on Inv-loop μ-loop
-slice-aggregate-goes-on c = search needs
-
-goes-on-requires : tie.Need-goes-on-requires Inv-loop μ-loop
-goes-on-requires c κs = search needs
 
 returns-3 : tie.Need-returns-3 Inv-loop μ-loop
 returns-3 c = sym (c .before .before .before .before .before .before .before .before .loop .inv .1 .1 ∙ stretch-not (c .before .before .before .before .before .before .before .before .loop .scan) (c .before .before .before .before .before .before .before .before .before .before .before .before .before .args .s .now) (c .before .before .before .before .before .before .before .before .loop .i) (c .before .before .before .before .before .before .before .before .loop .i + 2) _ (c .before .before .before .before .letter-at .ensures .0 (c .before .before .before .if4 .taken)) 1 refl (c .before .before .before .before .before .before .before .before .before .before .before .before .before .args .t .now) (c .before .before .before .before .before .before .before .before .loop .j) (c .before .goes-on .result) (c .before .goes-on .ensures) (not-true _ (c .if5 .taken)))
@@ -96,35 +54,17 @@ loop-less-2 c = omega (arith, c .before .before .before .before .letter-at .ensu
 loop-again-2 : tie.Need-loop-again-2 Inv-loop μ-loop
 loop-again-2 c = ((c .before .before .before .before .letter-at .ensures .0 (c .before .before .before .if4 .taken) .fits, c .before .before .before .before .before .before .before .before .loop .inv .0 .1), (stretch-fits (c .before .before .before .before .before .before .before .before .loop .scan) (c .before .before .before .before .before .before .before .before .before .before .before .before .before .args .s .now) (c .before .before .before .before .before .before .before .before .loop .i) (c .before .before .before .before .before .before .before .before .loop .i + 2) _ (c .before .before .before .before .letter-at .ensures .0 (c .before .before .before .if4 .taken)) 1 refl (c .before .before .before .before .before .before .before .before .before .before .before .before .before .args .t .now) (c .before .before .before .before .before .before .before .before .loop .j) (c .before .goes-on .result) (c .before .goes-on .ensures) (omega arith) (not-false _ (c .if5 .left)), c .before .before .before .before .before .before .before .before .loop .inv .1 .1 ∙ stretch-same (c .before .before .before .before .before .before .before .before .loop .scan) (c .before .before .before .before .before .before .before .before .before .before .before .before .before .args .s .now) (c .before .before .before .before .before .before .before .before .loop .i) (c .before .before .before .before .before .before .before .before .loop .i + 2) _ (c .before .before .before .before .letter-at .ensures .0 (c .before .before .before .if4 .taken)) 1 refl (c .before .before .before .before .before .before .before .before .before .before .before .before .before .args .t .now) (c .before .before .before .before .before .before .before .before .loop .j) (c .before .goes-on .result) (c .before .goes-on .ensures) (not-false _ (c .if5 .left))))
 
-shared-slice-read-step : tie.Need-shared-slice-read-step Inv-loop μ-loop
-shared-slice-read-step c = search needs
-
-step-requires : tie.Need-step-requires Inv-loop μ-loop
-step-requires c κs = search needs
-
-bytes-requires : tie.Need-bytes-requires Inv-loop μ-loop
-bytes-requires c κs = search needs
-
 array-share-prefix-b : tie.Need-array-share-prefix-b Inv-loop μ-loop
 array-share-prefix-b c = four-fits (c .before .step .result) (c .bytes .result) (c .bytes .ensures) (fair-more (c .before .before .before .before .before .before .before .before .loop .scan) (c .before .step .result) (c .before .before .before .before .before .before .before .before .before .before .before .before .before .args .s .now) (c .before .before .before .before .before .before .before .before .loop .i) (omega arith) (c .before .before .before .before .before .before .before .before .loop .inv .0 .1) (c .before .step .ensures) (c .before .before .shared-slice-known3 .given (c .before .before .before .before .before .before .before .before .loop .i) .fits) .small)
 
 slice-aggregate-goes-on-2 : tie.Need-slice-aggregate-goes-on-2 Inv-loop μ-loop
 slice-aggregate-goes-on-2 c = sym (length-take-le (c .before .before .step .result .n) (c .before .bytes .result) (four-fits (c .before .before .step .result) (c .before .bytes .result) (c .before .bytes .ensures) (fair-more (c .before .before .before .before .before .before .before .before .before .loop .scan) (c .before .before .step .result) (c .before .before .before .before .before .before .before .before .before .before .before .before .before .before .args .s .now) (c .before .before .before .before .before .before .before .before .before .loop .i) (omega arith) (c .before .before .before .before .before .before .before .before .before .loop .inv .0 .1) (c .before .before .step .ensures) (c .before .before .before .shared-slice-known3 .given (c .before .before .before .before .before .before .before .before .before .loop .i) .fits) .small)))
 
-goes-on-requires-2 : tie.Need-goes-on-requires-2 Inv-loop μ-loop
-goes-on-requires-2 c κs = search needs
-
 returns-4 : tie.Need-returns-4 Inv-loop μ-loop
 returns-4 c = sym (c .before .before .before .before .before .before .before .before .before .before .before .loop .inv .1 .1 ∙ same-not (c .before .before .before .before .before .before .before .before .before .before .before .loop .scan) (c .before .before .before .before .step .result) (c .before .before .before .before .before .before .before .before .before .before .before .before .before .before .before .before .args .s .now) (c .before .before .before .before .before .before .before .before .before .before .before .loop .i) (omega arith) (c .before .before .before .before .before .before .before .before .before .before .before .loop .inv .0 .1) (c .before .before .before .before .step .ensures) (c .before .before .before .before .before .shared-slice-known3 .given (c .before .before .before .before .before .before .before .before .before .before .before .loop .i) .fits) (c .before .before .before .bytes .result) (c .before .before .before .bytes .ensures) (c .before .before .before .before .before .before .before .before .before .before .before .before .before .before .before .before .args .t .now) (c .before .before .before .before .before .before .before .before .before .before .before .loop .j) (c .before .goes-on2 .result) (c .before .goes-on2 .ensures) (not-true _ (c .if6 .taken)))
 
 add-j-3 : tie.Need-add-j-3 Inv-loop μ-loop
 add-j-3 c = omega (arith, same-fits (c .before .before .before .before .before .before .before .before .before .before .before .loop .scan) (c .before .before .before .before .step .result) (c .before .before .before .before .before .before .before .before .before .before .before .before .before .before .before .before .args .s .now) (c .before .before .before .before .before .before .before .before .before .before .before .loop .i) (omega arith) (c .before .before .before .before .before .before .before .before .before .before .before .loop .inv .0 .1) (c .before .before .before .before .step .ensures) (c .before .before .before .before .before .shared-slice-known3 .given (c .before .before .before .before .before .before .before .before .before .before .before .loop .i) .fits) (c .before .before .before .bytes .result) (c .before .before .before .bytes .ensures) (c .before .before .before .before .before .before .before .before .before .before .before .before .before .before .before .before .args .t .now) (c .before .before .before .before .before .before .before .before .before .before .before .loop .j) (c .before .goes-on2 .result) (c .before .goes-on2 .ensures) (omega arith) (not-false _ (c .if6 .left)))
-
-add-i-2 : tie.Need-add-i-2 Inv-loop μ-loop
-add-i-2 c = search needs
-
-loop-less-3 : tie.Need-loop-less-3 Inv-loop μ-loop
-loop-less-3 c = search needs
 
 loop-again-3 : tie.Need-loop-again-3 Inv-loop μ-loop
 loop-again-3 c = ((omega arith, fair-more (c .before .before .before .before .before .before .before .before .before .before .before .loop .scan) (c .before .before .before .before .step .result) (c .before .before .before .before .before .before .before .before .before .before .before .before .before .before .before .before .args .s .now) (c .before .before .before .before .before .before .before .before .before .before .before .loop .i) (omega arith) (c .before .before .before .before .before .before .before .before .before .before .before .loop .inv .0 .1) (c .before .before .before .before .step .ensures) (c .before .before .before .before .before .shared-slice-known3 .given (c .before .before .before .before .before .before .before .before .before .before .before .loop .i) .fits)), (same-fits (c .before .before .before .before .before .before .before .before .before .before .before .loop .scan) (c .before .before .before .before .step .result) (c .before .before .before .before .before .before .before .before .before .before .before .before .before .before .before .before .args .s .now) (c .before .before .before .before .before .before .before .before .before .before .before .loop .i) (omega arith) (c .before .before .before .before .before .before .before .before .before .before .before .loop .inv .0 .1) (c .before .before .before .before .step .ensures) (c .before .before .before .before .before .shared-slice-known3 .given (c .before .before .before .before .before .before .before .before .before .before .before .loop .i) .fits) (c .before .before .before .bytes .result) (c .before .before .before .bytes .ensures) (c .before .before .before .before .before .before .before .before .before .before .before .before .before .before .before .before .args .t .now) (c .before .before .before .before .before .before .before .before .before .before .before .loop .j) (c .before .goes-on2 .result) (c .before .goes-on2 .ensures) (omega arith) (not-false _ (c .if6 .left)), c .before .before .before .before .before .before .before .before .before .before .before .loop .inv .1 .1 ∙ same-more (c .before .before .before .before .before .before .before .before .before .before .before .loop .scan) (c .before .before .before .before .step .result) (c .before .before .before .before .before .before .before .before .before .before .before .before .before .before .before .before .args .s .now) (c .before .before .before .before .before .before .before .before .before .before .before .loop .i) (omega arith) (c .before .before .before .before .before .before .before .before .before .before .before .loop .inv .0 .1) (c .before .before .before .before .step .ensures) (c .before .before .before .before .before .shared-slice-known3 .given (c .before .before .before .before .before .before .before .before .before .before .before .loop .i) .fits) (c .before .before .before .bytes .result) (c .before .before .before .bytes .ensures) (c .before .before .before .before .before .before .before .before .before .before .before .before .before .before .before .before .args .t .now) (c .before .before .before .before .before .before .before .before .before .before .before .loop .j) (c .before .goes-on2 .result) (c .before .goes-on2 .ensures) (not-false _ (c .if6 .left))))
@@ -138,41 +78,41 @@ same-from-spec =
     (tie.spec
     Inv-loop
     μ-loop
-    has-backslash-requires
-    same-requires
+    (λ c κs. search needs)
+    (λ c κs. search needs)
     returns
     loop-holds
-    plain-to-requires
+    (λ c κs. search needs)
     sub-begins
-    part-begins-start
-    part-begins-end
-    sub-begins-2
-    part-begins-start-2
-    part-begins-end-2
-    begins-requires
+    (λ c. search needs)
+    (λ c. search needs)
+    (λ c. search needs)
+    (λ c. search needs)
+    (λ c. search needs)
+    (λ c κs. search needs)
     returns-2
-    sub-j
+    (λ c. search needs)
     add-j
     loop-less
     loop-again
-    letter-at-requires
-    sub-t27
-    slice-aggregate-goes-on
-    goes-on-requires
+    (λ c κs. search needs)
+    (λ c. search needs)
+    (λ c. search needs)
+    (λ c κs. search needs)
     returns-3
     add-j-2
     add-i
     loop-less-2
     loop-again-2
-    shared-slice-read-step
-    step-requires
-    bytes-requires
+    (λ c. search needs)
+    (λ c κs. search needs)
+    (λ c κs. search needs)
     array-share-prefix-b
     slice-aggregate-goes-on-2
-    goes-on-requires-2
+    (λ c κs. search needs)
     returns-4
     add-j-3
-    add-i-2
-    loop-less-3
+    (λ c. search needs)
+    (λ c. search needs)
     loop-again-3
     returns-5)

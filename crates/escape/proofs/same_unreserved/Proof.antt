@@ -3,14 +3,8 @@ use borrow.Author.Needs.{needs}
 use Rattle.escape.proofs.same_unreserved.Statement.{statement}
 use Rattle.escape.proofs.same_unreserved.Tie as tie
 
-name-requires : tie.Need-name-requires
-name-requires c κs = search needs
-
-same-from-requires : tie.Need-same-from-requires
-same-from-requires c κs = name-starts (c .name .result) (c .name .ensures)
-
 returns : tie.Need-returns
 returns c = name-same (c .before .name .result) (c .before .name .ensures) (c .before .before .before .before .args .s .now) (c .before .before .before .before .args .t .now) (c .same-from .result) (c .same-from .ensures)
 
 pub same-unreserved-spec : {M : Type 1} → statement M
-same-unreserved-spec = tie.close (tie.spec name-requires same-from-requires returns)
+same-unreserved-spec = tie.close (tie.spec (λ c κs. search needs) (λ c κs. name-starts (c .name .result) (c .name .ensures)) returns)

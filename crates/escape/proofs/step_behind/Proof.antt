@@ -13,16 +13,10 @@ returns-2 : tie.Need-returns-2
 unfolding step-behind
 returns-2 c = simp (eq-eqb _ _ (c .if2 .taken), ne-eqb _ _ (c .before .if1 .left))
 
-letter-value-requires : tie.Need-letter-value-requires
-letter-value-requires c κs = search needs
-
-wide-requires : tie.Need-wide-requires
-wide-requires c κs = search needs
-
 returns-3 : tie.Need-returns-3
 unfolding step-behind
-returns-3 c = simp (ne-eqb _ _ (c .before .before .if2 .left), ne-eqb _ _ (c .before .before .before .if1 .left), c .wide .ensures, c .before .letter-value .ensures)
+returns-3 c = simp (ne-eqb _ _ (c .before .before .if2 .left), ne-eqb _ _ (c .before .before .before .if1 .left), c .wide .ensures .0, c .before .letter-value .ensures)
 
 pub step-behind-spec : {M : Type 1} → statement M
 step-behind-spec =
-    tie.close (tie.spec returns returns-2 letter-value-requires wide-requires returns-3)
+    tie.close (tie.spec returns returns-2 (λ c κs. search needs) (λ c κs. search needs) returns-3)

@@ -6,24 +6,9 @@ use borrow.Author.Needs.{needs}
 use Rattle.escape.proofs.step_escape.Statement.{statement}
 use Rattle.escape.proofs.step_escape.Tie as tie
 
-step-behind-requires : tie.Need-step-behind-requires
-step-behind-requires c κs = search needs
-
 returns : tie.Need-returns
 unfolding step-escape
 returns c = simp (eq-eqb _ _ (c .before .if1 .taken)) (c .step-behind .ensures)
-
-mul-step-digit : tie.Need-mul-step-digit
-mul-step-digit c = search needs
-
-hex-value-requires : tie.Need-hex-value-requires
-hex-value-requires c κs = search needs
-
-add-step-digit : tie.Need-add-step-digit
-add-step-digit c = search needs
-
-step-digit-requires : tie.Need-step-digit-requires
-step-digit-requires c κs = search needs
 
 returns-2 : tie.Need-returns-2
 unfolding step-escape
@@ -33,10 +18,10 @@ pub step-escape-spec : {M : Type 1} → statement M
 step-escape-spec =
     tie.close
     (tie.spec
-    step-behind-requires
+    (λ c κs. search needs)
     returns
-    mul-step-digit
-    hex-value-requires
-    add-step-digit
-    step-digit-requires
+    (λ c. search needs)
+    (λ c κs. search needs)
+    (λ c. search needs)
+    (λ c κs. search needs)
     returns-2)

@@ -8,12 +8,9 @@ returns : tie.Need-returns
 unfolding step-name
 returns c = simp (eq-eqb _ _ (c .if1 .taken))
 
-wide-requires : tie.Need-wide-requires
-wide-requires c κs = search needs
-
 returns-2 : tie.Need-returns-2
 unfolding step-name
-returns-2 c = simp (ne-eqb _ _ (c .before .if1 .left), c .wide .ensures)
+returns-2 c = simp (ne-eqb _ _ (c .before .if1 .left), c .wide .ensures .0)
 
 pub step-name-spec : {M : Type 1} → statement M
-step-name-spec = tie.close (tie.spec returns wide-requires returns-2)
+step-name-spec = tie.close (tie.spec returns (λ c κs. search needs) returns-2)

@@ -3,12 +3,6 @@ use native.Mathlib.Omega.{arith}
 use Rattle.escape.proofs.width_of.Statement.{statement}
 use Rattle.escape.proofs.width_of.Tie as tie
 
-returns : tie.Need-returns
-returns c = (simp (lt-ltb _ _ (c .if1 .taken)), omega arith)
-
-returns-2 : tie.Need-returns-2
-returns-2 c = (simp (lt-ltb _ _ (c .if2 .taken), le-ltb _ _ (c .before .if1 .left)), omega arith)
-
 returns-3 : tie.Need-returns-3
 returns-3 c = (simp (lt-ltb _ _ (c .if3 .taken), le-ltb _ _ (c .before .if2 .left), le-ltb _ _ (c .before .before .if1 .left)), omega arith)
 
@@ -16,4 +10,4 @@ returns-4 : tie.Need-returns-4
 returns-4 c = (simp (le-ltb _ _ (c .if3 .left), le-ltb _ _ (c .before .if2 .left), le-ltb _ _ (c .before .before .if1 .left)), omega arith)
 
 pub width-of-spec : {M : Type 1} → statement M
-width-of-spec = tie.close (tie.spec returns returns-2 returns-3 returns-4)
+width-of-spec = tie.close (tie.spec (λ c. (simp (lt-ltb _ _ (c .if1 .taken)), omega arith)) (λ c. (simp (lt-ltb _ _ (c .if2 .taken), le-ltb _ _ (c .before .if1 .left)), omega arith)) returns-3 returns-4)

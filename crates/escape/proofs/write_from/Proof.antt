@@ -19,23 +19,11 @@ Inv-loop s out₀ scan₀ i₀ j₀ out scan i j = ((i ≤ length s) × Fair sca
 abbrev μ-loop : tie.MeasureT-loop
 μ-loop s out₀ scan₀ i₀ j₀ out scan i j = length s - i
 
-has-backslash-requires : tie.Need-has-backslash-requires Inv-loop μ-loop
-has-backslash-requires c κs = search needs
-
-copy-requires : tie.Need-copy-requires Inv-loop μ-loop
-copy-requires c κs = search needs
-
-same-length : tie.Need-same-length Inv-loop μ-loop
-same-length c = search needs
-
 returns : tie.Need-returns Inv-loop μ-loop
 returns c = plain-written (c .before .before .before .before .before .before .before .before .args .start) (c .before .before .before .before .before .before .before .before .pre) (c .before .before .before .before .before .before .before .before .args .s .now) (sym (c .before .before .before .before .before .has-backslash .ensures) ∙ not-true _ (c .before .before .before .before .if1 .taken)) (c .before .before .before .before .before .before .before .before .args .out .now) (c .before .before .copy .last .1 .0) (λ i. c .before .before .before .before .before .before .before .shared-slice-known .given i .fits) (c .before .before .copy .ensures)
 
 loop-holds : tie.Need-loop-holds Inv-loop μ-loop
 loop-holds c = ((omega arith, c .before .before .before .before .pre .fair), halfway-start _ (c .before .before .before .before .args .out .now))
-
-plain-to-requires : tie.Need-plain-to-requires Inv-loop μ-loop
-plain-to-requires c κs = search needs
 
 sub-put-plain : tie.Need-sub-put-plain Inv-loop μ-loop
 sub-put-plain c = c .before .before .plain-to .ensures .after
@@ -45,9 +33,6 @@ part-put-plain-start c = c .before .before .plain-to .ensures .after
 
 part-put-plain-end : tie.Need-part-put-plain-end Inv-loop μ-loop
 part-put-plain-end c = c .before .before .plain-to .ensures .fits
-
-put-plain-requires : tie.Need-put-plain-requires Inv-loop μ-loop
-put-plain-requires c κs = search needs
 
 sub-j : tie.Need-sub-j Inv-loop μ-loop
 sub-j c = c .before .before .before .before .before .before .plain-to .ensures .after
@@ -60,15 +45,6 @@ loop-less c = omega (arith, c .before .before .before .before .before .before .p
 
 loop-again : tie.Need-loop-again Inv-loop μ-loop
 loop-again c = ((c .before .before .before .before .before .before .plain-to .ensures .fits, c .before .before .before .before .before .before .before .before .loop .inv .0 .1), stretch-written (c .before .before .before .before .before .before .before .before .loop .scan) (c .before .before .before .before .before .before .before .before .before .before .before .before .before .args .s .now) (c .before .before .before .before .before .before .before .before .loop .i) (c .before .before .before .before .before .before .plain-to .result) _ (c .before .before .before .before .before .before .plain-to .ensures) (c .before .before .before .before .before .before .plain-to .result - c .before .before .before .before .before .before .before .before .loop .i) (plain-size (c .before .before .before .before .before .before .plain-to .ensures)) (undone (c .before .before .before .before .before .before .before .before .before .before .before .before .before .args .start) (c .before .before .before .before .before .before .before .before .before .before .before .before .before .args .s .now)) (c .before .before .before .before .before .before .before .before .before .before .before .before .before .args .out .now) (c .before .before .before .before .before .before .before .before .loop .out) _ (c .before .before .before .before .before .before .before .before .loop .j) (c .before .before .before .before .before .before .before .before .loop .inv .1) (c .before .before .put-plain .ensures ∙ ap (λ (p : Text). over-at (c .before .before .before .before .before .before .before .before .loop .j) p (c .before .before .before .before .before .before .before .before .loop .out)) (plain-low (c .before .before .before .before .before .before .before .before .before .before .before .before .before .args .s .now) (c .before .before .before .before .before .before .before .before .loop .i) (c .before .before .before .before .before .before .plain-to .result) (λ i. c .before .before .before .before .before .before .before .before .before .before .before .before .shared-slice-known .given i .fits))))
-
-letter-at-requires : tie.Need-letter-at-requires Inv-loop μ-loop
-letter-at-requires c κs = search needs
-
-sub-t27 : tie.Need-sub-t27 Inv-loop μ-loop
-sub-t27 c = search needs
-
-slice-aggregate-put : tie.Need-slice-aggregate-put Inv-loop μ-loop
-slice-aggregate-put c = search needs
 
 put-requires : tie.Need-put-requires Inv-loop μ-loop
 put-requires c κs = omega (arith, stretch-length (c .before .before .before .before .before .before .before .loop .scan) (c .before .before .before .before .before .before .before .before .before .before .before .before .args .s .now) (c .before .before .before .before .before .before .before .loop .i) (c .before .before .before .before .before .before .before .loop .i + 2) _ (c .before .before .before .letter-at .ensures .0 (c .before .before .if3 .taken)) 1 refl, halfway-fits _ _ _ _ _ (c .before .before .before .before .before .before .before .loop .inv .1), c .before .before .before .before .before .before .before .before .before .before .before .before .pre .short (c .before .before .before .before .before .before .before .before .before .before .before .before .args .s .now))
@@ -85,15 +61,6 @@ loop-less-2 c = omega (arith, c .before .before .before .before .before .before 
 loop-again-2 : tie.Need-loop-again-2 Inv-loop μ-loop
 loop-again-2 c = ((c .before .before .before .before .before .before .letter-at .ensures .0 (c .before .before .before .before .before .if3 .taken) .fits, c .before .before .before .before .before .before .before .before .before .before .loop .inv .0 .1), stretch-written (c .before .before .before .before .before .before .before .before .before .before .loop .scan) (c .before .before .before .before .before .before .before .before .before .before .before .before .before .before .before .args .s .now) (c .before .before .before .before .before .before .before .before .before .before .loop .i) (c .before .before .before .before .before .before .before .before .before .before .loop .i + 2) _ (c .before .before .before .before .before .before .letter-at .ensures .0 (c .before .before .before .before .before .if3 .taken)) 1 refl (undone (c .before .before .before .before .before .before .before .before .before .before .before .before .before .before .before .args .start) (c .before .before .before .before .before .before .before .before .before .before .before .before .before .before .before .args .s .now)) (c .before .before .before .before .before .before .before .before .before .before .before .before .before .before .before .args .out .now) (c .before .before .before .before .before .before .before .before .before .before .loop .out) _ (c .before .before .before .before .before .before .before .before .before .before .loop .j) (c .before .before .before .before .before .before .before .before .before .before .loop .inv .1) (c .before .before .put .ensures))
 
-shared-slice-read-step : tie.Need-shared-slice-read-step Inv-loop μ-loop
-shared-slice-read-step c = search needs
-
-step-requires : tie.Need-step-requires Inv-loop μ-loop
-step-requires c κs = search needs
-
-bytes-requires : tie.Need-bytes-requires Inv-loop μ-loop
-bytes-requires c κs = search needs
-
 array-share-prefix-b : tie.Need-array-share-prefix-b Inv-loop μ-loop
 array-share-prefix-b c = four-fits (c .before .before .step .result) (c .before .bytes .result) (c .before .bytes .ensures) (fair-more (c .before .before .before .before .before .before .before .before .before .loop .scan) (c .before .before .step .result) (c .before .before .before .before .before .before .before .before .before .before .before .before .before .before .args .s .now) (c .before .before .before .before .before .before .before .before .before .loop .i) (omega arith) (c .before .before .before .before .before .before .before .before .before .loop .inv .0 .1) (c .before .before .step .ensures) (c .before .before .before .shared-slice-known2 .given (c .before .before .before .before .before .before .before .before .before .loop .i) .fits) .small)
 
@@ -105,12 +72,6 @@ put-requires-2 c κs = omega (arith, length-take-le (c .before .before .before .
 
 add-j-3 : tie.Need-add-j-3 Inv-loop μ-loop
 add-j-3 c = omega (arith, length-more (c .before .before .before .before .before .before .before .before .before .before .before .before .before .loop .scan) (c .before .before .before .before .before .before .step .result) (c .before .before .before .before .before .before .before .before .before .before .before .before .before .before .before .before .before .before .args .s .now) (c .before .before .before .before .before .before .before .before .before .before .before .before .before .loop .i) (omega arith) (c .before .before .before .before .before .before .before .before .before .before .before .before .before .loop .inv .0 .1) (c .before .before .before .before .before .before .step .ensures) (c .before .before .before .before .before .before .before .shared-slice-known2 .given (c .before .before .before .before .before .before .before .before .before .before .before .before .before .loop .i) .fits), halfway-fits _ _ _ _ _ (c .before .before .before .before .before .before .before .before .before .before .before .before .before .loop .inv .1), c .before .before .before .before .before .before .before .before .before .before .before .before .before .before .before .before .before .before .pre .short (c .before .before .before .before .before .before .before .before .before .before .before .before .before .before .before .before .before .before .args .s .now))
-
-add-i-2 : tie.Need-add-i-2 Inv-loop μ-loop
-add-i-2 c = search needs
-
-loop-less-3 : tie.Need-loop-less-3 Inv-loop μ-loop
-loop-less-3 c = search needs
 
 loop-again-3 : tie.Need-loop-again-3 Inv-loop μ-loop
 loop-again-3 c = ((omega arith, fair-more (c .before .before .before .before .before .before .before .before .before .before .before .before .before .loop .scan) (c .before .before .before .before .before .before .step .result) (c .before .before .before .before .before .before .before .before .before .before .before .before .before .before .before .before .before .before .args .s .now) (c .before .before .before .before .before .before .before .before .before .before .before .before .before .loop .i) (omega arith) (c .before .before .before .before .before .before .before .before .before .before .before .before .before .loop .inv .0 .1) (c .before .before .before .before .before .before .step .ensures) (c .before .before .before .before .before .before .before .shared-slice-known2 .given (c .before .before .before .before .before .before .before .before .before .before .before .before .before .loop .i) .fits)), halfway-turn (c .before .before .before .before .before .before .before .before .before .before .before .before .before .loop .scan) (c .before .before .before .before .before .before .step .result) (c .before .before .before .before .before .before .before .before .before .before .before .before .before .before .before .before .before .before .args .s .now) (c .before .before .before .before .before .before .before .before .before .before .before .before .before .loop .i) (omega arith) (c .before .before .before .before .before .before .before .before .before .before .before .before .before .loop .inv .0 .1) (c .before .before .before .before .before .before .step .ensures) (c .before .before .before .before .before .before .before .shared-slice-known2 .given (c .before .before .before .before .before .before .before .before .before .before .before .before .before .loop .i) .fits) (c .before .before .before .before .before .bytes .result) (c .before .before .before .before .before .bytes .ensures) (undone (c .before .before .before .before .before .before .before .before .before .before .before .before .before .before .before .before .before .before .args .start) (c .before .before .before .before .before .before .before .before .before .before .before .before .before .before .before .before .before .before .args .s .now)) (c .before .before .before .before .before .before .before .before .before .before .before .before .before .before .before .before .before .before .args .out .now) (c .before .before .before .before .before .before .before .before .before .before .before .before .before .loop .out) _ (c .before .before .before .before .before .before .before .before .before .before .before .before .before .loop .j) (c .before .before .before .before .before .before .before .before .before .before .before .before .before .loop .inv .1) (c .before .before .put2 .ensures))
@@ -127,37 +88,37 @@ write-from-spec =
     (tie.spec
     Inv-loop
     μ-loop
-    has-backslash-requires
-    copy-requires
-    same-length
+    (λ c κs. search needs)
+    (λ c κs. search needs)
+    (λ c. search needs)
     returns
     loop-holds
-    plain-to-requires
+    (λ c κs. search needs)
     sub-put-plain
     part-put-plain-start
     part-put-plain-end
-    put-plain-requires
+    (λ c κs. search needs)
     sub-j
     add-j
     loop-less
     loop-again
-    letter-at-requires
-    sub-t27
-    slice-aggregate-put
+    (λ c κs. search needs)
+    (λ c. search needs)
+    (λ c. search needs)
     put-requires
     add-j-2
     add-i
     loop-less-2
     loop-again-2
-    shared-slice-read-step
-    step-requires
-    bytes-requires
+    (λ c. search needs)
+    (λ c κs. search needs)
+    (λ c κs. search needs)
     array-share-prefix-b
     slice-aggregate-put-2
     put-requires-2
     add-j-3
-    add-i-2
-    loop-less-3
+    (λ c. search needs)
+    (λ c. search needs)
     loop-again-3
     same-length-2
     returns-2)

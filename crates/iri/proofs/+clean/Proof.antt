@@ -29,14 +29,6 @@ clean-returns : (t : ℕ) → clean-lts.Need-returns (
 ) (clean-at t) clean.Post
 clean-returns t c = cleaned-none (c .before .args .b .now) (c .before .args .at) (c .before .args .end) (c .before .args .w) (omega arith) (omega arith) (omega arith)
 
-clean-take-turn-requires : (t : ℕ) → clean-lts.Need-take-turn-requires (
-  take-turn-reads.Asked,
-  take-turn-reads.Learnt,
-  clean-below t,
-  clean.Post,
-) (clean-at t) clean.Post
-clean-take-turn-requires t c κs = search needs
-
 clean-clean-requires : (t : ℕ) → clean-lts.Need-clean-requires (
   take-turn-reads.Asked,
   take-turn-reads.Learnt,
@@ -63,6 +55,6 @@ pub +clean-spec : {M : Type 1} → statement M
     (clean-at t)
     clean.Post
     (clean-returns t)
-    (clean-take-turn-requires t)
+    (λ c κs. search needs)
     (clean-clean-requires t)
     (clean-returns-2 t)

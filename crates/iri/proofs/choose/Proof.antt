@@ -5,9 +5,6 @@ use borrow.Author.Needs.{needs}
 use Rattle.iri.proofs.choose.Statement.{statement}
 use Rattle.iri.proofs.choose.Tie as tie
 
-add-t14 : tie.Need-add-t14
-add-t14 c = search needs
-
 returns : tie.Need-returns
 unfolding plan-by
 returns c = simp (lt-ltb _ _ (c .if1 .taken))
@@ -20,24 +17,9 @@ returns-3 : tie.Need-returns-3
 unfolding plan-by
 returns-3 c = simp (ne-eqb _ _ (c .if3 .left), eq-eqb _ _ (c .before .if2 .taken), le-ltb _ _ (c .before .before .if1 .left))
 
-shared-slice-read-if4 : tie.Need-shared-slice-read-if4
-shared-slice-read-if4 c = search needs
-
 returns-4 : tie.Need-returns-4
 unfolding plan-by
 returns-4 c = simp (eq-eqb _ _ (c .if4 .taken), ne-eqb _ _ (c .before .before .if2 .left), le-ltb _ _ (c .before .before .before .if1 .left))
-
-sub-slash-end : tie.Need-sub-slash-end
-sub-slash-end c = search needs
-
-part-slash-end-start : tie.Need-part-slash-end-start
-part-slash-end-start c = search needs
-
-part-slash-end-end : tie.Need-part-slash-end-end
-part-slash-end-end c = search needs
-
-slash-end-requires : tie.Need-slash-end-requires
-slash-end-requires c κs = search needs
 
 add-t19 : tie.Need-add-t19
 add-t19 c = let h = slash-fits (c .before .before .before .before .before .before .before .before .before .args .base .now) (c .before .before .before .before .before .before .before .before .before .args .b .authority) (c .before .before .before .before .before .before .before .before .before .args .b .path) (c .slash-end .result) (c .slash-end .ensures) in search needs
@@ -58,16 +40,16 @@ pub choose-spec : {M : Type 1} → statement M
 choose-spec =
     tie.close
     (tie.spec
-    add-t14
+    (λ c. search needs)
     returns
     returns-2
     returns-3
-    shared-slice-read-if4
+    (λ c. search needs)
     returns-4
-    sub-slash-end
-    part-slash-end-start
-    part-slash-end-end
-    slash-end-requires
+    (λ c. search needs)
+    (λ c. search needs)
+    (λ c. search needs)
+    (λ c κs. search needs)
     add-t19
     returns-5
     returns-6

@@ -14,20 +14,8 @@ Inv-loop b w n₀ n = (n ≤ w) × (slash-end (b .now) w ≡ slash-end (b .now) 
 abbrev μ-loop : tie.MeasureT-loop
 μ-loop b w n₀ n = n
 
-loop-holds : tie.Need-loop-holds Inv-loop μ-loop
-loop-holds c = search needs
-
-sub-n : tie.Need-sub-n Inv-loop μ-loop
-sub-n c = search needs
-
-index-1-if1 : tie.Need-index-1-if1 Inv-loop μ-loop
-index-1-if1 c = search needs
-
 returns : tie.Need-returns Inv-loop μ-loop
 returns c = let n : c .before .before .before .loop .n - 1 + 1 ≡ c .before .before .before .loop .n = omega arith in (refl, omega (arith, c .before .before .before .loop .inv .1, rw n at (cut-here (c .before .before .before .before .args .b .now .now) (c .before .before .before .loop .n - 1) (c .if1 .taken))))
-
-loop-less : tie.Need-loop-less Inv-loop μ-loop
-loop-less c = search needs
 
 loop-again : tie.Need-loop-again Inv-loop μ-loop
 loop-again c = let n : c .before .before .before .loop .n - 1 + 1 ≡ c .before .before .before .loop .n = omega arith in (omega arith, c .before .before .before .loop .inv .1 ∙ rw n at (cut-on (c .before .before .before .before .args .b .now .now) (c .before .before .before .loop .n - 1) (c .if1 .left)))
@@ -39,4 +27,4 @@ returns-2 c = let n : c .before .loop .n ≡ 0 = omega arith in (refl, omega (ar
 pub cut-spec : {M : Type 1} → statement M
 cut-spec =
     tie.close
-    (tie.spec Inv-loop μ-loop loop-holds sub-n index-1-if1 returns loop-less loop-again returns-2)
+    (tie.spec Inv-loop μ-loop (λ c. search needs) (λ c. search needs) (λ c. search needs) returns (λ c. search needs) loop-again returns-2)

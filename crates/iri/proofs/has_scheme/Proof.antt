@@ -6,26 +6,11 @@ use borrow.Author.Needs.{needs}
 use Rattle.iri.proofs.has_scheme.Statement.{statement}
 use Rattle.iri.proofs.has_scheme.Tie as tie
 
-returns : tie.Need-returns
-returns c = no-scheme-empty (c .before .before .args .s .now) (c .if1 .taken)
-
-shared-slice-read-is-letter : tie.Need-shared-slice-read-is-letter
-shared-slice-read-is-letter c = search needs
-
-is-letter-requires : tie.Need-is-letter-requires
-is-letter-requires c κs = search needs
-
 returns-2 : tie.Need-returns-2
 returns-2 c = no-scheme-letter (c .before .before .before .before .before .args .s .now) (omega arith) (sym (c .before .is-letter .ensures) ∙ not-true _ (c .if2 .taken))
 
-find-requires : tie.Need-find-requires
-find-requires c κs = search needs
-
 returns-3 : tie.Need-returns-3
 returns-3 c = no-scheme-end (c .before .before .before .before .before .before .before .args .s .now) (c .before .find .result) (c .before .find .ensures) (c .if3 .taken)
-
-shared-slice-read-result : tie.Need-shared-slice-read-result
-shared-slice-read-result c = search needs
 
 returns-4 : tie.Need-returns-4
 returns-4 c = scheme-there (c .before .before .before .before .before .before .before .before .args .s .now) (c .before .before .find .result) (c .before .before .find .ensures) (c .before .if3 .left) (sym (c .before .before .before .before .is-letter .ensures) ∙ not-false _ (c .before .before .before .if2 .left))
@@ -34,11 +19,11 @@ pub has-scheme-spec : {M : Type 1} → statement M
 has-scheme-spec =
     tie.close
     (tie.spec
-    returns
-    shared-slice-read-is-letter
-    is-letter-requires
+    (λ c. no-scheme-empty (c .before .before .args .s .now) (c .if1 .taken))
+    (λ c. search needs)
+    (λ c κs. search needs)
     returns-2
-    find-requires
+    (λ c κs. search needs)
     returns-3
-    shared-slice-read-result
+    (λ c. search needs)
     returns-4)

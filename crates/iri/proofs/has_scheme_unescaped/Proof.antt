@@ -20,44 +20,14 @@ Inv-loop s scan₀ first₀ i₀ scan first i = ((i ≤ length s) × Fair scan) 
 abbrev μ-loop : tie.MeasureT-loop
 μ-loop s scan₀ first₀ i₀ scan first i = length s - i
 
-text-requires : tie.Need-text-requires Inv-loop μ-loop
-text-requires c κs = search needs
-
 loop-holds : tie.Need-loop-holds Inv-loop μ-loop
 loop-holds c = ((omega arith, fair-start (c .text .result) (c .text .ensures)), walk-start (c .text .result) (c .text .ensures) (c .before .before .args .s .now))
-
-shared-slice-read-step : tie.Need-shared-slice-read-step Inv-loop μ-loop
-shared-slice-read-step c = search needs
-
-step-requires : tie.Need-step-requires Inv-loop μ-loop
-step-requires c κs = search needs
-
-judge-requires : tie.Need-judge-requires Inv-loop μ-loop
-judge-requires c κs = search needs
-
-enum-told : tie.Need-enum-told Inv-loop μ-loop
-enum-told c = search needs
 
 returns : tie.Need-returns Inv-loop μ-loop
 returns c = sym (c .before .before .before .before .before .before .loop .inv .1 ∙ walk-yes (c .before .before .before .before .before .before .loop .scan) (c .before .before .before .step .result) (c .before .before .before .before .before .before .before .before .before .args .s .now) (c .before .before .before .before .before .before .loop .i) (omega arith) (c .before .before .before .before .before .before .loop .inv .0 .1) (c .before .before .before .step .ensures) (c .before .before .before .before .shared-slice-known2 .given (c .before .before .before .before .before .before .loop .i) .fits) (c .before .before .before .before .before .before .loop .first) (c .before .before .judge .result) (c .before .before .judge .ensures) (c .enum-told .given .1))
 
-enum-told-2 : tie.Need-enum-told-2 Inv-loop μ-loop
-enum-told-2 c = search needs
-
 returns-2 : tie.Need-returns-2 Inv-loop μ-loop
 returns-2 c = sym (c .before .before .before .before .before .before .loop .inv .1 ∙ walk-no (c .before .before .before .before .before .before .loop .scan) (c .before .before .before .step .result) (c .before .before .before .before .before .before .before .before .before .args .s .now) (c .before .before .before .before .before .before .loop .i) (omega arith) (c .before .before .before .before .before .before .loop .inv .0 .1) (c .before .before .before .step .ensures) (c .before .before .before .before .shared-slice-known2 .given (c .before .before .before .before .before .before .loop .i) .fits) (c .before .before .before .before .before .before .loop .first) (c .before .before .judge .result) (c .before .before .judge .ensures) (c .enum-told2 .given .1))
-
-enum-told-3 : tie.Need-enum-told-3 Inv-loop μ-loop
-enum-told-3 c = search needs
-
-still-first-requires : tie.Need-still-first-requires Inv-loop μ-loop
-still-first-requires c κs = search needs
-
-add-i : tie.Need-add-i Inv-loop μ-loop
-add-i c = search needs
-
-loop-less : tie.Need-loop-less Inv-loop μ-loop
-loop-less c = search needs
 
 loop-again : tie.Need-loop-again Inv-loop μ-loop
 loop-again c = ((omega arith, fair-more (c .before .before .before .before .before .before .before .loop .scan) (c .before .before .before .before .step .result) (c .before .before .before .before .before .before .before .before .before .before .args .s .now) (c .before .before .before .before .before .before .before .loop .i) (omega arith) (c .before .before .before .before .before .before .before .loop .inv .0 .1) (c .before .before .before .before .step .ensures) (c .before .before .before .before .before .shared-slice-known2 .given (c .before .before .before .before .before .before .before .loop .i) .fits)), c .before .before .before .before .before .before .before .loop .inv .1 ∙ walk-more (c .before .before .before .before .before .before .before .loop .scan) (c .before .before .before .before .step .result) (c .before .before .before .before .before .before .before .before .before .before .args .s .now) (c .before .before .before .before .before .before .before .loop .i) (omega arith) (c .before .before .before .before .before .before .before .loop .inv .0 .1) (c .before .before .before .before .step .ensures) (c .before .before .before .before .before .shared-slice-known2 .given (c .before .before .before .before .before .before .before .loop .i) .fits) (c .before .before .before .before .before .before .before .loop .first) (c .before .before .before .judge .result) (c .before .before .before .judge .ensures) (c .still-first .result) (c .still-first .ensures) (c .before .enum-told3 .given .1))
@@ -71,18 +41,18 @@ has-scheme-unescaped-spec =
     (tie.spec
     Inv-loop
     μ-loop
-    text-requires
+    (λ c κs. search needs)
     loop-holds
-    shared-slice-read-step
-    step-requires
-    judge-requires
-    enum-told
+    (λ c. search needs)
+    (λ c κs. search needs)
+    (λ c κs. search needs)
+    (λ c. search needs)
     returns
-    enum-told-2
+    (λ c. search needs)
     returns-2
-    enum-told-3
-    still-first-requires
-    add-i
-    loop-less
+    (λ c. search needs)
+    (λ c κs. search needs)
+    (λ c. search needs)
+    (λ c. search needs)
     loop-again
     returns-3)

@@ -19,20 +19,8 @@ abbrev μ-loop : tie.MeasureT-loop
 loop-holds : tie.Need-loop-holds Inv-loop μ-loop
 loop-holds c = (omega arith, refl)
 
-shared-slice-read-is-forbidden : tie.Need-shared-slice-read-is-forbidden Inv-loop μ-loop
-shared-slice-read-is-forbidden c = search needs
-
-is-forbidden-requires : tie.Need-is-forbidden-requires Inv-loop μ-loop
-is-forbidden-requires c κs = search needs
-
 returns : tie.Need-returns Inv-loop μ-loop
 returns c = sym (c .before .before .before .before .loop .inv .1 ∙ some-here forbidden (c .before .before .before .before .before .before .args .s .now) (c .before .before .before .before .loop .i) (omega arith) (sym (c .before .is-forbidden .ensures) ∙ c .if1 .taken))
-
-add-i : tie.Need-add-i Inv-loop μ-loop
-add-i c = search needs
-
-loop-less : tie.Need-loop-less Inv-loop μ-loop
-loop-less c = search needs
 
 loop-again : tie.Need-loop-again Inv-loop μ-loop
 loop-again c = (omega arith, c .before .before .before .before .loop .inv .1 ∙ some-further forbidden (c .before .before .before .before .before .before .args .s .now) (c .before .before .before .before .loop .i) (omega arith) (sym (c .before .is-forbidden .ensures) ∙ c .if1 .left))
@@ -47,10 +35,10 @@ holds-forbidden-spec =
     Inv-loop
     μ-loop
     loop-holds
-    shared-slice-read-is-forbidden
-    is-forbidden-requires
+    (λ c. search needs)
+    (λ c κs. search needs)
     returns
-    add-i
-    loop-less
+    (λ c. search needs)
+    (λ c. search needs)
     loop-again
     returns-2)

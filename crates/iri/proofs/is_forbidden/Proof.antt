@@ -3,12 +3,6 @@ use borrow.Author.Tests.{le-leb, lt-leb, eq-eqb, ne-eqb}
 use Rattle.iri.proofs.is_forbidden.Statement.{statement}
 use Rattle.iri.proofs.is_forbidden.Tie as tie
 
-returns : tie.Need-returns
-returns c = simp (le-leb _ _ (c .if1 .taken))
-
-returns-2 : tie.Need-returns-2
-returns-2 c = simp (eq-eqb _ _ (c .if2 .taken), lt-leb _ _ (c .before .if1 .left))
-
 returns-3 : tie.Need-returns-3
 returns-3 c = simp (eq-eqb _ _ (c .if3 .taken), ne-eqb _ _ (c .before .if2 .left), lt-leb _ _ (c .before .before .if1 .left))
 
@@ -37,8 +31,8 @@ pub is-forbidden-spec : {M : Type 1} → statement M
 is-forbidden-spec =
     tie.close
     (tie.spec
-    returns
-    returns-2
+    (λ c. simp (le-leb _ _ (c .if1 .taken)))
+    (λ c. simp (eq-eqb _ _ (c .if2 .taken), lt-leb _ _ (c .before .if1 .left)))
     returns-3
     returns-4
     returns-5

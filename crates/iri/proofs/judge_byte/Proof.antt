@@ -5,9 +5,6 @@ use borrow.Author.Needs.{needs}
 use Rattle.iri.proofs.judge_byte.Statement.{statement}
 use Rattle.iri.proofs.judge_byte.Tie as tie
 
-is-letter-requires : tie.Need-is-letter-requires
-is-letter-requires c κs = search needs
-
 returns : tie.Need-returns
 unfolding verdict
 returns c = rw (c .before .before .if1 .taken, sym (c .before .is-letter .ensures) ∙ c .if2 .taken)
@@ -15,9 +12,6 @@ returns c = rw (c .before .before .if1 .taken, sym (c .before .is-letter .ensure
 returns-2 : tie.Need-returns-2
 unfolding verdict
 returns-2 c = rw (c .before .before .if1 .taken, sym (c .before .is-letter .ensures) ∙ c .if2 .left)
-
-is-scheme-byte-requires : tie.Need-is-scheme-byte-requires
-is-scheme-byte-requires c κs = search needs
 
 returns-3 : tie.Need-returns-3
 unfolding verdict
@@ -35,10 +29,10 @@ pub judge-byte-spec : {M : Type 1} → statement M
 judge-byte-spec =
     tie.close
     (tie.spec
-    is-letter-requires
+    (λ c κs. search needs)
     returns
     returns-2
-    is-scheme-byte-requires
+    (λ c κs. search needs)
     returns-3
     returns-4
     returns-5)

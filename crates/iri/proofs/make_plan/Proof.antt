@@ -6,18 +6,6 @@ use borrow.Author.Needs.{needs}
 use Rattle.iri.proofs.make_plan.Statement.{statement}
 use Rattle.iri.proofs.make_plan.Tie as tie
 
-find-requires : tie.Need-find-requires
-find-requires c κs = search needs
-
-add-k : tie.Need-add-k
-add-k c = search needs
-
-part-ends-requires : tie.Need-part-ends-requires
-part-ends-requires c κs = search needs
-
-part-ends-requires-2 : tie.Need-part-ends-requires-2
-part-ends-requires-2 c κs = search needs
-
 choose-requires : tie.Need-choose-requires
 choose-requires c κs =
     let e : c .before .before .find .result + 1 ≤ length (c .before .before .before .before .before .args .base .now) = omega (arith, c .before .before .find .ensures, c .before .before .before .before .before .pre) in
@@ -31,4 +19,4 @@ returns c = plan-as (c .before .before .before .before .before .before .args .ba
 pub make-plan-spec : {M : Type 1} → statement M
 make-plan-spec =
     tie.close
-    (tie.spec find-requires add-k part-ends-requires part-ends-requires-2 choose-requires returns)
+    (tie.spec (λ c κs. search needs) (λ c. search needs) (λ c κs. search needs) (λ c κs. search needs) choose-requires returns)

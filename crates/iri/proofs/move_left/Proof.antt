@@ -19,23 +19,11 @@ abbrev μ-loop : tie.MeasureT-loop
 loop-holds : tie.Need-loop-holds Inv-loop μ-loop
 loop-holds c = (omega arith, over-at-start (c .args .to) (take (c .args .n) (drop (c .args .start) (c .args .out .now))) (c .args .out .now))
 
-add-c : tie.Need-add-c Inv-loop μ-loop
-add-c c = search needs
-
 slice-read-c : tie.Need-slice-read-c Inv-loop μ-loop
 slice-read-c c = omega (arith, ap length (c .before .before .loop .inv .1), over-at-length (c .before .before .before .args .to) (take (c .before .before .loop .i) (take (c .before .before .before .args .n) (drop (c .before .before .before .args .start) (c .before .before .before .args .out .now)))) (c .before .before .before .args .out .now))
 
-add-out : tie.Need-add-out Inv-loop μ-loop
-add-out c = search needs
-
 slice-write-out : tie.Need-slice-write-out Inv-loop μ-loop
 slice-write-out c = omega (arith, ap length (c .before .before .loop .inv .1), over-at-length (c .before .before .before .args .to) (take (c .before .before .loop .i) (take (c .before .before .before .args .n) (drop (c .before .before .before .args .start) (c .before .before .before .args .out .now)))) (c .before .before .before .args .out .now))
-
-add-i : tie.Need-add-i Inv-loop μ-loop
-add-i c = search needs
-
-loop-less : tie.Need-loop-less Inv-loop μ-loop
-loop-less c = search needs
 
 loop-again : tie.Need-loop-again Inv-loop μ-loop
 loop-again c = (omega arith, moves-on (c .before .before .before .args .out .now) (c .before .before .loop .out) (c .before .before .before .args .start) (c .before .before .before .args .n) (c .before .before .before .args .to) (c .before .before .loop .i) (omega arith) (omega arith) (omega arith) (c .before .before .loop .inv .1))
@@ -53,12 +41,12 @@ move-left-spec =
     Inv-loop
     μ-loop
     loop-holds
-    add-c
+    (λ c. search needs)
     slice-read-c
-    add-out
+    (λ c. search needs)
     slice-write-out
-    add-i
-    loop-less
+    (λ c. search needs)
+    (λ c. search needs)
     loop-again
     same-length
     returns)

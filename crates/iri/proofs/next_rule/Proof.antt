@@ -6,20 +6,11 @@ use borrow.Author.Needs.{needs}
 use Rattle.iri.proofs.next_rule.Statement.{statement}
 use Rattle.iri.proofs.next_rule.Tie as tie
 
-peek-requires : tie.Need-peek-requires
-peek-requires c κs = search needs
-
-peek-requires-2 : tie.Need-peek-requires-2
-peek-requires-2 c κs = (search needs, omega (arith, len-of (c .before .peek .ensures .0)))
-
 peek-requires-3 : tie.Need-peek-requires-3
 peek-requires-3 c κs = (search needs, omega (arith, len-of (c .before .before .before .peek .ensures .0), len-of (c .before .peek2 .ensures .0)))
 
 peek-requires-4 : tie.Need-peek-requires-4
 peek-requires-4 c κs = (search needs, omega (arith, len-of (c .before .before .before .before .before .peek .ensures .0), len-of (c .before .before .before .peek2 .ensures .0), len-of (c .before .peek3 .ensures .0)))
-
-sub-which : tie.Need-sub-which
-sub-which c = search needs
 
 which-requires : tie.Need-which-requires
 which-requires c κs = λ e. past-read (c .before .before .before .before .before .before .before .before .args .b .now .now) _ (c .before .before .before .before .before .before .before .before .args .at) (c .before .before .before .before .before .before .before .before .args .end) _ (omega arith) (now-of (c .before .before .before .before .before .before .peek .ensures .0)) (c .before .before .before .before .peek2 .ensures .1) e
@@ -31,10 +22,10 @@ pub next-rule-spec : {M : Type 1} → statement M
 next-rule-spec =
     tie.close
     (tie.spec
-    peek-requires
-    peek-requires-2
+    (λ c κs. search needs)
+    (λ c κs. (search needs, omega (arith, len-of (c .before .peek .ensures .0))))
     peek-requires-3
     peek-requires-4
-    sub-which
+    (λ c. search needs)
     which-requires
     returns)

@@ -8,9 +8,6 @@ use borrow.Author.Needs.{needs}
 use Rattle.iri.proofs.part_ends.Statement.{statement}
 use Rattle.iri.proofs.part_ends.Tie as tie
 
-authority-end-requires : tie.Need-authority-end-requires
-authority-end-requires c κs = search needs
-
 find-requires : tie.Need-find-requires
 find-requires c κs = omega (arith, authority-most (drop (c .before .before .args .start) (c .before .before .args .s .now)), length-drop (c .before .before .args .start) (c .before .before .args .s .now), c .authority-end .ensures)
 
@@ -21,4 +18,4 @@ returns : tie.Need-returns
 returns c = ends-are (c .before .before .before .before .args .s .now) (c .before .before .before .before .args .start) _ _ _ (c .before .before .authority-end .ensures) (c .before .find .ensures) (c .find2 .ensures)
 
 pub part-ends-spec : {M : Type 1} → statement M
-part-ends-spec = tie.close (tie.spec authority-end-requires find-requires find-requires-2 returns)
+part-ends-spec = tie.close (tie.spec (λ c κs. search needs) find-requires find-requires-2 returns)

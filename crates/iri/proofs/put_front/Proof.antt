@@ -9,21 +9,6 @@ use Rattle.iri.proofs.put_front.Tie as tie
 slice-aggregate-copy : tie.Need-slice-aggregate-copy
 slice-aggregate-copy c = sym (length-take-le (c .before .before .before .args .p .keep) (c .before .before .before .args .base .now) (omega arith))
 
-copy-requires : tie.Need-copy-requires
-copy-requires c κs = search needs
-
-put-slash-requires : tie.Need-put-slash-requires
-put-slash-requires c κs = search needs
-
-add-move-left : tie.Need-add-move-left
-add-move-left c = search needs
-
-move-left-requires : tie.Need-move-left-requires
-move-left-requires c κs = search needs
-
-same-length : tie.Need-same-length
-same-length c = search needs
-
 returns : tie.Need-returns
 returns c = front-put (c .before .before .before .before .before .before .before .before .before .before .before .before .before .before .before .args .base .now) (c .before .before .before .before .before .before .before .before .before .before .before .before .before .before .before .args .out .now) _ _ _ (c .before .before .before .before .before .before .before .before .before .before .before .before .before .before .before .args .p .keep) (c .before .before .before .before .before .before .before .before .before .before .before .before .before .before .before .args .p .slash) (c .before .before .before .before .before .before .before .before .before .before .before .before .before .before .before .args .p .path) (c .before .before .before .before .before .before .before .before .before .before .before .before .before .before .before .args .start) (omega arith) (omega arith) (c .before .before .before .before .before .before .before .before .before .before .copy .ensures) (c .before .before .before .before .before .before .put-slash .ensures) (c .before .before .move-left .ensures)
 
@@ -32,9 +17,9 @@ put-front-spec =
     tie.close
     (tie.spec
     slice-aggregate-copy
-    copy-requires
-    put-slash-requires
-    add-move-left
-    move-left-requires
-    same-length
+    (λ c κs. search needs)
+    (λ c κs. search needs)
+    (λ c. search needs)
+    (λ c κs. search needs)
+    (λ c. search needs)
     returns)

@@ -7,9 +7,6 @@ use borrow.Author.Needs.{needs}
 use Rattle.iri.proofs.put_resolved.Statement.{statement}
 use Rattle.iri.proofs.put_resolved.Tie as tie
 
-add-end : tie.Need-add-end
-add-end c = search needs
-
 add-end-2 : tie.Need-add-end-2
 add-end-2 c = let f = plan-facts (c .before .before .before .args .base .now) (drop (c .before .before .before .args .start) (c .before .before .before .args .out .now)) (c .before .before .before .pre .0 .0 .0) (c .before .before .before .args .p) (c .before .before .before .pre .0 .1) in let l = length-drop (c .before .before .before .args .start) (c .before .before .before .args .out .now) in omega arith
 
@@ -22,17 +19,11 @@ sub-remove-dots c = let f = plan-facts (c .before .before .before .before .befor
 part-remove-dots-start : tie.Need-part-remove-dots-start
 part-remove-dots-start c = let f = plan-facts (c .before .before .before .before .before .before .before .args .base .now) (drop (c .before .before .before .before .before .before .before .args .start) (c .before .before .before .before .before .before .before .args .out .now)) (c .before .before .before .before .before .before .before .pre .0 .0 .0) (c .before .before .before .before .before .before .before .args .p) (c .before .before .before .before .before .before .before .pre .0 .1) in let l = length-drop (c .before .before .before .before .before .before .before .args .start) (c .before .before .before .before .before .before .before .args .out .now) in omega (arith, end-fits (c .before .before .before .before .before .before .before .args .base .now) (c .before .before .before .before .before .before .before .args .out .now) (c .before .before .before .before .before .before .before .args .start) (c .before .before .before .before .before .before .before .pre .0 .0 .0) (c .before .before .before .before .before .before .before .pre .0 .0 .1) (c .before .before .before .before .before .before .before .args .p) (c .before .before .before .before .before .before .before .pre .0 .1) (c .before .before .before .before .before .before .before .pre .1) (c .before .before .put-front .last .1 .0) (c .before .before .put-front .ensures))
 
-part-remove-dots-end : tie.Need-part-remove-dots-end
-part-remove-dots-end c = search needs
-
 sub-remove-dots-2 : tie.Need-sub-remove-dots-2
 sub-remove-dots-2 c = let f = plan-facts (c .before .before .before .before .before .before .before .before .args .base .now) (drop (c .before .before .before .before .before .before .before .before .args .start) (c .before .before .before .before .before .before .before .before .args .out .now)) (c .before .before .before .before .before .before .before .before .pre .0 .0 .0) (c .before .before .before .before .before .before .before .before .args .p) (c .before .before .before .before .before .before .before .before .pre .0 .1) in let l = length-drop (c .before .before .before .before .before .before .before .before .args .start) (c .before .before .before .before .before .before .before .before .args .out .now) in omega (arith, f .start)
 
 remove-dots-requires : tie.Need-remove-dots-requires
 remove-dots-requires c κs = let f = plan-facts (c .before .before .before .before .before .before .before .before .args .base .now) (drop (c .before .before .before .before .before .before .before .before .args .start) (c .before .before .before .before .before .before .before .before .args .out .now)) (c .before .before .before .before .before .before .before .before .pre .0 .0 .0) (c .before .before .before .before .before .before .before .before .args .p) (c .before .before .before .before .before .before .before .before .pre .0 .1) in let l = length-drop (c .before .before .before .before .before .before .before .before .args .start) (c .before .before .before .before .before .before .before .before .args .out .now) in omega (arith, end-fits (c .before .before .before .before .before .before .before .before .args .base .now) (c .before .before .before .before .before .before .before .before .args .out .now) (c .before .before .before .before .before .before .before .before .args .start) (c .before .before .before .before .before .before .before .before .pre .0 .0 .0) (c .before .before .before .before .before .before .before .before .pre .0 .0 .1) (c .before .before .before .before .before .before .before .before .args .p) (c .before .before .before .before .before .before .before .before .pre .0 .1) (c .before .before .before .before .before .before .before .before .pre .1) (c .before .before .before .put-front .last .1 .0) (c .before .before .before .put-front .ensures), part-length (c .before .before .before .put-front .last .1 .0) (c .before .before .before .before .before .before .before .before .args .p .from) (length (c .before .before .before .put-front .last .1 .0) - c .before .before .before .before .before .before .before .before .args .p .from) refl)
-
-sub-n : tie.Need-sub-n
-sub-n c = search needs
 
 sub-n-2 : tie.Need-sub-n-2
 sub-n-2 c = let f = plan-facts (c .before .before .before .before .before .before .before .before .before .before .before .args .base .now) (drop (c .before .before .before .before .before .before .before .before .before .before .before .args .start) (c .before .before .before .before .before .before .before .before .before .before .before .args .out .now)) (c .before .before .before .before .before .before .before .before .before .before .before .pre .0 .0 .0) (c .before .before .before .before .before .before .before .before .before .before .before .args .p) (c .before .before .before .before .before .before .before .before .before .before .before .pre .0 .1) in let l = length-drop (c .before .before .before .before .before .before .before .before .before .before .before .args .start) (c .before .before .before .before .before .before .before .before .before .before .before .args .out .now) in omega (arith, end-fits (c .before .before .before .before .before .before .before .before .before .before .before .args .base .now) (c .before .before .before .before .before .before .before .before .before .before .before .args .out .now) (c .before .before .before .before .before .before .before .before .before .before .before .args .start) (c .before .before .before .before .before .before .before .before .before .before .before .pre .0 .0 .0) (c .before .before .before .before .before .before .before .before .before .before .before .pre .0 .0 .1) (c .before .before .before .before .before .before .before .before .before .before .before .args .p) (c .before .before .before .before .before .before .before .before .before .before .before .pre .0 .1) (c .before .before .before .before .before .before .before .before .before .before .before .pre .1) (c .before .before .before .before .before .before .put-front .last .1 .0) (c .before .before .before .before .before .before .put-front .ensures), front-size (c .before .before .before .before .before .before .before .before .before .before .before .args .base .now) (c .before .before .before .before .before .before .before .before .before .before .before .args .out .now) (c .before .before .before .before .before .before .before .before .before .before .before .args .start) (c .before .before .before .before .before .before .before .before .before .before .before .pre .0 .0 .0) (c .before .before .before .before .before .before .before .before .before .before .before .pre .0 .0 .1) (c .before .before .before .before .before .before .before .before .before .before .before .args .p) (c .before .before .before .before .before .before .before .before .before .before .before .pre .0 .1) (c .before .before .before .before .before .before .before .before .before .before .before .pre .1) (c .before .before .before .before .before .before .put-front .last .1 .0) (c .before .before .before .before .before .before .put-front .ensures), path-size (c .before .before .before .before .before .before .before .before .before .before .before .args .base .now) (c .before .before .before .before .before .before .before .before .before .before .before .args .out .now) (c .before .before .before .before .before .before .before .before .before .before .before .args .start) (c .before .before .before .before .before .before .before .before .before .before .before .pre .0 .0 .0) (c .before .before .before .before .before .before .before .before .before .before .before .pre .0 .0 .1) (c .before .before .before .before .before .before .before .before .before .before .before .args .p) (c .before .before .before .before .before .before .before .before .before .before .before .pre .0 .1) (c .before .before .before .before .before .before .before .before .before .before .before .pre .1) (c .before .before .before .before .before .before .put-front .last .1 .0) (c .before .before .before .before .before .before .put-front .ensures) (c .before .before .remove-dots .last .0) _ (c .before .before .remove-dots .result) (length (c .before .before .before .before .before .before .put-front .last .1 .0) - c .before .before .before .before .before .before .before .before .before .before .before .args .p .from) refl (c .before .before .remove-dots .ensures) refl, path-short (c .before .before .before .before .before .before .before .before .before .before .before .args .base .now) (c .before .before .before .before .before .before .before .before .before .before .before .args .out .now) (c .before .before .before .before .before .before .before .before .before .before .before .args .start) (c .before .before .before .before .before .before .before .before .before .before .before .pre .0 .0 .0) (c .before .before .before .before .before .before .before .before .before .before .before .pre .0 .0 .1) (c .before .before .before .before .before .before .before .before .before .before .before .args .p) (c .before .before .before .before .before .before .before .before .before .before .before .pre .0 .1) (c .before .before .before .before .before .before .before .before .before .before .before .pre .1) (c .before .before .before .before .before .before .put-front .last .1 .0) (c .before .before .before .before .before .before .put-front .ensures) (c .before .before .remove-dots .last .0) _ (c .before .before .remove-dots .result) (length (c .before .before .before .before .before .before .put-front .last .1 .0) - c .before .before .before .before .before .before .before .before .before .before .before .args .p .from) refl (c .before .before .remove-dots .ensures) refl)
@@ -52,9 +43,6 @@ add-result c = let f = plan-facts (c .before .before .before .before .before .be
 add-result-2 : tie.Need-add-result-2
 add-result-2 c = let f = plan-facts (c .before .before .before .before .before .before .before .before .before .before .before .before .before .before .before .args .base .now) (drop (c .before .before .before .before .before .before .before .before .before .before .before .before .before .before .before .args .start) (c .before .before .before .before .before .before .before .before .before .before .before .before .before .before .before .args .out .now)) (c .before .before .before .before .before .before .before .before .before .before .before .before .before .before .before .pre .0 .0 .0) (c .before .before .before .before .before .before .before .before .before .before .before .before .before .before .before .args .p) (c .before .before .before .before .before .before .before .before .before .before .before .before .before .before .before .pre .0 .1) in let l = length-drop (c .before .before .before .before .before .before .before .before .before .before .before .before .before .before .before .args .start) (c .before .before .before .before .before .before .before .before .before .before .before .before .before .before .before .args .out .now) in omega (arith, end-fits (c .before .before .before .before .before .before .before .before .before .before .before .before .before .before .before .args .base .now) (c .before .before .before .before .before .before .before .before .before .before .before .before .before .before .before .args .out .now) (c .before .before .before .before .before .before .before .before .before .before .before .before .before .before .before .args .start) (c .before .before .before .before .before .before .before .before .before .before .before .before .before .before .before .pre .0 .0 .0) (c .before .before .before .before .before .before .before .before .before .before .before .before .before .before .before .pre .0 .0 .1) (c .before .before .before .before .before .before .before .before .before .before .before .before .before .before .before .args .p) (c .before .before .before .before .before .before .before .before .before .before .before .before .before .before .before .pre .0 .1) (c .before .before .before .before .before .before .before .before .before .before .before .before .before .before .before .pre .1) (c .before .before .before .before .before .before .before .before .before .before .put-front .last .1 .0) (c .before .before .before .before .before .before .before .before .before .before .put-front .ensures), front-size (c .before .before .before .before .before .before .before .before .before .before .before .before .before .before .before .args .base .now) (c .before .before .before .before .before .before .before .before .before .before .before .before .before .before .before .args .out .now) (c .before .before .before .before .before .before .before .before .before .before .before .before .before .before .before .args .start) (c .before .before .before .before .before .before .before .before .before .before .before .before .before .before .before .pre .0 .0 .0) (c .before .before .before .before .before .before .before .before .before .before .before .before .before .before .before .pre .0 .0 .1) (c .before .before .before .before .before .before .before .before .before .before .before .before .before .before .before .args .p) (c .before .before .before .before .before .before .before .before .before .before .before .before .before .before .before .pre .0 .1) (c .before .before .before .before .before .before .before .before .before .before .before .before .before .before .before .pre .1) (c .before .before .before .before .before .before .before .before .before .before .put-front .last .1 .0) (c .before .before .before .before .before .before .before .before .before .before .put-front .ensures), path-size (c .before .before .before .before .before .before .before .before .before .before .before .before .before .before .before .args .base .now) (c .before .before .before .before .before .before .before .before .before .before .before .before .before .before .before .args .out .now) (c .before .before .before .before .before .before .before .before .before .before .before .before .before .before .before .args .start) (c .before .before .before .before .before .before .before .before .before .before .before .before .before .before .before .pre .0 .0 .0) (c .before .before .before .before .before .before .before .before .before .before .before .before .before .before .before .pre .0 .0 .1) (c .before .before .before .before .before .before .before .before .before .before .before .before .before .before .before .args .p) (c .before .before .before .before .before .before .before .before .before .before .before .before .before .before .before .pre .0 .1) (c .before .before .before .before .before .before .before .before .before .before .before .before .before .before .before .pre .1) (c .before .before .before .before .before .before .before .before .before .before .put-front .last .1 .0) (c .before .before .before .before .before .before .before .before .before .before .put-front .ensures) (c .before .before .before .before .before .before .remove-dots .last .0) _ (c .before .before .before .before .before .before .remove-dots .result) (length (c .before .before .before .before .before .before .before .before .before .before .put-front .last .1 .0) - c .before .before .before .before .before .before .before .before .before .before .before .before .before .before .before .args .p .from) refl (c .before .before .before .before .before .before .remove-dots .ensures) refl, path-short (c .before .before .before .before .before .before .before .before .before .before .before .before .before .before .before .args .base .now) (c .before .before .before .before .before .before .before .before .before .before .before .before .before .before .before .args .out .now) (c .before .before .before .before .before .before .before .before .before .before .before .before .before .before .before .args .start) (c .before .before .before .before .before .before .before .before .before .before .before .before .before .before .before .pre .0 .0 .0) (c .before .before .before .before .before .before .before .before .before .before .before .before .before .before .before .pre .0 .0 .1) (c .before .before .before .before .before .before .before .before .before .before .before .before .before .before .before .args .p) (c .before .before .before .before .before .before .before .before .before .before .before .before .before .before .before .pre .0 .1) (c .before .before .before .before .before .before .before .before .before .before .before .before .before .before .before .pre .1) (c .before .before .before .before .before .before .before .before .before .before .put-front .last .1 .0) (c .before .before .before .before .before .before .before .before .before .before .put-front .ensures) (c .before .before .before .before .before .before .remove-dots .last .0) _ (c .before .before .before .before .before .before .remove-dots .result) (length (c .before .before .before .before .before .before .before .before .before .before .put-front .last .1 .0) - c .before .before .before .before .before .before .before .before .before .before .before .before .before .before .before .args .p .from) refl (c .before .before .before .before .before .before .remove-dots .ensures) refl)
 
-same-length : tie.Need-same-length
-same-length c = search needs
-
 returns : tie.Need-returns
 returns c = whole-put (c .before .before .before .before .before .before .before .before .before .before .before .before .before .before .before .args .base .now) (c .before .before .before .before .before .before .before .before .before .before .before .before .before .before .before .args .out .now) (c .before .before .before .before .before .before .before .before .before .before .before .before .before .before .before .args .start) (c .before .before .before .before .before .before .before .before .before .before .before .before .before .before .before .pre .0 .0 .0) (c .before .before .before .before .before .before .before .before .before .before .before .before .before .before .before .pre .0 .0 .1) (c .before .before .before .before .before .before .before .before .before .before .before .before .before .before .before .args .p) (c .before .before .before .before .before .before .before .before .before .before .before .before .before .before .before .pre .0 .1) (c .before .before .before .before .before .before .before .before .before .before .before .before .before .before .before .pre .1) (c .before .before .before .before .before .before .before .before .before .before .put-front .last .1 .0) (c .before .before .before .before .before .before .before .before .before .before .put-front .ensures) (c .before .before .before .before .before .before .remove-dots .last .0) _ (c .before .before .before .before .before .before .remove-dots .result) (length (c .before .before .before .before .before .before .before .before .before .before .put-front .last .1 .0) - c .before .before .before .before .before .before .before .before .before .before .before .before .before .before .before .args .p .from) refl (c .before .before .before .before .before .before .remove-dots .ensures) refl _ _ _ refl refl (c .before .before .move-left .ensures)
 
@@ -62,20 +50,20 @@ pub put-resolved-spec : {M : Type 1} → statement M
 put-resolved-spec =
     tie.close
     (tie.spec
-    add-end
+    (λ c. search needs)
     add-end-2
     put-front-requires
     sub-remove-dots
     part-remove-dots-start
-    part-remove-dots-end
+    (λ c. search needs)
     sub-remove-dots-2
     remove-dots-requires
-    sub-n
+    (λ c. search needs)
     sub-n-2
     add-move-left
     add-move-left-2
     move-left-requires
     add-result
     add-result-2
-    same-length
+    (λ c. search needs)
     returns)

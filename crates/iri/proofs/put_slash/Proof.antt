@@ -4,12 +4,6 @@ use borrow.Author.Needs.{needs}
 use Rattle.iri.proofs.put_slash.Statement.{statement}
 use Rattle.iri.proofs.put_slash.Tie as tie
 
-slice-write-out : tie.Need-slice-write-out
-slice-write-out c = search needs
-
-same-length : tie.Need-same-length
-same-length c = search needs
-
 returns : tie.Need-returns
 returns c = one-slash (c .before .args .out .now) (c .before .args .at) (c .before .args .n) (c .if1 .taken) (omega arith)
 
@@ -17,4 +11,4 @@ returns-2 : tie.Need-returns-2
 returns-2 c = no-slash (c .before .args .out .now) (c .before .args .at) (c .before .args .n) (omega arith) (c .if1 .left)
 
 pub put-slash-spec : {M : Type 1} → statement M
-put-slash-spec = tie.close (tie.spec slice-write-out same-length returns returns-2)
+put-slash-spec = tie.close (tie.spec (λ c. search needs) (λ c. search needs) returns returns-2)

@@ -21,15 +21,6 @@ abbrev μ-loop : tie.MeasureT-loop
 loop-holds : tie.Need-loop-holds Inv-loop μ-loop
 loop-holds c = (moved-none (c .args .b .now) (c .args .at) (c .args .w) (omega arith), (omega arith, λ h. absurd (omega arith)))
 
-add-loop : tie.Need-add-loop Inv-loop μ-loop
-add-loop c = search needs
-
-add-c : tie.Need-add-c Inv-loop μ-loop
-add-c c = search needs
-
-index-1-c : tie.Need-index-1-c Inv-loop μ-loop
-index-1-c c = search needs
-
 returns : tie.Need-returns Inv-loop μ-loop
 returns c = let x = c .before .before .before .before .before .args .b .now in
     let at : ℕ = c .before .before .before .before .before .args .at in
@@ -38,18 +29,6 @@ returns c = let x = c .before .before .before .before .before .args .b .now in
     let long : length (window (x .now) at end) ≡ end - at = window-length (x .now) at end (omega arith) in
     let next : getD (c .before .before .before .before .loop .b .now) (at + n) 0 ≡ getD (window (x .now) at end) n 0 = moved-next x (c .before .before .before .before .loop .b) at end (c .before .before .before .before .before .args .w) n (c .before .before .before .before .loop .inv .0) (omega arith) in
     (segment-stop (window (x .now) at end) n (omega arith) (omega arith) (c .before .before .before .before .loop .inv .1 .1) (sym next ∙ c .before .if1 .taken), c .before .before .before .before .loop .inv .0)
-
-add-b : tie.Need-add-b Inv-loop μ-loop
-add-b c = search needs
-
-index-1-b : tie.Need-index-1-b Inv-loop μ-loop
-index-1-b c = search needs
-
-add-n : tie.Need-add-n Inv-loop μ-loop
-add-n c = search needs
-
-loop-less : tie.Need-loop-less Inv-loop μ-loop
-loop-less c = search needs
 
 loop-again : tie.Need-loop-again Inv-loop μ-loop
 loop-again c = let x = c .before .before .before .before .args .b .now in
@@ -80,13 +59,13 @@ shift-spec =
     Inv-loop
     μ-loop
     loop-holds
-    add-loop
-    add-c
-    index-1-c
+    (λ c. search needs)
+    (λ c. search needs)
+    (λ c. search needs)
     returns
-    add-b
-    index-1-b
-    add-n
-    loop-less
+    (λ c. search needs)
+    (λ c. search needs)
+    (λ c. search needs)
+    (λ c. search needs)
     loop-again
     returns-2)

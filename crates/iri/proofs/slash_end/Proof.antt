@@ -18,20 +18,8 @@ abbrev μ-loop : tie.MeasureT-loop
 loop-holds : tie.Need-loop-holds Inv-loop μ-loop
 loop-holds c = (omega arith, refl)
 
-sub-if1 : tie.Need-sub-if1 Inv-loop μ-loop
-sub-if1 c = search needs
-
-shared-slice-read-if1 : tie.Need-shared-slice-read-if1 Inv-loop μ-loop
-shared-slice-read-if1 c = search needs
-
 returns : tie.Need-returns Inv-loop μ-loop
 returns c = let n : c .before .before .before .loop .n - 1 + 1 ≡ c .before .before .before .loop .n = omega arith in sym (c .before .before .before .loop .inv .1 ∙ rw n at (cut-here (c .before .before .before .before .args .s .now) (c .before .before .before .loop .n - 1) (c .if1 .taken)))
-
-sub-n : tie.Need-sub-n Inv-loop μ-loop
-sub-n c = search needs
-
-loop-less : tie.Need-loop-less Inv-loop μ-loop
-loop-less c = search needs
 
 loop-again : tie.Need-loop-again Inv-loop μ-loop
 loop-again c = let n : c .before .before .before .loop .n - 1 + 1 ≡ c .before .before .before .loop .n = omega arith in (omega arith, c .before .before .before .loop .inv .1 ∙ rw n at (cut-on (c .before .before .before .before .args .s .now) (c .before .before .before .loop .n - 1) (c .if1 .left)))
@@ -47,10 +35,10 @@ slash-end-spec =
     Inv-loop
     μ-loop
     loop-holds
-    sub-if1
-    shared-slice-read-if1
+    (λ c. search needs)
+    (λ c. search needs)
     returns
-    sub-n
-    loop-less
+    (λ c. search needs)
+    (λ c. search needs)
     loop-again
     returns-2)

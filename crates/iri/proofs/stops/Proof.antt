@@ -6,30 +6,6 @@ use borrow.Author.Needs.{needs}
 use Rattle.iri.proofs.stops.Statement.{statement}
 use Rattle.iri.proofs.stops.Tie as tie
 
-enum-told : tie.Need-enum-told
-enum-told c = search needs
-
-ends-authority-requires : tie.Need-ends-authority-requires
-ends-authority-requires c κs = search needs
-
-enum-told-2 : tie.Need-enum-told-2
-enum-told-2 c = search needs
-
-ends-path-requires : tie.Need-ends-path-requires
-ends-path-requires c κs = search needs
-
-enum-told-3 : tie.Need-enum-told-3
-enum-told-3 c = search needs
-
-enum-told-4 : tie.Need-enum-told-4
-enum-told-4 c = search needs
-
-is-scheme-byte-requires : tie.Need-is-scheme-byte-requires
-is-scheme-byte-requires c κs = search needs
-
-enum-told-5 : tie.Need-enum-told-5
-enum-told-5 c = search needs
-
 returns : tie.Need-returns
 unfolding stop
 returns c = stop-as (c .before .before .before .args .c) (c .before .enum-told .given .1) (c .ends-authority .ensures)
@@ -54,14 +30,14 @@ pub stops-spec : {M : Type 1} → statement M
 stops-spec =
     tie.close
     (tie.spec
-    enum-told
-    ends-authority-requires
-    enum-told-2
-    ends-path-requires
-    enum-told-3
-    enum-told-4
-    is-scheme-byte-requires
-    enum-told-5
+    (λ c. search needs)
+    (λ c κs. search needs)
+    (λ c. search needs)
+    (λ c κs. search needs)
+    (λ c. search needs)
+    (λ c. search needs)
+    (λ c κs. search needs)
+    (λ c. search needs)
     returns
     returns-2
     returns-3

@@ -8,56 +8,17 @@ use borrow.Author.Needs.{needs}
 use Rattle.iri.proofs.take_turn.Statement.{statement}
 use Rattle.iri.proofs.take_turn.Tie as tie
 
-next-rule-requires : tie.Need-next-rule-requires
-next-rule-requires c κs = search needs
-
-enum-told : tie.Need-enum-told
-enum-told c = search needs
-
 add-t9 : tie.Need-add-t9
 add-t9 c = let h = long (c .before .before .before .before .args .b .now) (c .before .before .before .before .args .at) (c .before .before .before .before .args .end) (c .before .before .before .before .args .w) (omega arith) (omega arith) (omega arith) (c .before .before .next-rule .result) (c .before .before .next-rule .ensures .1) UpSlash (c .enum-told .given .1) in search needs
-
-enum-told-2 : tie.Need-enum-told-2
-enum-told-2 c = search needs
 
 add-t10 : tie.Need-add-t10
 add-t10 c = let h = long (c .before .before .before .before .args .b .now) (c .before .before .before .before .args .at) (c .before .before .before .before .args .end) (c .before .before .before .before .args .w) (omega arith) (omega arith) (omega arith) (c .before .before .next-rule .result) (c .before .before .next-rule .ensures .1) HereSlash (c .enum-told2 .given .1) in search needs
 
-enum-told-3 : tie.Need-enum-told-3
-enum-told-3 c = search needs
-
 add-t11 : tie.Need-add-t11
 add-t11 c = let h = long (c .before .before .before .before .args .b .now) (c .before .before .before .before .args .at) (c .before .before .before .before .args .end) (c .before .before .before .before .args .w) (omega arith) (omega arith) (omega arith) (c .before .before .next-rule .result) (c .before .before .next-rule .ensures .1) SlashHere (c .enum-told3 .given .1) in search needs
 
-enum-told-4 : tie.Need-enum-told-4
-enum-told-4 c = search needs
-
-add-t12 : tie.Need-add-t12
-add-t12 c = search needs
-
-enum-told-5 : tie.Need-enum-told-5
-enum-told-5 c = search needs
-
 add-t13 : tie.Need-add-t13
 add-t13 c = let h = long (c .before .before .before .before .args .b .now) (c .before .before .before .before .args .at) (c .before .before .before .before .args .end) (c .before .before .before .before .args .w) (omega arith) (omega arith) (omega arith) (c .before .before .next-rule .result) (c .before .before .next-rule .ensures .1) SlashUp (c .enum-told5 .given .1) in search needs
-
-cut-requires : tie.Need-cut-requires
-cut-requires c κs = omega (arith, len-of (c .before .before .before .next-rule .ensures .0))
-
-enum-told-6 : tie.Need-enum-told-6
-enum-told-6 c = search needs
-
-add-t16 : tie.Need-add-t16
-add-t16 c = search needs
-
-cut-requires-2 : tie.Need-cut-requires-2
-cut-requires-2 c κs = omega (arith, len-of (c .before .before .before .next-rule .ensures .0))
-
-enum-told-7 : tie.Need-enum-told-7
-enum-told-7 c = search needs
-
-enum-told-8 : tie.Need-enum-told-8
-enum-told-8 c = search needs
 
 shift-requires : tie.Need-shift-requires
 shift-requires c κs = (omega arith, (omega arith, omega (arith, len-of (c .before .before .before .next-rule .ensures .0))))
@@ -96,23 +57,23 @@ pub take-turn-spec : {M : Type 1} → statement M
 take-turn-spec =
     tie.close
     (tie.spec
-    next-rule-requires
-    enum-told
+    (λ c κs. search needs)
+    (λ c. search needs)
     add-t9
-    enum-told-2
+    (λ c. search needs)
     add-t10
-    enum-told-3
+    (λ c. search needs)
     add-t11
-    enum-told-4
-    add-t12
-    enum-told-5
+    (λ c. search needs)
+    (λ c. search needs)
+    (λ c. search needs)
     add-t13
-    cut-requires
-    enum-told-6
-    add-t16
-    cut-requires-2
-    enum-told-7
-    enum-told-8
+    (λ c κs. omega (arith, len-of (c .before .before .before .next-rule .ensures .0)))
+    (λ c. search needs)
+    (λ c. search needs)
+    (λ c κs. omega (arith, len-of (c .before .before .before .next-rule .ensures .0)))
+    (λ c. search needs)
+    (λ c. search needs)
     shift-requires
     add-t20
     add-t21

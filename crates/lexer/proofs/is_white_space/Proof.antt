@@ -4,8 +4,5 @@ use Rattle.lexer.proofs.Blanking.{blank-ranges}
 use Rattle.lexer.proofs.is_white_space.Statement.{statement}
 use Rattle.lexer.proofs.is_white_space.Tie as tie
 
-returns : tie.Need-returns
-returns c = blank-ranges (c .args .b) (omega arith)
-
 pub is-white-space-spec : {M : Type 1} → statement M
-is-white-space-spec = tie.close (tie.spec returns)
+is-white-space-spec = tie.close (tie.spec (λ c. blank-ranges (c .args .b) (omega arith)))

@@ -15,77 +15,26 @@ use Rattle.lexer.proofs.next_token.Tie as tie
 returns : tie.Need-returns
 returns c = next-nothing (now (c .before .before .args .s)) (c .before .before .args .clear) (to-nothing (now (c .before .before .args .s)) (c .if1 .taken))
 
-shared-slice-read-b : tie.Need-shared-slice-read-b
-shared-slice-read-b c = search needs
-
-mark-kind-requires : tie.Need-mark-kind-requires
-mark-kind-requires c κs = search needs
-
-minus-requires : tie.Need-minus-requires
-minus-requires c κs = search needs
-
 returns-2 : tie.Need-returns-2
 returns-2 c = next-known (now (c .before .before .before .before .before .before .args .s)) (c .before .before .before .before .before .before .args .clear) _ (tok (c .before .before .mark-kind .result) 1) (to-mark (now (c .before .before .before .before .before .before .args .s)) (omega arith) _ refl ((c .before .before .before .shared-slice-known2 .given) 0 .fits) _ (c .before .before .mark-kind .ensures) (c .before .if2 .taken)) (c .minus .ensures)
-
-iriref-requires : tie.Need-iriref-requires
-iriref-requires c κs = (omega arith, (c .match .keys1))
-
-known-requires : tie.Need-known-requires
-known-requires c κs = search needs
-
-quoted-requires : tie.Need-quoted-requires
-quoted-requires c κs = (omega arith, (c .match .keys2), inl (refl, refl), inl (refl, refl))
-
-known-requires-2 : tie.Need-known-requires-2
-known-requires-2 c κs = search needs
-
-quoted-requires-2 : tie.Need-quoted-requires-2
-quoted-requires-2 c κs = (omega arith, (c .match .keys3), inr (refl, refl), inr (refl, refl))
-
-known-requires-3 : tie.Need-known-requires-3
-known-requires-3 c κs = search needs
 
 signed-requires : tie.Need-signed-requires
 signed-requires c κs = to-signed (now (c .before .before .before .before .before .before .args .s)) (omega arith) (c .match .keys4)
 
-known-requires-4 : tie.Need-known-requires-4
-known-requires-4 c κs = search needs
-
 dot-requires : tie.Need-dot-requires
 dot-requires c κs = to-dot (now (c .before .before .before .before .before .before .args .s)) (omega arith) (c .match .keys5)
-
-known-requires-5 : tie.Need-known-requires-5
-known-requires-5 c κs = search needs
 
 at-sign-requires : tie.Need-at-sign-requires
 at-sign-requires c κs = to-at (now (c .before .before .before .before .before .before .args .s)) (omega arith) (c .match .keys6)
 
-known-requires-6 : tie.Need-known-requires-6
-known-requires-6 c κs = search needs
-
 label-requires : tie.Need-label-requires
 label-requires c κs = to-label (now (c .before .before .before .before .before .before .args .s)) (omega arith) (c .match .keys7)
-
-known-requires-7 : tie.Need-known-requires-7
-known-requires-7 c κs = search needs
 
 local-part-requires : tie.Need-local-part-requires
 local-part-requires c κs = to-local (now (c .before .before .before .before .before .before .args .s)) (omega arith) (c .match .keys8)
 
-known-requires-8 : tie.Need-known-requires-8
-known-requires-8 c κs = search needs
-
-carets-requires : tie.Need-carets-requires
-carets-requires c κs = (omega arith, (c .match .keys9))
-
-known-requires-9 : tie.Need-known-requires-9
-known-requires-9 c κs = search needs
-
 integer-requires : tie.Need-integer-requires
 integer-requires c κs = to-integer (now (c .before .before .before .before .before .before .before .before .args .s)) (omega arith) (c .before .if3 .left) (c .if4 .taken)
-
-known-requires-10 : tie.Need-known-requires-10
-known-requires-10 c κs = search needs
 
 name-requires : tie.Need-name-requires
 name-requires c κs = (omega arith, no-mark _ ((c .before .before .before .before .shared-slice-known2 .given) 0 .fits) (sym (c .before .before .before .mark-kind .ensures) ∙ (c .before .before .if2 .left)) (⊎-elim (λ x. ranged-rest other-mark _ ((94 ∷ []) ∷ (58 ∷ []) ∷ (95 ∷ []) ∷ (64 ∷ []) ∷ (46 ∷ []) ∷ (43 ∷ 45 ∷ []) ∷ (39 ∷ []) ∷ (34 ∷ []) ∷ (60 ∷ []) ∷ []) 0 48 tt _ (c .before .match .rest) (omega arith) (x .taken)) (λ x. ranged-rest other-mark _ ((94 ∷ []) ∷ (58 ∷ []) ∷ (95 ∷ []) ∷ (64 ∷ []) ∷ (46 ∷ []) ∷ (43 ∷ 45 ∷ []) ∷ (39 ∷ []) ∷ (34 ∷ []) ∷ (60 ∷ []) ∷ []) 58 198 tt _ (c .before .match .rest) (x .1 .left) ((c .before .before .before .before .shared-slice-known2 .given) 0 .fits)) (c .if3 .came)))
@@ -120,38 +69,35 @@ returns-11 c = next-is (now (c .before .before .before .before .before .before .
 returns-12 : tie.Need-returns-12
 returns-12 c = next-is (now (c .before .before .before .before .before .before .before .before .before .before .args .s)) (c .before .before .before .before .before .before .before .before .before .before .args .clear) (c .before .integer .result) _ (c .before .integer .ensures) (c .known10 .ensures)
 
-returns-13 : tie.Need-returns-13
-returns-13 c = (c .name .ensures)
-
 pub next-token-spec : {M : Type 1} → statement M
 next-token-spec =
     tie.close
     (tie.spec
     returns
-    shared-slice-read-b
-    mark-kind-requires
-    minus-requires
+    (λ c. search needs)
+    (λ c κs. search needs)
+    (λ c κs. search needs)
     returns-2
-    iriref-requires
-    known-requires
-    quoted-requires
-    known-requires-2
-    quoted-requires-2
-    known-requires-3
+    (λ c κs. (omega arith, (c .match .keys1)))
+    (λ c κs. search needs)
+    (λ c κs. (omega arith, (c .match .keys2), inl (refl, refl), inl (refl, refl)))
+    (λ c κs. search needs)
+    (λ c κs. (omega arith, (c .match .keys3), inr (refl, refl), inr (refl, refl)))
+    (λ c κs. search needs)
     signed-requires
-    known-requires-4
+    (λ c κs. search needs)
     dot-requires
-    known-requires-5
+    (λ c κs. search needs)
     at-sign-requires
-    known-requires-6
+    (λ c κs. search needs)
     label-requires
-    known-requires-7
+    (λ c κs. search needs)
     local-part-requires
-    known-requires-8
-    carets-requires
-    known-requires-9
+    (λ c κs. search needs)
+    (λ c κs. (omega arith, (c .match .keys9)))
+    (λ c κs. search needs)
     integer-requires
-    known-requires-10
+    (λ c κs. search needs)
     name-requires
     returns-3
     returns-4
@@ -163,4 +109,4 @@ next-token-spec =
     returns-10
     returns-11
     returns-12
-    returns-13)
+    (λ c. (c .name .ensures)))

@@ -21,29 +21,11 @@ abbrev μ-loop : tie.MeasureT-loop
 loop-holds : tie.Need-loop-holds Inv-loop μ-loop
 loop-holds c = (omega arith, sym (zero-add (skips false (now (c .before .args .s)))))
 
-shared-slice-read-b : tie.Need-shared-slice-read-b Inv-loop μ-loop
-shared-slice-read-b c = search needs
-
-is-white-space-requires : tie.Need-is-white-space-requires Inv-loop μ-loop
-is-white-space-requires c κs = search needs
-
-add-i : tie.Need-add-i Inv-loop μ-loop
-add-i c = search needs
-
-loop-less : tie.Need-loop-less Inv-loop μ-loop
-loop-less c = search needs
-
 loop-again : tie.Need-loop-again Inv-loop μ-loop
 loop-again c = (omega arith, blanks-on (now (c .before .before .before .before .before .before .args .s)) (c .before .before .before .before .loop .i) (c .before .before .before .before .loop .inv .1) (c .before .before .before .loop-test .taken) _ ((c .before .before .before .before .before .shared-slice-known .given) (c .before .before .before .before .loop .i) .fits) (c .before .is-white-space .ensures) (c .if1 .taken))
 
 returns : tie.Need-returns Inv-loop μ-loop
 returns c = blanks-stop (now (c .before .before .before .before .before .before .before .args .s)) (c .before .before .before .before .before .loop .i) (c .before .before .before .before .before .loop .inv .1) (c .before .before .before .before .loop-test .taken) _ ((c .before .before .before .before .before .before .shared-slice-known .given) (c .before .before .before .before .before .loop .i) .fits) (c .before .before .is-white-space .ensures) (c .before .if1 .left) (c .if2 .taken)
-
-add-comment-end : tie.Need-add-comment-end Inv-loop μ-loop
-add-comment-end c = search needs
-
-comment-end-requires : tie.Need-comment-end-requires Inv-loop μ-loop
-comment-end-requires c κs = search needs
 
 loop-less-2 : tie.Need-loop-less-2 Inv-loop μ-loop
 loop-less-2 c = omega (arith, (c .comment-end .ensures) .from, (c .comment-end .ensures) .within)
@@ -61,14 +43,14 @@ skip-blanks-spec =
     Inv-loop
     μ-loop
     loop-holds
-    shared-slice-read-b
-    is-white-space-requires
-    add-i
-    loop-less
+    (λ c. search needs)
+    (λ c κs. search needs)
+    (λ c. search needs)
+    (λ c. search needs)
     loop-again
     returns
-    add-comment-end
-    comment-end-requires
+    (λ c. search needs)
+    (λ c κs. search needs)
     loop-less-2
     loop-again-2
     returns-2)

@@ -1,33 +1,19 @@
 use Prim.Native.Nat.{_-_}
 use native.Mathlib.Omega.{arith}
 use borrow.Author.Needs.{needs}
-use lib.ListN.{length, getD}
-use Rattle.state.specs.Words.{at-word}
+use lib.ListN.{length}
+use Rattle.state.specs.Words.{at-in}
 use Rattle.simulation.specs.Simulation.{held}
 use Rattle.nesting.proofs.OfElements.{ElementsInv, elements-start, elements-small, elements-call, elements-close-call, elements-close, elements-stop, elements-again, elements-less}
 use Rattle.nesting.proofs.Aiming.{ready-words}
 use Rattle.nesting.proofs.elements.Statement.{statement}
 use Rattle.nesting.proofs.elements.Tie as tie
-use Rattle.nesting.proofs.elements.Reads as reads
-use Rattle.nesting.proofs.elements.Lts as lts
-use Rattle.nesting.proofs.node.Reads as node-reads
-use Rattle.nodes.proofs.aim.Reads as aim-reads
-use Rattle.simple_terms.proofs.close_list.Reads as close-list-reads
 
 abbrev Inv-loop : tie.InvT-loop
 Inv-loop doc work₀ rows₀ terms₀ store₀ st₀ x y opened last₀ work rows terms store st last = ElementsInv (doc .now) (held work₀ rows₀ terms₀ store₀ st₀) (held work rows terms store st) x y opened last
 
 abbrev μ-loop : tie.MeasureT-loop
-μ-loop doc work₀ rows₀ terms₀ store₀ st₀ x y opened last₀ work rows terms store st last = length (doc .now) - getD st at-word 0
-
-element-copy-out-x : tie.Need-element-copy-out-x Inv-loop μ-loop
-element-copy-out-x c = search needs
-
-element-copy-out-y : tie.Need-element-copy-out-y Inv-loop μ-loop
-element-copy-out-y c = search needs
-
-element-copy-out-opened : tie.Need-element-copy-out-opened Inv-loop μ-loop
-element-copy-out-opened c = search needs
+μ-loop doc work₀ rows₀ terms₀ store₀ st₀ x y opened last₀ work rows terms store st last = length (doc .now) - at-in st
 
 loop-holds : tie.Need-loop-holds Inv-loop μ-loop
 loop-holds c = search elements-start
@@ -35,17 +21,11 @@ loop-holds c = search elements-start
 aim-requires : tie.Need-aim-requires Inv-loop μ-loop
 aim-requires c κs = ready-words _ (held (c .before .loop .work) (c .before .loop .rows) (c .before .loop .terms) (c .before .loop .store) (c .before .loop .st)) (c .before .loop .inv .ready)
 
-element-copy-out-if1 : tie.Need-element-copy-out-if1 Inv-loop μ-loop
-element-copy-out-if1 c = search needs
-
 close-list-requires : tie.Need-close-list-requires Inv-loop μ-loop
 close-list-requires c κs = elements-close-call _ _ (c .before .before .before .before .before .before .before .before .before .before .before .before .before .pre .0 .1) _ _ _ _ _ _ _ _ _ _ (c .before .before .before .before .before .before .before .before .before .loop .inv) (c .before .before .before .before .before .before .before .aim .ensures) (c .before .before .before .before .before .if1 .taken) (c .before .before .before .before .before .before .before .before .before .before .before .before .before .pre .1)
 
 returns : tie.Need-returns Inv-loop μ-loop
 returns c = search elements-close
-
-element-copy-out-cell : tie.Need-element-copy-out-cell Inv-loop μ-loop
-element-copy-out-cell c = search needs
 
 add-cell : tie.Need-add-cell Inv-loop μ-loop
 add-cell c = omega (arith, elements-small _ _ (c .before .before .before .before .before .before .before .before .before .pre .0 .1) _ _ _ _ _ _ _ _ _ _ (c .before .before .before .before .before .loop .inv) (c .before .before .before .aim .ensures))
@@ -68,15 +48,15 @@ elements-spec =
     (tie.spec
     Inv-loop
     μ-loop
-    element-copy-out-x
-    element-copy-out-y
-    element-copy-out-opened
+    (λ c. search needs)
+    (λ c. search needs)
+    (λ c. search needs)
     loop-holds
     aim-requires
-    element-copy-out-if1
+    (λ c. search needs)
     close-list-requires
     returns
-    element-copy-out-cell
+    (λ c. search needs)
     add-cell
     node-requires
     returns-2

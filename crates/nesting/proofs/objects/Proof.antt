@@ -1,24 +1,20 @@
 use Prim.Native.Nat.{_-_}
 use native.Mathlib.Omega.{arith}
 use borrow.Author.Needs.{needs}
-use lib.ListN.{length, getD}
-use Rattle.state.specs.Words.{at-word}
+use lib.ListN.{length}
+use Rattle.token.specs.Kind.{kind-code, comma}
+use Rattle.state.specs.Words.{at-in}
 use Rattle.simulation.specs.Simulation.{held}
 use Rattle.nesting.proofs.OfObjects.{ObjectsInv, objects-start, objects-ready, objects-stop, objects-end, objects-again, objects-less, objects-more-ready}
 use Rattle.nesting.proofs.Aiming.{ready-words, pass-call}
 use Rattle.nesting.proofs.objects.Statement.{statement}
 use Rattle.nesting.proofs.objects.Tie as tie
-use Rattle.nesting.proofs.objects.Reads as reads
-use Rattle.nesting.proofs.objects.Lts as lts
-use Rattle.nesting.proofs.node.Reads as node-reads
-use Rattle.nodes.proofs.aim.Reads as aim-reads
-use Rattle.nodes.proofs.pass.Reads as pass-reads
 
 abbrev Inv-loop : tie.InvT-loop
 Inv-loop doc work₀ rows₀ terms₀ store₀ st₀ s p work rows terms store st = ObjectsInv (doc .now) (held work₀ rows₀ terms₀ store₀ st₀) (held work rows terms store st) s p
 
 abbrev μ-loop : tie.MeasureT-loop
-μ-loop doc work₀ rows₀ terms₀ store₀ st₀ s p work rows terms store st = length (doc .now) - getD st at-word 0
+μ-loop doc work₀ rows₀ terms₀ store₀ st₀ s p work rows terms store st = length (doc .now) - at-in st
 
 loop-holds : tie.Need-loop-holds Inv-loop μ-loop
 loop-holds c = search objects-start
@@ -32,14 +28,11 @@ node-requires c κs = objects-ready _ _ _ _ _ _ _ _ _ _ (c .before .before .befo
 returns : tie.Need-returns Inv-loop μ-loop
 returns c = search objects-stop
 
-element-copy-out-if2 : tie.Need-element-copy-out-if2 Inv-loop μ-loop
-element-copy-out-if2 c = search needs
-
 returns-2 : tie.Need-returns-2 Inv-loop μ-loop
 returns-2 c = search objects-end
 
 pass-requires : tie.Need-pass-requires Inv-loop μ-loop
-pass-requires c κs = pass-call _ _ 20 (objects-more-ready _ _ _ _ _ _ _ _ _ _ (c .before .before .before .before .before .before .before .before .before .before .before .before .loop .inv) (c .before .before .before .before .before .before .before .before .before .before .aim .ensures) _ _ (c .before .before .before .before .before .before .before .before .before .before .before .before .before .pre .1 .0) (c .before .before .before .before .before .before .before .before .before .before .before .before .before .pre .1 .1) (c .before .before .before .before .node .ensures) (c .before .before .before .if1 .left)) (c .before .if2 .left) (λ h. omega arith) (λ h. omega arith)
+pass-requires c κs = pass-call _ _ (kind-code comma) (objects-more-ready _ _ _ _ _ _ _ _ _ _ (c .before .before .before .before .before .before .before .before .before .before .before .before .loop .inv) (c .before .before .before .before .before .before .before .before .before .before .aim .ensures) _ _ (c .before .before .before .before .before .before .before .before .before .before .before .before .before .pre .1 .0) (c .before .before .before .before .before .before .before .before .before .before .before .before .before .pre .1 .1) (c .before .before .before .before .node .ensures) (c .before .before .before .if1 .left)) (c .before .if2 .left) (λ h. omega arith) (λ h. omega arith)
 
 loop-less : tie.Need-loop-less Inv-loop μ-loop
 loop-less c = objects-less _ _ _ _ _ _ _ _ _ _ (c .before .before .before .before .before .before .before .before .before .before .before .before .before .loop .inv) (c .before .before .before .before .before .before .before .before .before .before .before .aim .ensures) _ _ _ _ _ _ _ (c .before .before .before .before .before .before .before .before .before .before .before .before .before .before .pre .1 .0) (c .before .before .before .before .before .before .before .before .before .before .before .before .before .before .pre .1 .1) (c .before .before .before .before .before .node .ensures) (c .before .before .before .before .if1 .left) (c .before .before .if2 .left) (c .pass .ensures)
@@ -57,7 +50,7 @@ objects-spec =
     aim-requires
     node-requires
     returns
-    element-copy-out-if2
+    (λ c. search needs)
     returns-2
     pass-requires
     loop-less

@@ -1,27 +1,20 @@
 use mathlib.Core.Path.{refl, sym, _∙_}
 use Prim.Native.Nat.{_-_}
 use borrow.Author.Needs.{needs}
-use lib.ListN.{length, getD}
-use Rattle.state.specs.Words.{at-word}
+use lib.ListN.{length}
+use Rattle.state.specs.Words.{at-in}
 use Rattle.simulation.specs.Simulation.{held}
 use Rattle.nesting.proofs.OfProperties.{PropertiesInv, properties-start, properties-stop, objects-call, properties-stop-2, properties-end, skips-call, properties-end-2, properties-again, properties-less}
 use Rattle.nesting.proofs.OfVerbs.{verb-call}
 use Rattle.nesting.proofs.Aiming.{ready-words, negated, affirmed}
 use Rattle.nesting.proofs.properties.Statement.{statement}
 use Rattle.nesting.proofs.properties.Tie as tie
-use Rattle.nesting.proofs.properties.Reads as reads
-use Rattle.nesting.proofs.properties.Lts as lts
-use Rattle.nesting.proofs.leaf.Reads as leaf-reads
-use Rattle.nesting.proofs.objects.Reads as objects-reads
-use Rattle.nesting.proofs.skip_semicolons.Reads as skip-semicolons-reads
-use Rattle.nodes.proofs.aim.Reads as aim-reads
-use Rattle.nodes.proofs.is_verb.Reads as is-verb-reads
 
 abbrev Inv-loop : tie.InvT-loop
 Inv-loop doc work₀ rows₀ terms₀ store₀ st₀ s work rows terms store st = PropertiesInv (doc .now) (held work₀ rows₀ terms₀ store₀ st₀) (held work rows terms store st) s
 
 abbrev μ-loop : tie.MeasureT-loop
-μ-loop doc work₀ rows₀ terms₀ store₀ st₀ s work rows terms store st = length (doc .now) - getD st at-word 0
+μ-loop doc work₀ rows₀ terms₀ store₀ st₀ s work rows terms store st = length (doc .now) - at-in st
 
 loop-holds : tie.Need-loop-holds Inv-loop μ-loop
 loop-holds c = search properties-start
@@ -35,29 +28,17 @@ leaf-requires c κs = verb-call _ _ _ _ _ _ _ (c .before .before .before .before
 returns : tie.Need-returns Inv-loop μ-loop
 returns c = search properties-stop
 
-element-copy-out-p : tie.Need-element-copy-out-p Inv-loop μ-loop
-element-copy-out-p c = search needs
-
 objects-requires : tie.Need-objects-requires Inv-loop μ-loop
 objects-requires c κs = objects-call _ _ _ _ _ _ _ _ _ (c .before .before .before .before .before .before .before .before .before .before .before .before .before .before .before .loop .inv) (c .before .before .before .before .before .before .before .before .before .before .before .before .before .aim .ensures) _ _ (c .before .before .before .before .before .before .before .leaf .ensures .puts) (c .before .before .before .before .before .before .if1 .left) (c .before .before .before .before .before .before .before .before .before .before .before .before .before .before .before .before .pre .0 .1) (c .before .before .before .before .before .before .before .before .before .before .before .before .before .before .before .before .pre .1 .0) _ refl
 
 returns-2 : tie.Need-returns-2 Inv-loop μ-loop
 returns-2 c = properties-stop-2 _ _ _ _ _ _ _ _ _ (c .before .before .before .before .before .before .before .before .before .before .before .before .before .before .before .before .before .loop .inv) (c .before .before .before .before .before .before .before .before .before .before .before .before .before .before .before .aim .ensures) _ _ (c .before .before .before .before .before .before .before .before .before .leaf .ensures .puts) (c .before .before .before .before .before .before .before .before .if1 .left) _ _ _ refl (c .before .objects .ensures) (c .if2 .taken)
 
-element-copy-out-if3 : tie.Need-element-copy-out-if3 Inv-loop μ-loop
-element-copy-out-if3 c = search needs
-
 returns-3 : tie.Need-returns-3 Inv-loop μ-loop
 returns-3 c = properties-end _ _ _ _ _ _ _ _ _ (c .before .before .before .before .before .before .before .before .before .before .before .before .before .before .before .before .before .before .before .loop .inv) (c .before .before .before .before .before .before .before .before .before .before .before .before .before .before .before .before .before .aim .ensures) _ _ (c .before .before .before .before .before .before .before .before .before .before .before .leaf .ensures .puts) (c .before .before .before .before .before .before .before .before .before .before .if1 .left) _ _ _ refl (c .before .before .before .objects .ensures) (c .before .before .if2 .left) (c .if3 .taken)
 
 skip-semicolons-requires : tie.Need-skip-semicolons-requires Inv-loop μ-loop
 skip-semicolons-requires c κs = skips-call _ _ _ _ _ _ _ _ _ (c .before .before .before .before .before .before .before .before .before .before .before .before .before .before .before .before .before .before .before .before .loop .inv) (c .before .before .before .before .before .before .before .before .before .before .before .before .before .before .before .before .before .before .aim .ensures) _ _ (c .before .before .before .before .before .before .before .before .before .before .before .before .leaf .ensures .puts) (c .before .before .before .before .before .before .before .before .before .before .before .if1 .left) _ _ _ refl (c .before .before .before .before .objects .ensures) (c .before .before .before .if2 .left) (c .before .if3 .left)
-
-element-copy-out-is-verb : tie.Need-element-copy-out-is-verb Inv-loop μ-loop
-element-copy-out-is-verb c = search needs
-
-is-verb-requires : tie.Need-is-verb-requires Inv-loop μ-loop
-is-verb-requires c κs = search needs
 
 returns-4 : tie.Need-returns-4 Inv-loop μ-loop
 returns-4 c = properties-end-2 _ _ _ _ _ _ _ _ _ (c .before .before .before .before .before .before .before .before .before .before .before .before .before .before .before .before .before .before .before .before .before .before .before .before .loop .inv) (c .before .before .before .before .before .before .before .before .before .before .before .before .before .before .before .before .before .before .before .before .before .before .aim .ensures) _ _ (c .before .before .before .before .before .before .before .before .before .before .before .before .before .before .before .before .leaf .ensures .puts) (c .before .before .before .before .before .before .before .before .before .before .before .before .before .before .before .if1 .left) _ _ _ _ _ _ _ _ refl (c .before .before .before .before .before .before .before .before .objects .ensures) (c .before .before .before .before .before .before .before .if2 .left) (c .before .before .before .skip-semicolons .ensures) (sym (c .before .is-verb .ensures) ∙ negated _ (c .if4 .taken))
@@ -78,14 +59,14 @@ properties-spec =
     aim-requires
     leaf-requires
     returns
-    element-copy-out-p
+    (λ c. search needs)
     objects-requires
     returns-2
-    element-copy-out-if3
+    (λ c. search needs)
     returns-3
     skip-semicolons-requires
-    element-copy-out-is-verb
-    is-verb-requires
+    (λ c. search needs)
+    (λ c κs. search needs)
     returns-4
     loop-less
     loop-again)

@@ -4,33 +4,13 @@ use Rattle.rdf_literals.proofs.Whole.{datatype-found, datatype-missing}
 use borrow.Author.Needs.{needs}
 use Rattle.rdf_literals.proofs.put_datatype.Statement.{statement}
 use Rattle.rdf_literals.proofs.put_datatype.Tie as tie
-use Rattle.rdf_literals.proofs.put_datatype.Reads as reads
-use Rattle.rdf_literals.proofs.put_datatype.Lts as lts
-use Rattle.rdf_literals.proofs.is_iri.Reads as is-iri-reads
-use Rattle.rdf_literals.proofs.put_typed.Reads as put-typed-reads
-use Rattle.simulation.proofs.unexpected.Reads as unexpected-reads
 
--- src/lib.rt:425:15
-element-copy-out-is-iri : tie.Need-element-copy-out-is-iri
-element-copy-out-is-iri c = search needs
-
--- src/lib.rt:425:8
-is-iri-requires : tie.Need-is-iri-requires
-is-iri-requires c κs = search needs
-
--- src/lib.rt:426:9
 put-typed-requires : tie.Need-put-typed-requires
 put-typed-requires c κs = (c .before .before .before .before .before .before .before .before .pre, sym (c .before .before .before .before .before .before .is-iri .ensures) ∙ c .before .before .before .before .before .if1 .taken)
 
--- src/lib.rt:426:9
 returns : tie.Need-returns
 returns c = let e = c .before .before .before .before .before .before .before .before .before in datatype-found (e .args .doc .now .now) (held (e .args .work .now) (e .args .rows .now) (e .args .terms .now) (e .args .store .now) (e .args .st .now)) (e .pre .0) (e .args .x) (e .args .y) (e .args .at) (e .args .len) (e .args .quotes) _ _ (sym (c .before .before .before .before .before .before .before .is-iri .ensures) ∙ c .before .before .before .before .before .before .if1 .taken) (c .put-typed .ensures)
 
--- src/lib.rt:428:5
-unexpected-requires : tie.Need-unexpected-requires
-unexpected-requires c κs = search needs
-
--- src/lib.rt:409:1
 returns-2 : tie.Need-returns-2
 returns-2 c = let e = c .before .before .before .before .before .before in datatype-missing (e .args .doc .now .now) (held (e .args .work .now) (e .args .rows .now) (e .args .terms .now) (e .args .store .now) (e .args .st .now)) (e .pre .0) (e .args .x) (e .args .y) (e .args .at) (e .args .len) (e .args .quotes) _ (sym (c .before .before .before .before .is-iri .ensures) ∙ c .before .before .before .if1 .left) (c .unexpected .ensures)
 
@@ -38,9 +18,9 @@ pub put-datatype-spec : {M : Type 1} → statement M
 put-datatype-spec =
     tie.close
     (tie.spec
-    element-copy-out-is-iri
-    is-iri-requires
+    (λ c. search needs)
+    (λ c κs. search needs)
     put-typed-requires
     returns
-    unexpected-requires
+    (λ c κs. search needs)
     returns-2)

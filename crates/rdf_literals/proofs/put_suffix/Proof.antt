@@ -3,33 +3,16 @@ use Rattle.rdf_literals.proofs.Whole.{suffix-tag, carets-call, datatype
 use borrow.Author.Needs.{needs}
 use Rattle.rdf_literals.proofs.put_suffix.Statement.{statement}
 use Rattle.rdf_literals.proofs.put_suffix.Tie as tie
-use Rattle.rdf_literals.proofs.put_suffix.Reads as reads
-use Rattle.rdf_literals.proofs.put_suffix.Lts as lts
-use Rattle.rdf_literals.proofs.put_datatype.Reads as put-datatype-reads
-use Rattle.rdf_literals.proofs.put_tagged.Reads as put-tagged-reads
-use Rattle.nodes.proofs.pass.Reads as pass-reads
 
--- src/lib.rt:448:8
-element-copy-out-if1 : tie.Need-element-copy-out-if1
-element-copy-out-if1 c = search needs
-
--- src/lib.rt:449:9
-put-tagged-requires : tie.Need-put-tagged-requires
-put-tagged-requires c κs = search needs
-
--- src/lib.rt:449:9
 returns : tie.Need-returns
 returns c = let e = c .before .before .before .before .before .before .before .before in suffix-tag (e .args .doc .now .now) (held (e .args .work .now) (e .args .rows .now) (e .args .terms .now) (e .args .store .now) (e .args .st .now)) (e .pre .0 .0) (e .args .x) (e .args .y) (e .args .at) (e .args .len) (e .args .quotes) _ _ (c .before .before .before .before .before .before .if1 .taken) (c .put-tagged .ensures)
 
--- src/lib.rt:451:5
 pass-requires : tie.Need-pass-requires
 pass-requires c κs = let e = c .before .before .before in carets-call (e .args .doc .now .now) (held (e .args .work .now) (e .args .rows .now) (e .args .terms .now) (e .args .store .now) (e .args .st .now)) (e .pre .0 .0) (e .pre .1)
 
--- src/lib.rt:452:5
 put-datatype-requires : tie.Need-put-datatype-requires
 put-datatype-requires c κs = let e = c .before .before .before .before .before .before .before .before .before in datatype-call (e .args .doc .now .now) (e .args .work .now) (e .args .rows .now) (e .args .terms .now) (e .args .store .now) (e .args .st .now) _ (e .pre .0 .0) (e .pre .1) (c .before .before .before .before .before .before .before .if1 .left) (c .before .before .before .before .before .pass .ensures) (e .args .x) (e .args .y) (e .args .at) (e .args .len) (e .args .quotes) (e .pre .0 .1)
 
--- src/lib.rt:432:1
 returns-2 : tie.Need-returns-2
 returns-2 c = let e = c .before .before .before .before .before .before .before .before .before .before in suffix-datatype (e .args .doc .now .now) (e .args .work .now) (e .args .rows .now) (e .args .terms .now) (e .args .store .now) (e .args .st .now) _ (e .pre .0 .0) (e .pre .1) (c .before .before .before .before .before .before .before .before .if1 .left) (c .before .before .before .before .before .before .pass .ensures) (e .args .x) (e .args .y) (e .args .at) (e .args .len) (e .args .quotes) _ _ (c .put-datatype .ensures)
 
@@ -37,8 +20,8 @@ pub put-suffix-spec : {M : Type 1} → statement M
 put-suffix-spec =
     tie.close
     (tie.spec
-    element-copy-out-if1
-    put-tagged-requires
+    (λ c. search needs)
+    (λ c κs. search needs)
     returns
     pass-requires
     put-datatype-requires

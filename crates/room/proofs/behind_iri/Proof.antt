@@ -4,14 +4,5 @@ use borrow.Author.Needs.{needs}
 use Rattle.room.proofs.behind_iri.Statement.{statement}
 use Rattle.room.proofs.behind_iri.Tie as tie
 
-returns : tie.Need-returns
-returns c = search behind-iri-list
-
-place-iri-requires : tie.Need-place-iri-requires
-place-iri-requires c κs = search needs
-
-returns-2 : tie.Need-returns-2
-returns-2 c = search behind-iri-none
-
 pub behind-iri-spec : {M : Type 1} → statement M
-behind-iri-spec = tie.close (tie.spec returns place-iri-requires returns-2)
+behind-iri-spec = tie.close (tie.spec (λ c. search behind-iri-list) (λ c κs. search needs) (λ c. search behind-iri-none))

@@ -5,7 +5,6 @@ use Rattle.dataset.specs.Terms.{iri}
 use mathlib.Core.Path.{refl}
 use Rattle.terms.specs.Keeps.{Means}
 use Rattle.term_tree.proofs.Indexes.{searchable}
-use borrow.Author.Needs.{needs}
 use Rattle.room.proofs.find_iri.Statement.{statement}
 use Rattle.room.proofs.find_iri.Tie as tie
 

@@ -4,15 +4,9 @@ use borrow.Author.Needs.{needs}
 use Rattle.room.proofs.find_nil.Statement.{statement}
 use Rattle.room.proofs.find_nil.Tie as tie
 
-slice-aggregate-find-iri : tie.Need-slice-aggregate-find-iri
-slice-aggregate-find-iri c = search needs
-
-find-iri-requires : tie.Need-find-iri-requires
-find-iri-requires c κs = search needs
-
 returns : tie.Need-returns
 unfolding supplied joined undo
 returns c = c .find-iri .ensures
 
 pub find-nil-spec : {M : Type 1} → statement M
-find-nil-spec = tie.close (tie.spec slice-aggregate-find-iri find-iri-requires returns)
+find-nil-spec = tie.close (tie.spec (λ c. search needs) (λ c κs. search needs) returns)

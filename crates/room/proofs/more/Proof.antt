@@ -4,17 +4,5 @@ use borrow.Author.Needs.{needs}
 use Rattle.room.proofs.more.Statement.{statement}
 use Rattle.room.proofs.more.Tie as tie
 
-add-t5 : tie.Need-add-t5
-add-t5 c = search needs
-
-add-t6 : tie.Need-add-t6
-add-t6 c = search needs
-
-returns : tie.Need-returns
-returns c = search more-new
-
-returns-2 : tie.Need-returns-2
-returns-2 c = search more-old
-
 pub more-spec : {M : Type 1} → statement M
-more-spec = tie.close (tie.spec add-t5 add-t6 returns returns-2)
+more-spec = tie.close (tie.spec (λ c. search needs) (λ c. search needs) (λ c. search more-new) (λ c. search more-old))

@@ -8,35 +8,17 @@ use borrow.Author.Needs.{needs}
 use Rattle.room.proofs.room_to_close.Statement.{statement}
 use Rattle.room.proofs.room_to_close.Tie as tie
 
-rows-in-requires : tie.Need-rows-in-requires
-rows-in-requires c κs = search needs
-
-close-rows-requires : tie.Need-close-rows-requires
-close-rows-requires c κs = search needs
-
 add-count : tie.Need-add-count
 add-count c = omega (arith, c .close-rows .ensures, few-end-rows (c .before .before .before .before .before .before .args .spot), c .before .rows-in .ensures, rows-small (c .before .before .before .before .before .before .args .work .now) (lent-tables (c .before .before .before .before .before .before .args .rows .now) (c .before .before .before .before .before .before .args .terms .now) (c .before .before .before .before .before .before .args .store .now)) (c .before .before .before .before .before .before .args .st .now) (c .before .before .before .before .before .before .pre))
-
-tally-in-requires : tie.Need-tally-in-requires
-tally-in-requires c κs = search needs
 
 raised-requires : tie.Need-raised-requires
 raised-requires c κs = (tally-small (c .before .before .before .before .before .before .before .args .work .now) (lent-tables (c .before .before .before .before .before .before .before .args .rows .now) (c .before .before .before .before .before .before .before .args .terms .now) (c .before .before .before .before .before .before .before .args .store .now)) (c .before .before .before .before .before .before .before .args .st .now) (c .tally-in .result) (c .tally-in .ensures) (c .before .before .before .before .before .before .before .pre), (omega arith, omega (arith)))
 
-refusal-requires : tie.Need-refusal-requires
-refusal-requires c κs = search needs
-
 returns : tie.Need-returns
 returns c = close-surely (c .before .before .before .before .before .before .before .before .before .before .args .work .now) (lent-tables (c .before .before .before .before .before .before .before .before .before .before .args .rows .now) (c .before .before .before .before .before .before .before .before .before .before .args .terms .now) (c .before .before .before .before .before .before .before .before .before .before .args .store .now)) (c .before .before .before .before .before .before .before .before .before .before .args .st .now) (c .before .before .before .before .before .before .before .before .before .before .args .spot) (c .before .before .before .before .before .rows-in .result + c .before .before .before .before .close-rows .result) (c .before .before .before .tally-in .result) (c .before .before .raised .result) (omega (arith, c .before .before .before .before .before .rows-in .ensures, c .before .before .before .before .close-rows .ensures)) (c .before .before .before .tally-in .ensures) (c .before .before .raised .ensures) (sym (c .before .refusal .ensures) ∙ c .if1 .taken)
 
-counts-requires : tie.Need-counts-requires
-counts-requires c κs = search needs
-
 tally-close-requires : tie.Need-tally-close-requires
 tally-close-requires c κs = (held (c .before .before .before .before .before .before .before .before .before .before .before .args .work .now) (lent-tables (c .before .before .before .before .before .before .before .before .before .before .before .args .rows .now) (c .before .before .before .before .before .before .before .before .before .before .before .args .terms .now) (c .before .before .before .before .before .before .before .before .before .before .before .args .store .now)) (c .before .before .before .before .before .before .before .before .before .before .before .args .st .now) (c .counts .result) (c .counts .ensures) (c .before .before .before .before .before .before .before .before .before .before .before .pre), tally-small (c .before .before .before .before .before .before .before .before .before .before .before .args .work .now) (lent-tables (c .before .before .before .before .before .before .before .before .before .before .before .args .rows .now) (c .before .before .before .before .before .before .before .before .before .before .before .args .terms .now) (c .before .before .before .before .before .before .before .before .before .before .before .args .store .now)) (c .before .before .before .before .before .before .before .before .before .before .before .args .st .now) (c .before .before .before .before .tally-in .result) (c .before .before .before .before .tally-in .ensures) (c .before .before .before .before .before .before .before .before .before .before .before .pre))
-
-refusal-requires-2 : tie.Need-refusal-requires-2
-refusal-requires-2 c κs = search needs
 
 returns-2 : tie.Need-returns-2
 returns-2 c = close-exactly (c .before .before .before .before .before .before .before .before .before .before .before .before .before .args .work .now) (lent-tables (c .before .before .before .before .before .before .before .before .before .before .before .before .before .args .rows .now) (c .before .before .before .before .before .before .before .before .before .before .before .before .before .args .terms .now) (c .before .before .before .before .before .before .before .before .before .before .before .before .before .args .store .now)) (c .before .before .before .before .before .before .before .before .before .before .before .before .before .args .st .now) (c .before .before .before .before .before .before .before .before .before .before .before .before .before .args .spot) (c .before .before .before .before .before .before .before .before .rows-in .result + c .before .before .before .before .before .before .before .close-rows .result) (c .before .before .before .before .before .before .tally-in .result) (c .before .tally-close .result) (c .before .before .counts .result) (c .refusal2 .result) (omega (arith, c .before .before .before .before .before .before .before .before .rows-in .ensures, c .before .before .before .before .before .before .before .close-rows .ensures)) (c .before .before .before .before .before .before .tally-in .ensures) (c .before .before .counts .ensures) (c .before .tally-close .ensures) (c .refusal2 .ensures)
@@ -45,14 +27,14 @@ pub room-to-close-spec : {M : Type 1} → statement M
 room-to-close-spec =
     tie.close
     (tie.spec
-    rows-in-requires
-    close-rows-requires
+    (λ c κs. search needs)
+    (λ c κs. search needs)
     add-count
-    tally-in-requires
+    (λ c κs. search needs)
     raised-requires
-    refusal-requires
+    (λ c κs. search needs)
     returns
-    counts-requires
+    (λ c κs. search needs)
     tally-close-requires
-    refusal-requires-2
+    (λ c κs. search needs)
     returns-2)

@@ -6,12 +6,6 @@ use borrow.Author.Needs.{needs}
 use Rattle.room.proofs.tally_before.Statement.{statement}
 use Rattle.room.proofs.tally_before.Tie as tie
 
-more-requires : tie.Need-more-requires
-more-requires c κs = search needs
-
-before-iri-requires : tie.Need-before-iri-requires
-before-iri-requires c κs = search needs
-
 tally-supply-requires : tie.Need-tally-supply-requires
 tally-supply-requires c κs = (c .before .before .before .before .before .before .pre .0, small-within (c .before .before .before .before .before .before .args .t) (more (c .before .before .before .before .before .before .args .t) 0 0) (c .before .more .result) 4294967294 1 0 8000000000 (c .before .before .before .before .before .before .pre .1) (more-within (c .before .before .before .before .before .before .args .t) 0 0) (c .before .more .ensures) (omega arith) (omega arith))
 
@@ -23,4 +17,4 @@ returns-2 c = λ ts H. before-none (c .before .before .before .before .args .spo
 
 pub tally-before-spec : {M : Type 1} → statement M
 tally-before-spec =
-    tie.close (tie.spec more-requires before-iri-requires tally-supply-requires returns returns-2)
+    tie.close (tie.spec (λ c κs. search needs) (λ c κs. search needs) tally-supply-requires returns returns-2)

@@ -6,20 +6,8 @@ use borrow.Author.Needs.{needs}
 use Rattle.room.proofs.tally_iri.Statement.{statement}
 use Rattle.room.proofs.tally_iri.Tie as tie
 
-is-supplied-requires : tie.Need-is-supplied-requires
-is-supplied-requires c κs = search needs
-
 returns : tie.Need-returns
 returns c = λ ts H. no-iri ts (c .before .before .before .before .before .before .args .p) (node-iri (c .before .before .before .before .before .before .args .node) (c .before .before .before .before .before .before .args .work .now) (c .before .before .before .before .before .before .args .back .now)) (c .before .before .before .before .before .before .args .t) (c .before .is-supplied .result) (c .before .is-supplied .ensures) (c .if1 .taken)
-
-find-iri-requires : tie.Need-find-iri-requires
-find-iri-requires c κs = search needs
-
-sub-more : tie.Need-sub-more
-sub-more c = search needs
-
-undone-length-requires : tie.Need-undone-length-requires
-undone-length-requires c κs = search needs
 
 add-more : tie.Need-add-more
 add-more c = omega (arith, name-length (c .before .before .before .before .before .before .before .before .args .node) (c .before .before .before .before .before .before .before .before .args .work .now) (c .before .before .before .before .before .before .before .before .args .back .now) (c .undone-length .result) (c .before .before .before .before .before .before .before .before .pre .1 .0) (c .undone-length .ensures), c .before .before .before .before .before .before .before .before .pre .1 .0 .short)
@@ -34,11 +22,11 @@ pub tally-iri-spec : {M : Type 1} → statement M
 tally-iri-spec =
     tie.close
     (tie.spec
-    is-supplied-requires
+    (λ c κs. search needs)
     returns
-    find-iri-requires
-    sub-more
-    undone-length-requires
+    (λ c κs. search needs)
+    (λ c. search needs)
+    (λ c κs. search needs)
     add-more
     more-requires
     returns-2)

@@ -10,19 +10,10 @@ use borrow.Author.Needs.{needs}
 use Rattle.room.proofs.tally_label.Statement.{statement}
 use Rattle.room.proofs.tally_label.Tie as tie
 
-slice-aggregate-find-text : tie.Need-slice-aggregate-find-text
-slice-aggregate-find-text c = search needs
-
-find-text-requires : tie.Need-find-text-requires
-find-text-requires c κs = search needs
-
-more-requires : tie.Need-more-requires
-more-requires c κs = search needs
-
 returns : tie.Need-returns
 unfolding Means undo
 returns c = λ ts H. one-counted ts (blank (label (c .before .before .before .before .before .before .before .args .text .now))) (c .before .before .before .before .before .before .before .args .t) (c .more .result) (c .before .find-text .result) (length (c .before .before .before .before .before .before .before .args .text .now)) (c .more .ensures) (c .before .find-text .ensures ts (blank (label (c .before .before .before .before .before .before .before .args .text .now))) H (refl, (refl, refl)) (label-findable (c .before .before .before .before .before .before .before .args .text .now) (c .before .before .before .before .before .before .before .pre .1 .0 .0))) (sym (length-append (c .before .before .before .before .before .before .before .args .text .now) [] ∙ omega arith))
 
 pub tally-label-spec : {M : Type 1} → statement M
 tally-label-spec =
-    tie.close (tie.spec slice-aggregate-find-text find-text-requires more-requires returns)
+    tie.close (tie.spec (λ c. search needs) (λ c κs. search needs) (λ c κs. search needs) returns)

@@ -10,18 +10,6 @@ use borrow.Author.Needs.{needs}
 use Rattle.room.proofs.tally_literal.Statement.{statement}
 use Rattle.room.proofs.tally_literal.Tie as tie
 
-slice-aggregate-find-text : tie.Need-slice-aggregate-find-text
-slice-aggregate-find-text c = search needs
-
-find-text-requires : tie.Need-find-text-requires
-find-text-requires c κs = search needs
-
-undone-length-requires : tie.Need-undone-length-requires
-undone-length-requires c κs = search needs
-
-more-requires : tie.Need-more-requires
-more-requires c κs = search needs
-
 returns : tie.Need-returns
 unfolding Means
 returns c = λ x N ts H. one-counted ts (literal (undo (c .before .before .before .before .before .before .before .before .args .form) (c .before .before .before .before .before .before .before .before .args .text .now)) x) (c .before .before .before .before .before .before .before .before .args .t) (c .more .result) (c .before .before .find-text .result) (c .before .undone-length .result) (c .more .ensures) (c .before .before .find-text .ensures ts (literal (undo (c .before .before .before .before .before .before .before .before .args .form) (c .before .before .before .before .before .before .before .before .args .text .now)) x) H (refl, (refl, (refl, sym (N ts H)))) refl) (omega (arith, length-append (undo (c .before .before .before .before .before .before .before .before .args .form) (c .before .before .before .before .before .before .before .before .args .text .now)) [], c .before .undone-length .ensures))
@@ -30,8 +18,8 @@ pub tally-literal-spec : {M : Type 1} → statement M
 tally-literal-spec =
     tie.close
     (tie.spec
-    slice-aggregate-find-text
-    find-text-requires
-    undone-length-requires
-    more-requires
+    (λ c. search needs)
+    (λ c κs. search needs)
+    (λ c κs. search needs)
+    (λ c κs. search needs)
     returns)

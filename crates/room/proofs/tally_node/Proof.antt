@@ -3,9 +3,6 @@ use borrow.Author.Needs.{needs}
 use Rattle.room.proofs.tally_node.Statement.{statement}
 use Rattle.room.proofs.tally_node.Tie as tie
 
-tally-iri-requires : tie.Need-tally-iri-requires
-tally-iri-requires c κs = search needs
-
 returns : tie.Need-returns
 returns c = λ ts H. node-iri-is ts (c .before .before .before .before .before .before .before .before .args .p) (c .before .before .before .before .before .before .before .before .args .node) (c .before .before .before .before .before .before .before .before .args .work .now) (c .before .before .before .before .before .before .before .before .args .back .now) (c .before .before .before .before .before .before .before .before .args .text .now) (c .before .before .before .before .before .before .before .before .args .tag .now) (c .before .before .before .before .before .before .before .before .args .t) (c .tally-iri .result) (c .before .if1 .taken) (c .tally-iri .ensures ts H)
 
@@ -15,20 +12,11 @@ tally-label-requires c κs = (c .before .before .before .before .before .before 
 returns-2 : tie.Need-returns-2
 returns-2 c = λ ts H. node-label-is ts (c .before .before .before .before .before .before .before .before .before .args .p) (c .before .before .before .before .before .before .before .before .before .args .node) (c .before .before .before .before .before .before .before .before .before .args .work .now) (c .before .before .before .before .before .before .before .before .before .args .back .now) (c .before .before .before .before .before .before .before .before .before .args .text .now) (c .before .before .before .before .before .before .before .before .before .args .tag .now) (c .before .before .before .before .before .before .before .before .before .args .t) (c .tally-label .result) (c .before .if2 .taken) (c .tally-label .ensures ts H)
 
-tally-typed-requires : tie.Need-tally-typed-requires
-tally-typed-requires c κs = search needs
-
 returns-3 : tie.Need-returns-3
 returns-3 c = λ ts H. node-typed-is ts (c .before .before .before .before .before .before .before .before .before .before .args .p) (c .before .before .before .before .before .before .before .before .before .before .args .node) (c .before .before .before .before .before .before .before .before .before .before .args .work .now) (c .before .before .before .before .before .before .before .before .before .before .args .back .now) (c .before .before .before .before .before .before .before .before .before .before .args .text .now) (c .before .before .before .before .before .before .before .before .before .before .args .tag .now) (c .before .before .before .before .before .before .before .before .before .before .args .t) (c .tally-typed .result) (c .before .if3 .taken) (c .tally-typed .ensures ts H)
 
-tally-tagged-requires : tie.Need-tally-tagged-requires
-tally-tagged-requires c κs = search needs
-
 returns-4 : tie.Need-returns-4
 returns-4 c = λ ts H. node-tagged-is ts (c .before .before .before .before .before .before .before .before .before .before .before .args .p) (c .before .before .before .before .before .before .before .before .before .before .before .args .node) (c .before .before .before .before .before .before .before .before .before .before .before .args .work .now) (c .before .before .before .before .before .before .before .before .before .before .before .args .back .now) (c .before .before .before .before .before .before .before .before .before .before .before .args .text .now) (c .before .before .before .before .before .before .before .before .before .before .before .args .tag .now) (c .before .before .before .before .before .before .before .before .before .before .before .args .t) (c .tally-tagged .result) (c .before .if4 .taken) (c .tally-tagged .ensures ts H)
-
-more-requires : tie.Need-more-requires
-more-requires c κs = search needs
 
 returns-5 : tie.Need-returns-5
 returns-5 c = λ ts H. node-new-is ts (c .before .before .before .before .before .before .before .before .before .before .before .args .p) (c .before .before .before .before .before .before .before .before .before .before .before .args .node) (c .before .before .before .before .before .before .before .before .before .before .before .args .work .now) (c .before .before .before .before .before .before .before .before .before .before .before .args .back .now) (c .before .before .before .before .before .before .before .before .before .before .before .args .text .now) (c .before .before .before .before .before .before .before .before .before .before .before .args .tag .now) (c .before .before .before .before .before .before .before .before .before .before .before .args .t) (c .more .result) (c .before .before .before .before .if1 .left) (c .before .before .before .if2 .left) (c .before .before .if3 .left) (c .before .if4 .left) (c .more .ensures)
@@ -37,13 +25,13 @@ pub tally-node-spec : {M : Type 1} → statement M
 tally-node-spec =
     tie.close
     (tie.spec
-    tally-iri-requires
+    (λ c κs. search needs)
     returns
     tally-label-requires
     returns-2
-    tally-typed-requires
+    (λ c κs. search needs)
     returns-3
-    tally-tagged-requires
+    (λ c κs. search needs)
     returns-4
-    more-requires
+    (λ c κs. search needs)
     returns-5)

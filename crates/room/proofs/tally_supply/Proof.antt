@@ -6,19 +6,10 @@ use Rattle.room.proofs.tally_supply.Tie as tie
 returns : tie.Need-returns
 returns c = λ ts H. no-supply ts (c .before .before .before .before .args .p) (c .before .before .before .before .args .t) (c .if1 .taken)
 
-find-supplied-requires : tie.Need-find-supplied-requires
-find-supplied-requires c κs = search needs
-
-supplied-size-requires : tie.Need-supplied-size-requires
-supplied-size-requires c κs = search needs
-
-more-requires : tie.Need-more-requires
-more-requires c κs = search needs
-
 returns-2 : tie.Need-returns-2
 returns-2 c = λ ts H. some-supply ts (c .before .before .before .before .before .before .before .args .p) (c .before .before .before .before .before .before .before .args .t) (c .more .result) (c .before .before .find-supplied .result) (c .before .supplied-size .result) (c .before .before .before .if1 .left) (c .more .ensures) (c .before .before .find-supplied .ensures ts H) (c .before .supplied-size .ensures .0)
 
 pub tally-supply-spec : {M : Type 1} → statement M
 tally-supply-spec =
     tie.close
-    (tie.spec returns find-supplied-requires supplied-size-requires more-requires returns-2)
+    (tie.spec returns (λ c κs. search needs) (λ c κs. search needs) (λ c κs. search needs) returns-2)

@@ -10,22 +10,10 @@ use borrow.Author.Needs.{needs}
 use Rattle.room.proofs.tally_tagged.Statement.{statement}
 use Rattle.room.proofs.tally_tagged.Tie as tie
 
-find-text-requires : tie.Need-find-text-requires
-find-text-requires c κs = search needs
-
-undone-length-requires : tie.Need-undone-length-requires
-undone-length-requires c κs = search needs
-
-add-more : tie.Need-add-more
-add-more c = search needs
-
-more-requires : tie.Need-more-requires
-more-requires c κs = search needs
-
 returns : tie.Need-returns
 unfolding Means
 returns c = λ ts H. one-counted ts (tagged (undo (c .before .before .before .before .before .before .before .before .args .form) (c .before .before .before .before .before .before .before .before .args .text .now)) (c .before .before .before .before .before .before .before .before .args .tag .now)) (c .before .before .before .before .before .before .before .before .args .t) (c .more .result) (c .before .before .find-text .result) (c .before .undone-length .result + length (c .before .before .before .before .before .before .before .before .args .tag .now)) (c .more .ensures) (c .before .before .find-text .ensures ts (tagged (undo (c .before .before .before .before .before .before .before .before .args .form) (c .before .before .before .before .before .before .before .before .args .text .now)) (c .before .before .before .before .before .before .before .before .args .tag .now)) H (refl, (refl, refl)) refl) (omega (arith, length-append (undo (c .before .before .before .before .before .before .before .before .args .form) (c .before .before .before .before .before .before .before .before .args .text .now)) (c .before .before .before .before .before .before .before .before .args .tag .now), c .before .undone-length .ensures))
 
 pub tally-tagged-spec : {M : Type 1} → statement M
 tally-tagged-spec =
-    tie.close (tie.spec find-text-requires undone-length-requires add-more more-requires returns)
+    tie.close (tie.spec (λ c κs. search needs) (λ c κs. search needs) (λ c. search needs) (λ c κs. search needs) returns)

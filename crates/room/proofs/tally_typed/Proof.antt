@@ -9,12 +9,6 @@ use borrow.Author.Needs.{needs}
 use Rattle.room.proofs.tally_typed.Statement.{statement}
 use Rattle.room.proofs.tally_typed.Tie as tie
 
-find-iri-requires : tie.Need-find-iri-requires
-find-iri-requires c κs = search needs
-
-tally-iri-requires : tie.Need-tally-iri-requires
-tally-iri-requires c κs = search needs
-
 tally-literal-requires : tie.Need-tally-literal-requires
 tally-literal-requires c κs = (c .before .before .before .before .before .before .before .pre .0, (c .before .before .before .before .before .before .before .pre .1 .0 .1, small-within (c .before .before .before .before .before .before .before .args .t) (count-iri (c .before .before .before .before .before .before .before .pre .0 .1 .0) (c .before .before .before .before .before .before .before .args .p) (node-iri (c .before .before .before .before .before .before .before .args .node) (c .before .before .before .before .before .before .before .args .work .now) (c .before .before .before .before .before .before .before .args .back .now)) (c .before .before .before .before .before .before .before .args .t)) (c .tally-iri .result) 8000000000 1 1024 9000000000 (c .before .before .before .before .before .before .before .pre .1 .1) (iri-within (c .before .before .before .before .before .before .before .pre .0 .1 .0) (c .before .before .before .before .before .before .before .args .p) (node-iri (c .before .before .before .before .before .before .before .args .node) (c .before .before .before .before .before .before .before .args .work .now) (c .before .before .before .before .before .before .before .args .back .now)) (c .before .before .before .before .before .before .before .args .t) 1024 (c .before .before .before .before .before .before .before .pre .1 .0 .0 .short)) (c .tally-iri .ensures (c .before .before .before .before .before .before .before .pre .0 .1 .0) (c .before .before .before .before .before .before .before .pre .0 .1 .1)) (omega arith) (omega arith)))
 
@@ -23,4 +17,4 @@ returns c = λ ts H. c .tally-literal .ensures (node-iri (c .before .before .bef
 
 pub tally-typed-spec : {M : Type 1} → statement M
 tally-typed-spec =
-    tie.close (tie.spec find-iri-requires tally-iri-requires tally-literal-requires returns)
+    tie.close (tie.spec (λ c κs. search needs) (λ c κs. search needs) tally-literal-requires returns)

@@ -10,39 +10,15 @@ use borrow.Author.Needs.{needs}
 use Rattle.simple_terms.proofs.close_list.Statement.{statement}
 use Rattle.simple_terms.proofs.close_list.Tie as tie
 
--- src/lib.rt:139:9
-spot-here-requires : tie.Need-spot-here-requires
-spot-here-requires c κs = search needs
-
--- src/lib.rt:140:28
-slice-aggregate-close : tie.Need-slice-aggregate-close
-slice-aggregate-close c = search needs
-
--- src/lib.rt:140:35
-slice-aggregate-close-2 : tie.Need-slice-aggregate-close-2
-slice-aggregate-close-2 c = search needs
-
--- src/lib.rt:140:42
-slice-aggregate-close-3 : tie.Need-slice-aggregate-close-3
-slice-aggregate-close-3 c = search needs
-
--- src/lib.rt:140:50
-slice-aggregate-close-4 : tie.Need-slice-aggregate-close-4
-slice-aggregate-close-4 c = search needs
-
--- src/lib.rt:140:9
 close-requires : tie.Need-close-requires
 close-requires c κs = let e = c .before .before .before .before .before .before .before in let a = held (e .args .work .now) (e .args .rows .now) (e .args .terms .now) (e .args .store .now) (e .args .st .now) in let doc = e .args .doc .now .now in let p = put-ready doc a (e .pre .0 .0) (e .pre .0 .1) in (p .holds, spot-fits (a .st) _ (c .before .before .before .before .before .spot-here .ensures) (p .fits))
 
--- src/lib.rt:142:9
 returns : tie.Need-returns
 returns c = let e = c .before .before .before .before .before .before .before .before .before in let a = held (e .args .work .now) (e .args .rows .now) (e .args .terms .now) (e .args .store .now) (e .args .st .now) in let doc = e .args .doc .now .now in let k = c .before .close in closes doc a (e .pre .0 .0) _ _ (plain-refused doc _ a 25 (e .pre .1 .0) (record { escapes = refl; reference = refl; name = refl }) _ _ _ _ _ _ (flat _ _ 25 (ap kind-of-code (e .pre .1 .0)) refl) (aimed-put (a .st) _ (c .before .before .before .before .before .before .before .spot-here .ensures) closed _ _ _ _ _ _ (k .ensures)) (k .kept .0) (k .kept .1 .0) (k .kept .1 .1 .0) (k .kept .1 .1 .1 .0) (c .if1 .taken))
 
--- src/lib.rt:144:5
 leave-requires : tie.Need-leave-requires
 leave-requires c κs = let e = c .before .before .before .before .before .before .before .before .before .before in let a = held (e .args .work .now) (e .args .rows .now) (e .args .terms .now) (e .args .store .now) (e .args .st .now) in let doc = e .args .doc .now .now in let k = c .before .before .close in let s = k .last .1 .1 .1 .1 .0 in let t = still-there doc a (e .pre .0 .0) 25 (e .pre .1 .0) (omega arith) (omega arith) s (k .ensures .stays) (k .ensures .words) in (t .0, (t .1, above-stays (a .st) s (k .ensures .stays) (e .pre .1 .1)))
 
--- src/lib.rt:128:1
 returns-2 : tie.Need-returns-2
 returns-2 c = let e = c .before .before .before .before .before .before .before .before .before .before .before in let a = held (e .args .work .now) (e .args .rows .now) (e .args .terms .now) (e .args .store .now) (e .args .st .now) in let doc = e .args .doc .now .now in let k = c .before .before .before .close in closes doc a (e .pre .0 .0) _ _ (plain-done doc _ a 25 (e .pre .1 .0) (record { escapes = refl; reference = refl; name = refl }) _ _ _ _ _ _ (flat _ _ 25 (ap kind-of-code (e .pre .1 .0)) refl) (aimed-put (a .st) _ (c .before .before .before .before .before .before .before .before .before .spot-here .ensures) closed _ _ _ _ _ _ (k .ensures)) (k .kept .0) (k .kept .1 .0) (k .kept .1 .1 .0) (k .kept .1 .1 .1 .0) (c .before .before .if1 .left) _ _ (c .leave .ensures) (closing-depth doc a 25 (e .pre .1 .0) refl refl (k .last .1 .1 .1 .1 .0) (k .ensures .stays)))
 
@@ -50,11 +26,11 @@ pub close-list-spec : {M : Type 1} → statement M
 close-list-spec =
     tie.close
     (tie.spec
-    spot-here-requires
-    slice-aggregate-close
-    slice-aggregate-close-2
-    slice-aggregate-close-3
-    slice-aggregate-close-4
+    (λ c κs. search needs)
+    (λ c. search needs)
+    (λ c. search needs)
+    (λ c. search needs)
+    (λ c. search needs)
     close-requires
     returns
     leave-requires

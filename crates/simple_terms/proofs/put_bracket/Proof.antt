@@ -9,43 +9,18 @@ use borrow.Author.Needs.{needs}
 use Rattle.simple_terms.proofs.put_bracket.Statement.{statement}
 use Rattle.simple_terms.proofs.put_bracket.Tie as tie
 
--- src/lib.rt:92:25
-element-copy-out-if1 : tie.Need-element-copy-out-if1
-element-copy-out-if1 c = search needs
-
--- src/lib.rt:93:9
 returns : tie.Need-returns
 returns c = let e = c .before .before in let a = held (e .args .work .now) (e .args .rows .now) (e .args .terms .now) (e .args .store .now) (e .args .st .now) in let doc = e .args .doc .now .now in numbers doc a (e .pre .0 .0) _ a 13 (bracket-positive _ _) (open-deep doc _ a 22 (e .pre .1) (record { escapes = refl; reference = refl; name = refl }) refl (c .if1 .taken))
 
--- src/lib.rt:95:27
-slice-aggregate-place-bracket : tie.Need-slice-aggregate-place-bracket
-slice-aggregate-place-bracket c = search needs
-
--- src/lib.rt:95:34
-slice-aggregate-place-bracket-2 : tie.Need-slice-aggregate-place-bracket-2
-slice-aggregate-place-bracket-2 c = search needs
-
--- src/lib.rt:95:41
-slice-aggregate-place-bracket-3 : tie.Need-slice-aggregate-place-bracket-3
-slice-aggregate-place-bracket-3 c = search needs
-
--- src/lib.rt:95:49
-slice-aggregate-place-bracket-4 : tie.Need-slice-aggregate-place-bracket-4
-slice-aggregate-place-bracket-4 c = search needs
-
--- src/lib.rt:95:9
 place-bracket-requires : tie.Need-place-bracket-requires
 place-bracket-requires c κs = let e = c .before .before .before .before .before .before .before in let a = held (e .args .work .now) (e .args .rows .now) (e .args .terms .now) (e .args .store .now) (e .args .st .now) in let doc = e .args .doc .now .now in put-ready doc a (e .pre .0 .0) (e .pre .0 .1)
 
--- src/lib.rt:97:9
 returns-2 : tie.Need-returns-2
 returns-2 c = let e = c .before .before .before .before .before .before .before .before .before in let a = held (e .args .work .now) (e .args .rows .now) (e .args .terms .now) (e .args .store .now) (e .args .st .now) in let doc = e .args .doc .now .now in let k = c .before .place-bracket in numbers doc a (e .pre .0 .0) _ _ _ (bracket-positive _ _) (plain-refused doc _ a 22 (e .pre .1) (record { escapes = refl; reference = refl; name = refl }) _ _ _ _ _ _ (shallow _ _ 22 (ap kind-of-code (e .pre .1)) refl (c .before .before .before .before .before .before .before .if1 .left)) (k .ensures) (k .kept .0) (k .kept .1 .0) (k .kept .1 .1 .0) (k .kept .1 .1 .1 .0) (c .if2 .taken))
 
--- src/lib.rt:99:5
 deepen-requires : tie.Need-deepen-requires
 deepen-requires c κs = let e = c .before .before .before .before .before .before .before .before .before .before in let a = held (e .args .work .now) (e .args .rows .now) (e .args .terms .now) (e .args .store .now) (e .args .st .now) in let doc = e .args .doc .now .now in let k = c .before .before .place-bracket in let s = k .last .1 .1 .1 .1 .0 in let t = still-there doc a (e .pre .0 .0) 22 (e .pre .1) (omega arith) (omega arith) s (k .ensures .stays) (k .ensures .words) in (t .0, (t .1, below-stays (a .st) s (k .ensures .stays) (c .before .before .before .before .before .before .before .before .if1 .left)))
 
--- src/lib.rt:81:1
 returns-3 : tie.Need-returns-3
 returns-3 c = let e = c .before .before .before .before .before .before .before .before .before .before .before in let a = held (e .args .work .now) (e .args .rows .now) (e .args .terms .now) (e .args .store .now) (e .args .st .now) in let doc = e .args .doc .now .now in let k = c .before .before .before .place-bracket in numbers doc a (e .pre .0 .0) _ _ _ (bracket-positive _ _) (plain-done doc _ a 22 (e .pre .1) (record { escapes = refl; reference = refl; name = refl }) _ _ _ _ _ _ (shallow _ _ 22 (ap kind-of-code (e .pre .1)) refl (c .before .before .before .before .before .before .before .before .before .if1 .left)) (k .ensures) (k .kept .0) (k .kept .1 .0) (k .kept .1 .1 .0) (k .kept .1 .1 .1 .0) (c .before .before .if2 .left) _ _ (c .deepen .ensures) (opening-depth doc a 22 (e .pre .1) refl (k .last .1 .1 .1 .1 .0) (k .ensures .stays)))
 
@@ -53,12 +28,12 @@ pub put-bracket-spec : {M : Type 1} → statement M
 put-bracket-spec =
     tie.close
     (tie.spec
-    element-copy-out-if1
+    (λ c. search needs)
     returns
-    slice-aggregate-place-bracket
-    slice-aggregate-place-bracket-2
-    slice-aggregate-place-bracket-3
-    slice-aggregate-place-bracket-4
+    (λ c. search needs)
+    (λ c. search needs)
+    (λ c. search needs)
+    (λ c. search needs)
     place-bracket-requires
     returns-2
     deepen-requires

@@ -10,47 +10,18 @@ use borrow.Author.Needs.{needs}
 use Rattle.simple_terms.proofs.put_paren.Statement.{statement}
 use Rattle.simple_terms.proofs.put_paren.Tie as tie
 
--- src/lib.rt:115:25
-element-copy-out-if1 : tie.Need-element-copy-out-if1
-element-copy-out-if1 c = search needs
-
--- src/lib.rt:116:9
 returns : tie.Need-returns
 returns c = let e = c .before .before in let a = held (e .args .work .now) (e .args .rows .now) (e .args .terms .now) (e .args .store .now) (e .args .st .now) in let doc = e .args .doc .now .now in open-deep doc _ a 24 (e .pre .1) (record { escapes = refl; reference = refl; name = refl }) refl (c .if1 .taken) .does
 
--- src/lib.rt:118:9
-spot-here-requires : tie.Need-spot-here-requires
-spot-here-requires c κs = search needs
-
--- src/lib.rt:119:27
-slice-aggregate-open : tie.Need-slice-aggregate-open
-slice-aggregate-open c = search needs
-
--- src/lib.rt:119:34
-slice-aggregate-open-2 : tie.Need-slice-aggregate-open-2
-slice-aggregate-open-2 c = search needs
-
--- src/lib.rt:119:41
-slice-aggregate-open-3 : tie.Need-slice-aggregate-open-3
-slice-aggregate-open-3 c = search needs
-
--- src/lib.rt:119:49
-slice-aggregate-open-4 : tie.Need-slice-aggregate-open-4
-slice-aggregate-open-4 c = search needs
-
--- src/lib.rt:119:9
 open-requires : tie.Need-open-requires
 open-requires c κs = let e = c .before .before .before .before .before .before .before .before .before in let a = held (e .args .work .now) (e .args .rows .now) (e .args .terms .now) (e .args .store .now) (e .args .st .now) in let doc = e .args .doc .now .now in let p = put-ready doc a (e .pre .0 .0) (e .pre .0 .1) in (p .holds, spot-fits (a .st) _ (c .before .before .before .before .before .spot-here .ensures) (p .fits))
 
--- src/lib.rt:121:9
 returns-2 : tie.Need-returns-2
 returns-2 c = let e = c .before .before .before .before .before .before .before .before .before .before .before in let a = held (e .args .work .now) (e .args .rows .now) (e .args .terms .now) (e .args .store .now) (e .args .st .now) in let doc = e .args .doc .now .now in let k = c .before .«open» in plain-refused doc _ a 24 (e .pre .1) (record { escapes = refl; reference = refl; name = refl }) _ _ _ _ _ _ (shallow _ _ 24 (ap kind-of-code (e .pre .1)) refl (c .before .before .before .before .before .before .before .before .before .if1 .left)) (aimed-put (a .st) _ (c .before .before .before .before .before .before .before .spot-here .ensures) opened-at _ _ _ _ _ _ (k .ensures)) (k .kept .0) (k .kept .1 .0) (k .kept .1 .1 .0) (k .kept .1 .1 .1 .0) (c .if2 .taken) .does
 
--- src/lib.rt:123:5
 deepen-requires : tie.Need-deepen-requires
 deepen-requires c κs = let e = c .before .before .before .before .before .before .before .before .before .before .before .before in let a = held (e .args .work .now) (e .args .rows .now) (e .args .terms .now) (e .args .store .now) (e .args .st .now) in let doc = e .args .doc .now .now in let k = c .before .before .«open» in let s = k .last .1 .1 .1 .1 .0 in let t = still-there doc a (e .pre .0 .0) 24 (e .pre .1) (omega arith) (omega arith) s (k .ensures .stays) (k .ensures .words) in (t .0, (t .1, below-stays (a .st) s (k .ensures .stays) (c .before .before .before .before .before .before .before .before .before .before .if1 .left)))
 
--- src/lib.rt:104:1
 returns-3 : tie.Need-returns-3
 returns-3 c = let e = c .before .before .before .before .before .before .before .before .before .before .before .before .before in let a = held (e .args .work .now) (e .args .rows .now) (e .args .terms .now) (e .args .store .now) (e .args .st .now) in let doc = e .args .doc .now .now in let k = c .before .before .before .«open» in plain-done doc _ a 24 (e .pre .1) (record { escapes = refl; reference = refl; name = refl }) _ _ _ _ _ _ (shallow _ _ 24 (ap kind-of-code (e .pre .1)) refl (c .before .before .before .before .before .before .before .before .before .before .before .if1 .left)) (aimed-put (a .st) _ (c .before .before .before .before .before .before .before .before .before .spot-here .ensures) opened-at _ _ _ _ _ _ (k .ensures)) (k .kept .0) (k .kept .1 .0) (k .kept .1 .1 .0) (k .kept .1 .1 .1 .0) (c .before .before .if2 .left) _ _ (c .deepen .ensures) (opening-depth doc a 24 (e .pre .1) refl (k .last .1 .1 .1 .1 .0) (k .ensures .stays)) .does
 
@@ -58,13 +29,13 @@ pub put-paren-spec : {M : Type 1} → statement M
 put-paren-spec =
     tie.close
     (tie.spec
-    element-copy-out-if1
+    (λ c. search needs)
     returns
-    spot-here-requires
-    slice-aggregate-open
-    slice-aggregate-open-2
-    slice-aggregate-open-3
-    slice-aggregate-open-4
+    (λ c κs. search needs)
+    (λ c. search needs)
+    (λ c. search needs)
+    (λ c. search needs)
+    (λ c. search needs)
     open-requires
     returns-2
     deepen-requires

@@ -6,35 +6,15 @@ use borrow.Author.Needs.{needs}
 use Rattle.simple_terms.proofs.put_term.Statement.{statement}
 use Rattle.simple_terms.proofs.put_term.Tie as tie
 
--- src/lib.rt:391:30
-slice-aggregate-place-term : tie.Need-slice-aggregate-place-term
-slice-aggregate-place-term c = search needs
-
--- src/lib.rt:391:37
-slice-aggregate-place-term-2 : tie.Need-slice-aggregate-place-term-2
-slice-aggregate-place-term-2 c = search needs
-
--- src/lib.rt:391:44
-slice-aggregate-place-term-3 : tie.Need-slice-aggregate-place-term-3
-slice-aggregate-place-term-3 c = search needs
-
--- src/lib.rt:391:52
-slice-aggregate-place-term-4 : tie.Need-slice-aggregate-place-term-4
-slice-aggregate-place-term-4 c = search needs
-
--- src/lib.rt:391:9
 place-term-requires : tie.Need-place-term-requires
 place-term-requires c κs = let e = c .before .before .before .before .before .before in let a = held (e .args .work .now) (e .args .rows .now) (e .args .terms .now) (e .args .store .now) (e .args .st .now) in let doc = e .args .doc .now .now in let r = e .pre .0 .0 in let h = e .pre .1 in (put-ready doc a r (e .pre .0 .1), ((r .cursor, r .cursor .token (term-some _ h) (term-readable _ h)), h))
 
--- src/lib.rt:393:9
 returns : tie.Need-returns
 returns c = λ v g. let e = c .before .before .before .before .before .before .before .before in let a = held (e .args .work .now) (e .args .rows .now) (e .args .terms .now) (e .args .store .now) (e .args .st .now) in let doc = e .args .doc .now .now in let k = c .before .place-term in numbers doc a (e .pre .0 .0) _ _ _ (placed-positive _ v (rule-positive (here doc a) (here doc a .kind) v g)) (put-refused doc _ a _ _ _ _ _ _ (k .ensures v g) (k .kept .1 .0) (k .kept .1 .1 .0) (k .kept .1 .1 .1 .0) (k .kept .1 .1 .1 .1 .0) (c .if1 .taken))
 
--- src/lib.rt:395:5
 pass-requires : tie.Need-pass-requires
 pass-requires c κs = let e = c .before .before .before .before .before .before .before .before .before in let a = held (e .args .work .now) (e .args .rows .now) (e .args .terms .now) (e .args .store .now) (e .args .st .now) in let doc = e .args .doc .now .now in let k = c .before .before .place-term in term-still doc a (e .pre .0 .0) (e .pre .1) _ _ (k .last .1 .1 .1 .1 .1 .0) _ (k .ensures)
 
--- src/lib.rt:380:1
 returns-2 : tie.Need-returns-2
 returns-2 c = λ v g. let e = c .before .before .before .before .before .before .before .before .before .before in let a = held (e .args .work .now) (e .args .rows .now) (e .args .terms .now) (e .args .store .now) (e .args .st .now) in let doc = e .args .doc .now .now in let k = c .before .before .before .place-term in numbers doc a (e .pre .0 .0) _ _ _ (placed-positive _ v (rule-positive (here doc a) (here doc a .kind) v g)) (put-done doc _ a _ _ _ _ _ _ (k .ensures v g) (k .kept .1 .0) (k .kept .1 .1 .0) (k .kept .1 .1 .1 .0) (k .kept .1 .1 .1 .1 .0) (c .before .before .if1 .left) _ _ (c .pass .ensures) (term-depth-here doc a (e .pre .0 .0) (e .pre .1) _ _ (k .last .1 .1 .1 .1 .1 .0) _ (k .ensures)))
 
@@ -42,10 +22,10 @@ pub put-term-spec : {M : Type 1} → statement M
 put-term-spec =
     tie.close
     (tie.spec
-    slice-aggregate-place-term
-    slice-aggregate-place-term-2
-    slice-aggregate-place-term-3
-    slice-aggregate-place-term-4
+    (λ c. search needs)
+    (λ c. search needs)
+    (λ c. search needs)
+    (λ c. search needs)
     place-term-requires
     returns
     pass-requires

@@ -5,17 +5,8 @@ use borrow.Author.Needs.{needs}
 use Rattle.spelling.proofs.hash_bytes.Statement.{statement}
 use Rattle.spelling.proofs.hash_bytes.Tie as tie
 
-hash-first-requires : tie.Need-hash-first-requires
-hash-first-requires c κs = search needs
-
 returns : tie.Need-returns
 returns c = (c .hash-first .ensures .0 ∙ ap (λ (m : ℕ). hash-from m (c .before .before .before .args .h) (c .before .before .before .args .s .now)) (sym (c .before .if1 .taken)), c .hash-first .ensures .1)
 
-hash-each-requires : tie.Need-hash-each-requires
-hash-each-requires c κs = search needs
-
-returns-2 : tie.Need-returns-2
-returns-2 c = search needs
-
 pub hash-bytes-spec : {M : Type 1} → statement M
-hash-bytes-spec = tie.close (tie.spec hash-first-requires returns hash-each-requires returns-2)
+hash-bytes-spec = tie.close (tie.spec (λ c κs. search needs) returns (λ c κs. search needs) (λ c. search needs))

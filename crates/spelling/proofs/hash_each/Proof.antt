@@ -18,23 +18,11 @@ abbrev μ-loop : tie.MeasureT-loop
 loop-holds : tie.Need-loop-holds Inv-loop μ-loop
 loop-holds c = ((c .before .pre .1 .1, c .before .pre .1 .0), refl)
 
-shared-slice-read-wide : tie.Need-shared-slice-read-wide Inv-loop μ-loop
-shared-slice-read-wide c = search needs
-
-wide-requires : tie.Need-wide-requires Inv-loop μ-loop
-wide-requires c κs = search needs
-
 stir-requires : tie.Need-stir-requires Inv-loop μ-loop
 stir-requires c κs = (c .before .before .before .before .before .pre .0, (c .before .before .before .loop .inv .0 .1, omega arith))
 
-add-i : tie.Need-add-i Inv-loop μ-loop
-add-i c = search needs
-
-loop-less : tie.Need-loop-less Inv-loop μ-loop
-loop-less c = search needs
-
 loop-again : tie.Need-loop-again Inv-loop μ-loop
-loop-again c = ((omega arith, c .stir .ensures .1), c .before .before .before .before .loop .inv .1 ∙ rw (c .stir .ensures .0, c .before .wide .ensures) (hash-more (c .before .before .before .before .before .before .args .m) (c .before .before .before .before .loop .total) (c .before .before .before .before .before .before .args .s .now) (c .before .before .before .before .loop .i) (omega arith)))
+loop-again c = ((omega arith, c .stir .ensures .1), c .before .before .before .before .loop .inv .1 ∙ rw (c .stir .ensures .0, c .before .wide .ensures .0) (hash-more (c .before .before .before .before .before .before .args .m) (c .before .before .before .before .loop .total) (c .before .before .before .before .before .before .args .s .now) (c .before .before .before .before .loop .i) (omega arith)))
 
 returns : tie.Need-returns Inv-loop μ-loop
 returns c = (sym (c .before .loop .inv .1 ∙ hash-end (c .before .before .before .args .m) (c .before .loop .total) (c .before .before .before .args .s .now) (c .before .loop .i) (omega arith)), c .before .loop .inv .0 .1)
@@ -46,10 +34,10 @@ hash-each-spec =
     Inv-loop
     μ-loop
     loop-holds
-    shared-slice-read-wide
-    wide-requires
+    (λ c. search needs)
+    (λ c κs. search needs)
     stir-requires
-    add-i
-    loop-less
+    (λ c. search needs)
+    (λ c. search needs)
     loop-again
     returns)

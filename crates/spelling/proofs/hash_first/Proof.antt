@@ -18,53 +18,11 @@ abbrev μ-loop : tie.MeasureT-loop
 loop-holds : tie.Need-loop-holds Inv-loop μ-loop
 loop-holds c = ((omega arith, c .before .pre), refl)
 
-sub-loop : tie.Need-sub-loop Inv-loop μ-loop
-sub-loop c = search needs
-
-shared-slice-read-wide : tie.Need-shared-slice-read-wide Inv-loop μ-loop
-shared-slice-read-wide c = search needs
-
-wide-requires : tie.Need-wide-requires Inv-loop μ-loop
-wide-requires c κs = search needs
-
-add-wide : tie.Need-add-wide Inv-loop μ-loop
-add-wide c = search needs
-
-shared-slice-read-wide-2 : tie.Need-shared-slice-read-wide-2 Inv-loop μ-loop
-shared-slice-read-wide-2 c = search needs
-
-wide-requires-2 : tie.Need-wide-requires-2 Inv-loop μ-loop
-wide-requires-2 c κs = search needs
-
-add-wide-2 : tie.Need-add-wide-2 Inv-loop μ-loop
-add-wide-2 c = search needs
-
-shared-slice-read-wide-3 : tie.Need-shared-slice-read-wide-3 Inv-loop μ-loop
-shared-slice-read-wide-3 c = search needs
-
-wide-requires-3 : tie.Need-wide-requires-3 Inv-loop μ-loop
-wide-requires-3 c κs = search needs
-
-add-wide-3 : tie.Need-add-wide-3 Inv-loop μ-loop
-add-wide-3 c = search needs
-
-shared-slice-read-wide-4 : tie.Need-shared-slice-read-wide-4 Inv-loop μ-loop
-shared-slice-read-wide-4 c = search needs
-
-wide-requires-4 : tie.Need-wide-requires-4 Inv-loop μ-loop
-wide-requires-4 c κs = search needs
-
 stir-4-requires : tie.Need-stir-4-requires Inv-loop μ-loop
-stir-4-requires c κs = (c .before .before .before .before .before .before .before .before .before .loop .inv .0 .1, (first-byte (c .before .before .before .before .before .before .before .before .before .before .before .args .s .now) (c .before .before .before .before .before .before .before .before .before .loop .i) (c .before .before .before .before .before .before .wide .result) (λ k. c .before .before .before .before .before .before .before .before .before .before .shared-slice-known .given k .fits) (c .before .before .before .before .before .before .wide .ensures), (first-byte (c .before .before .before .before .before .before .before .before .before .before .before .args .s .now) (c .before .before .before .before .before .before .before .before .before .loop .i + 1) (c .before .before .before .before .wide2 .result) (λ k. c .before .before .before .before .before .before .before .before .before .before .shared-slice-known .given k .fits) (c .before .before .before .before .wide2 .ensures), (first-byte (c .before .before .before .before .before .before .before .before .before .before .before .args .s .now) (c .before .before .before .before .before .before .before .before .before .loop .i + 2) (c .before .before .wide3 .result) (λ k. c .before .before .before .before .before .before .before .before .before .before .shared-slice-known .given k .fits) (c .before .before .wide3 .ensures), first-byte (c .before .before .before .before .before .before .before .before .before .before .before .args .s .now) (c .before .before .before .before .before .before .before .before .before .loop .i + 3) (c .wide4 .result) (λ k. c .before .before .before .before .before .before .before .before .before .before .shared-slice-known .given k .fits) (c .wide4 .ensures)))))
-
-add-i : tie.Need-add-i Inv-loop μ-loop
-add-i c = search needs
-
-loop-less : tie.Need-loop-less Inv-loop μ-loop
-loop-less c = search needs
+stir-4-requires c κs = (c .before .before .before .before .before .before .before .before .before .loop .inv .0 .1, (first-byte (c .before .before .before .before .before .before .before .before .before .before .before .args .s .now) (c .before .before .before .before .before .before .before .before .before .loop .i) (c .before .before .before .before .before .before .wide .result) (λ k. c .before .before .before .before .before .before .before .before .before .before .shared-slice-known .given k .fits) (c .before .before .before .before .before .before .wide .ensures .0), (first-byte (c .before .before .before .before .before .before .before .before .before .before .before .args .s .now) (c .before .before .before .before .before .before .before .before .before .loop .i + 1) (c .before .before .before .before .wide2 .result) (λ k. c .before .before .before .before .before .before .before .before .before .before .shared-slice-known .given k .fits) (c .before .before .before .before .wide2 .ensures .0), (first-byte (c .before .before .before .before .before .before .before .before .before .before .before .args .s .now) (c .before .before .before .before .before .before .before .before .before .loop .i + 2) (c .before .before .wide3 .result) (λ k. c .before .before .before .before .before .before .before .before .before .before .shared-slice-known .given k .fits) (c .before .before .wide3 .ensures .0), first-byte (c .before .before .before .before .before .before .before .before .before .before .before .args .s .now) (c .before .before .before .before .before .before .before .before .before .loop .i + 3) (c .wide4 .result) (λ k. c .before .before .before .before .before .before .before .before .before .before .shared-slice-known .given k .fits) (c .wide4 .ensures .0)))))
 
 loop-again : tie.Need-loop-again Inv-loop μ-loop
-loop-again c = ((omega arith, c .stir-4 .ensures .1), c .before .before .before .before .before .before .before .before .before .before .loop .inv .1 ∙ (hash-four (c .before .before .before .before .before .before .before .before .before .before .loop .total) (c .before .before .before .before .before .before .before .before .before .before .before .before .args .s .now) (c .before .before .before .before .before .before .before .before .before .before .loop .i) (omega arith) (λ k. c .before .before .before .before .before .before .before .before .before .before .before .shared-slice-known .given k .fits) ∙ ap (λ (n : ℕ). hash-from first-multiplier n (drop (c .before .before .before .before .before .before .before .before .before .before .loop .i + 4) (c .before .before .before .before .before .before .before .before .before .before .before .before .args .s .now))) (sym (c .stir-4 .ensures .0 ∙ rw (c .before .before .before .before .before .before .before .wide .ensures, c .before .before .before .before .before .wide2 .ensures, c .before .before .before .wide3 .ensures, c .before .wide4 .ensures)))))
+loop-again c = ((omega arith, c .stir-4 .ensures .1), c .before .before .before .before .before .before .before .before .before .before .loop .inv .1 ∙ (hash-four (c .before .before .before .before .before .before .before .before .before .before .loop .total) (c .before .before .before .before .before .before .before .before .before .before .before .before .args .s .now) (c .before .before .before .before .before .before .before .before .before .before .loop .i) (omega arith) (λ k. c .before .before .before .before .before .before .before .before .before .before .before .shared-slice-known .given k .fits) ∙ ap (λ (n : ℕ). hash-from first-multiplier n (drop (c .before .before .before .before .before .before .before .before .before .before .loop .i + 4) (c .before .before .before .before .before .before .before .before .before .before .before .before .args .s .now))) (sym (c .stir-4 .ensures .0 ∙ rw (c .before .before .before .before .before .before .before .wide .ensures .0, c .before .before .before .before .before .wide2 .ensures .0, c .before .before .before .wide3 .ensures .0, c .before .wide4 .ensures .0)))))
 
 hash-each-requires : tie.Need-hash-each-requires Inv-loop μ-loop
 hash-each-requires c κs = (omega arith, (c .before .loop .inv .0 .1, c .before .loop .inv .0 .0))
@@ -79,21 +37,21 @@ hash-first-spec =
     Inv-loop
     μ-loop
     loop-holds
-    sub-loop
-    shared-slice-read-wide
-    wide-requires
-    add-wide
-    shared-slice-read-wide-2
-    wide-requires-2
-    add-wide-2
-    shared-slice-read-wide-3
-    wide-requires-3
-    add-wide-3
-    shared-slice-read-wide-4
-    wide-requires-4
+    (λ c. search needs)
+    (λ c. search needs)
+    (λ c κs. search needs)
+    (λ c. search needs)
+    (λ c. search needs)
+    (λ c κs. search needs)
+    (λ c. search needs)
+    (λ c. search needs)
+    (λ c κs. search needs)
+    (λ c. search needs)
+    (λ c. search needs)
+    (λ c κs. search needs)
     stir-4-requires
-    add-i
-    loop-less
+    (λ c. search needs)
+    (λ c. search needs)
     loop-again
     hash-each-requires
     returns)

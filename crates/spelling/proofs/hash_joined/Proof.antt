@@ -5,15 +5,9 @@ use borrow.Author.Needs.{needs}
 use Rattle.spelling.proofs.hash_joined.Statement.{statement}
 use Rattle.spelling.proofs.hash_joined.Tie as tie
 
-hash-bytes-requires : tie.Need-hash-bytes-requires
-hash-bytes-requires c κs = search needs
-
-hash-undone-requires : tie.Need-hash-undone-requires
-hash-undone-requires c κs = (c .before .before .before .pre, c .hash-bytes .ensures .1)
-
 returns : tie.Need-returns
 unfolding joined
 returns c = (c .hash-undone .ensures .0 ∙ rw (c .before .hash-bytes .ensures .0) (sym (hash-append (c .before .before .before .before .args .m) 0 (c .before .before .before .before .args .front .now) (undo (c .before .before .before .before .args .form) (c .before .before .before .before .args .back .now)))), c .hash-undone .ensures .1)
 
 pub hash-joined-spec : {M : Type 1} → statement M
-hash-joined-spec = tie.close (tie.spec hash-bytes-requires hash-undone-requires returns)
+hash-joined-spec = tie.close (tie.spec (λ c κs. search needs) (λ c κs. (c .before .before .before .pre, c .hash-bytes .ensures .1)) returns)

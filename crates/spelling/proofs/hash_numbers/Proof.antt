@@ -15,24 +15,6 @@ Inv-loop m h s total₀ i₀ total i = ((i ≤ length s) × (total < 4294967296)
 abbrev μ-loop : tie.MeasureT-loop
 μ-loop m h s total₀ i₀ total i = length s - i
 
-loop-holds : tie.Need-loop-holds Inv-loop μ-loop
-loop-holds c = search needs
-
-mul-stir : tie.Need-mul-stir Inv-loop μ-loop
-mul-stir c = search needs
-
-shared-slice-read-stir : tie.Need-shared-slice-read-stir Inv-loop μ-loop
-shared-slice-read-stir c = search needs
-
-stir-requires : tie.Need-stir-requires Inv-loop μ-loop
-stir-requires c κs = search needs
-
-add-i : tie.Need-add-i Inv-loop μ-loop
-add-i c = search needs
-
-loop-less : tie.Need-loop-less Inv-loop μ-loop
-loop-less c = search needs
-
 loop-again : tie.Need-loop-again Inv-loop μ-loop
 loop-again c = ((omega arith, c .stir .ensures .1), c .before .before .before .loop .inv .1 ∙ rw (c .stir .ensures .0) (hash-more (c .before .before .before .before .before .args .m) (c .before .before .before .loop .total) (c .before .before .before .before .before .args .s .now) (c .before .before .before .loop .i) (omega arith)))
 
@@ -45,11 +27,11 @@ hash-numbers-spec =
     (tie.spec
     Inv-loop
     μ-loop
-    loop-holds
-    mul-stir
-    shared-slice-read-stir
-    stir-requires
-    add-i
-    loop-less
+    (λ c. search needs)
+    (λ c. search needs)
+    (λ c. search needs)
+    (λ c κs. search needs)
+    (λ c. search needs)
+    (λ c. search needs)
     loop-again
     returns)

@@ -19,20 +19,11 @@ Inv-loop m h s scan₀ total₀ i₀ scan total i = (((i ≤ length s) × Fair s
 abbrev μ-loop : tie.MeasureT-loop
 μ-loop m h s scan₀ total₀ i₀ scan total i = length s - i
 
-has-backslash-requires : tie.Need-has-backslash-requires Inv-loop μ-loop
-has-backslash-requires c κs = search needs
-
-hash-bytes-requires : tie.Need-hash-bytes-requires Inv-loop μ-loop
-hash-bytes-requires c κs = search needs
-
 returns : tie.Need-returns Inv-loop μ-loop
 returns c = (c .hash-bytes .ensures .0 ∙ ap (hash-from (c .before .before .before .before .args .m) (c .before .before .before .before .args .h)) (sym (c .before .before .before .before .pre .0 .plain (c .before .before .before .before .args .s .now) (sym (c .before .before .has-backslash .ensures) ∙ not-true _ (c .before .if1 .taken)))), c .hash-bytes .ensures .1)
 
 loop-holds : tie.Need-loop-holds Inv-loop μ-loop
 loop-holds c = (((omega arith, c .before .before .before .pre .0 .fair), c .before .before .before .pre .1 .1), refl)
-
-plain-to-requires : tie.Need-plain-to-requires Inv-loop μ-loop
-plain-to-requires c κs = search needs
 
 sub-hash-bytes : tie.Need-sub-hash-bytes Inv-loop μ-loop
 sub-hash-bytes c = c .before .plain-to .ensures .after
@@ -52,15 +43,6 @@ loop-less c = omega (arith, c .before .before .before .plain-to .ensures .fits)
 loop-again : tie.Need-loop-again Inv-loop μ-loop
 loop-again c = (((c .before .before .before .plain-to .ensures .fits, c .before .before .before .before .before .loop .inv .0 .0 .1), c .hash-bytes2 .ensures .1), c .before .before .before .before .before .loop .inv .1 ∙ hash-stretch (c .before .before .before .before .before .before .before .before .before .args .m) (c .before .before .before .before .before .loop .scan) (c .before .before .before .before .before .before .before .before .before .args .s .now) (c .before .before .before .before .before .loop .i) (c .before .before .before .plain-to .result) _ (c .before .before .before .plain-to .ensures) (c .before .before .before .before .before .loop .total) (c .hash-bytes2 .result) (c .hash-bytes2 .ensures .0))
 
-letter-at-requires : tie.Need-letter-at-requires Inv-loop μ-loop
-letter-at-requires c κs = search needs
-
-sub-t22 : tie.Need-sub-t22 Inv-loop μ-loop
-sub-t22 c = search needs
-
-slice-aggregate-hash-numbers : tie.Need-slice-aggregate-hash-numbers Inv-loop μ-loop
-slice-aggregate-hash-numbers c = search needs
-
 hash-numbers-requires : tie.Need-hash-numbers-requires Inv-loop μ-loop
 hash-numbers-requires c κs = (c .before .before .before .before .before .before .before .before .before .before .pre .1 .0, c .before .before .before .before .before .before .loop .inv .0 .1)
 
@@ -73,15 +55,6 @@ loop-less-2 c = omega (arith, c .before .before .before .letter-at .ensures .0 (
 loop-again-2 : tie.Need-loop-again-2 Inv-loop μ-loop
 loop-again-2 c = (((c .before .before .before .letter-at .ensures .0 (c .before .before .if3 .taken) .fits, c .before .before .before .before .before .before .before .loop .inv .0 .0 .1), c .hash-numbers .ensures .1), c .before .before .before .before .before .before .before .loop .inv .1 ∙ hash-stretch (c .before .before .before .before .before .before .before .before .before .before .before .args .m) (c .before .before .before .before .before .before .before .loop .scan) (c .before .before .before .before .before .before .before .before .before .before .before .args .s .now) (c .before .before .before .before .before .before .before .loop .i) (c .before .before .before .before .before .before .before .loop .i + 2) _ (c .before .before .before .letter-at .ensures .0 (c .before .before .if3 .taken)) (c .before .before .before .before .before .before .before .loop .total) (c .hash-numbers .result) (c .hash-numbers .ensures .0))
 
-shared-slice-read-step : tie.Need-shared-slice-read-step Inv-loop μ-loop
-shared-slice-read-step c = search needs
-
-step-requires : tie.Need-step-requires Inv-loop μ-loop
-step-requires c κs = search needs
-
-bytes-requires : tie.Need-bytes-requires Inv-loop μ-loop
-bytes-requires c κs = search needs
-
 array-share-prefix-b : tie.Need-array-share-prefix-b Inv-loop μ-loop
 array-share-prefix-b c = four-fits (c .before .step .result) (c .bytes .result) (c .bytes .ensures) (fair-more (c .before .before .before .before .before .before .before .before .loop .scan) (c .before .step .result) (c .before .before .before .before .before .before .before .before .before .before .before .before .args .s .now) (c .before .before .before .before .before .before .before .before .loop .i) (omega arith) (c .before .before .before .before .before .before .before .before .loop .inv .0 .0 .1) (c .before .step .ensures) (c .before .before .shared-slice-known2 .given (c .before .before .before .before .before .before .before .before .loop .i) .fits) .small)
 
@@ -90,12 +63,6 @@ slice-aggregate-hash-numbers-2 c = sym (length-take-le (c .before .before .step 
 
 hash-numbers-requires-2 : tie.Need-hash-numbers-requires-2 Inv-loop μ-loop
 hash-numbers-requires-2 c κs = (c .before .before .before .before .before .before .before .before .before .before .before .before .before .pre .1 .0, c .before .before .before .before .before .before .before .before .before .loop .inv .0 .1)
-
-add-i-2 : tie.Need-add-i-2 Inv-loop μ-loop
-add-i-2 c = search needs
-
-loop-less-3 : tie.Need-loop-less-3 Inv-loop μ-loop
-loop-less-3 c = search needs
 
 loop-again-3 : tie.Need-loop-again-3 Inv-loop μ-loop
 loop-again-3 c = (((omega arith, fair-more (c .before .before .before .before .before .before .before .before .before .before .loop .scan) (c .before .before .before .step .result) (c .before .before .before .before .before .before .before .before .before .before .before .before .before .before .args .s .now) (c .before .before .before .before .before .before .before .before .before .before .loop .i) (omega arith) (c .before .before .before .before .before .before .before .before .before .before .loop .inv .0 .0 .1) (c .before .before .before .step .ensures) (c .before .before .before .before .shared-slice-known2 .given (c .before .before .before .before .before .before .before .before .before .before .loop .i) .fits)), c .hash-numbers2 .ensures .1), c .before .before .before .before .before .before .before .before .before .before .loop .inv .1 ∙ hash-piece (c .before .before .before .before .before .before .before .before .before .before .before .before .before .before .args .m) (c .before .before .before .before .before .before .before .before .before .before .loop .scan) (c .before .before .before .step .result) (c .before .before .before .before .before .before .before .before .before .before .before .before .before .before .args .s .now) (c .before .before .before .before .before .before .before .before .before .before .loop .i) (omega arith) (c .before .before .before .before .before .before .before .before .before .before .loop .inv .0 .0 .1) (c .before .before .before .step .ensures) (c .before .before .before .before .shared-slice-known2 .given (c .before .before .before .before .before .before .before .before .before .before .loop .i) .fits) (c .before .before .bytes .result) (c .before .before .bytes .ensures) (c .before .before .before .before .before .before .before .before .before .before .loop .total) (c .hash-numbers2 .result) (c .hash-numbers2 .ensures .0))
@@ -109,31 +76,31 @@ hash-scan-spec =
     (tie.spec
     Inv-loop
     μ-loop
-    has-backslash-requires
-    hash-bytes-requires
+    (λ c κs. search needs)
+    (λ c κs. search needs)
     returns
     loop-holds
-    plain-to-requires
+    (λ c κs. search needs)
     sub-hash-bytes
     part-hash-bytes-start
     part-hash-bytes-end
     hash-bytes-requires-2
     loop-less
     loop-again
-    letter-at-requires
-    sub-t22
-    slice-aggregate-hash-numbers
+    (λ c κs. search needs)
+    (λ c. search needs)
+    (λ c. search needs)
     hash-numbers-requires
     add-i
     loop-less-2
     loop-again-2
-    shared-slice-read-step
-    step-requires
-    bytes-requires
+    (λ c. search needs)
+    (λ c κs. search needs)
+    (λ c κs. search needs)
     array-share-prefix-b
     slice-aggregate-hash-numbers-2
     hash-numbers-requires-2
-    add-i-2
-    loop-less-3
+    (λ c. search needs)
+    (λ c. search needs)
     loop-again-3
     returns-2)

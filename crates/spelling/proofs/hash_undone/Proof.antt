@@ -6,30 +6,6 @@ use borrow.Author.Needs.{needs}
 use Rattle.spelling.proofs.hash_undone.Statement.{statement}
 use Rattle.spelling.proofs.hash_undone.Tie as tie
 
-enum-told : tie.Need-enum-told
-enum-told c = search needs
-
-hash-bytes-requires : tie.Need-hash-bytes-requires
-hash-bytes-requires c κs = search needs
-
-enum-told-2 : tie.Need-enum-told-2
-enum-told-2 c = search needs
-
-text-requires : tie.Need-text-requires
-text-requires c κs = search needs
-
-hash-scan-requires : tie.Need-hash-scan-requires
-hash-scan-requires c κs = (text-starts (c .text .result) (c .text .ensures), c .before .before .before .before .pre)
-
-enum-told-3 : tie.Need-enum-told-3
-enum-told-3 c = search needs
-
-name-requires : tie.Need-name-requires
-name-requires c κs = search needs
-
-hash-scan-requires-2 : tie.Need-hash-scan-requires-2
-hash-scan-requires-2 c κs = (name-starts (c .name .result) (c .name .ensures), c .before .before .before .before .pre)
-
 returns : tie.Need-returns
 unfolding undo
 returns c = rw (c .before .enum-told .given .1) (c .hash-bytes .ensures)
@@ -46,14 +22,14 @@ pub hash-undone-spec : {M : Type 1} → statement M
 hash-undone-spec =
     tie.close
     (tie.spec
-    enum-told
-    hash-bytes-requires
-    enum-told-2
-    text-requires
-    hash-scan-requires
-    enum-told-3
-    name-requires
-    hash-scan-requires-2
+    (λ c. search needs)
+    (λ c κs. search needs)
+    (λ c. search needs)
+    (λ c κs. search needs)
+    (λ c κs. (text-starts (c .text .result) (c .text .ensures), c .before .before .before .before .pre))
+    (λ c. search needs)
+    (λ c κs. search needs)
+    (λ c κs. (name-starts (c .name .result) (c .name .ensures), c .before .before .before .before .pre))
     returns
     returns-2
     returns-3)

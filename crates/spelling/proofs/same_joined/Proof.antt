@@ -9,23 +9,8 @@ use Rattle.spelling.proofs.same_joined.Tie as tie
 returns : tie.Need-returns
 returns c = joined-short (c .before .before .before .before .args .front .now) (c .before .before .before .before .args .form) (c .before .before .before .before .args .back .now) (c .before .before .before .before .args .t .now) (omega arith)
 
-sub-same-undone : tie.Need-sub-same-undone
-sub-same-undone c = search needs
-
-part-same-undone-start : tie.Need-part-same-undone-start
-part-same-undone-start c = search needs
-
-part-same-undone-end : tie.Need-part-same-undone-end
-part-same-undone-end c = search needs
-
-same-undone-requires : tie.Need-same-undone-requires
-same-undone-requires c κs = search needs
-
 slice-aggregate-same : tie.Need-slice-aggregate-same
 slice-aggregate-same c = sym (length-take-le _ (c .before .before .before .before .before .before .before .before .args .t .now) (omega arith))
-
-same-requires : tie.Need-same-requires
-same-requires c κs = search needs
 
 returns-2 : tie.Need-returns-2
 returns-2 c = joined-same (c .before .before .before .before .before .before .before .before .before .args .front .now) (c .before .before .before .before .before .before .before .before .before .args .form) (c .before .before .before .before .before .before .before .before .before .args .back .now) (c .before .before .before .before .before .before .before .before .before .args .t .now) _ (sym (c .before .before .before .same-undone .ensures) ∙ c .before .before .if2 .taken) (c .same .ensures)
@@ -38,11 +23,11 @@ same-joined-spec =
     tie.close
     (tie.spec
     returns
-    sub-same-undone
-    part-same-undone-start
-    part-same-undone-end
-    same-undone-requires
+    (λ c. search needs)
+    (λ c. search needs)
+    (λ c. search needs)
+    (λ c κs. search needs)
     slice-aggregate-same
-    same-requires
+    (λ c κs. search needs)
     returns-2
     returns-3)

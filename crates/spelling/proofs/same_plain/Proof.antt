@@ -11,23 +11,8 @@ use Rattle.spelling.proofs.same_plain.Tie as tie
 returns : tie.Need-returns
 returns c = joined-short (c .before .before .before .before .args .front .now) Plain (c .before .before .before .before .args .back .now) (c .before .before .before .before .args .t .now) (omega arith)
 
-sub-same : tie.Need-sub-same
-sub-same c = search needs
-
-part-same-start : tie.Need-part-same-start
-part-same-start c = search needs
-
-part-same-end : tie.Need-part-same-end
-part-same-end c = search needs
-
-same-requires : tie.Need-same-requires
-same-requires c κs = search needs
-
 slice-aggregate-same : tie.Need-slice-aggregate-same
 slice-aggregate-same c = sym (length-take-le _ (c .before .before .before .before .before .before .before .before .args .t .now) (omega arith))
-
-same-requires-2 : tie.Need-same-requires-2
-same-requires-2 c κs = search needs
 
 returns-2 : tie.Need-returns-2
 unfolding undo
@@ -42,11 +27,11 @@ same-plain-spec =
     tie.close
     (tie.spec
     returns
-    sub-same
-    part-same-start
-    part-same-end
-    same-requires
+    (λ c. search needs)
+    (λ c. search needs)
+    (λ c. search needs)
+    (λ c κs. search needs)
     slice-aggregate-same
-    same-requires-2
+    (λ c κs. search needs)
     returns-2
     returns-3)

@@ -5,15 +5,9 @@ use borrow.Author.Needs.{needs}
 use Rattle.spelling.proofs.simplest.Statement.{statement}
 use Rattle.spelling.proofs.simplest.Tie as tie
 
-has-backslash-requires : tie.Need-has-backslash-requires
-has-backslash-requires c κs = search needs
-
-returns : tie.Need-returns
-returns c = (refl, refl)
-
 returns-2 : tie.Need-returns-2
 unfolding undo bad
 returns-2 c = plain-form (c .before .before .before .args .form) (c .before .before .before .args .back .now) (sym (c .before .has-backslash .ensures) ∙ c .if1 .left)
 
 pub simplest-spec : {M : Type 1} → statement M
-simplest-spec = tie.close (tie.spec has-backslash-requires returns returns-2)
+simplest-spec = tie.close (tie.spec (λ c κs. search needs) (λ c. (refl, refl)) returns-2)

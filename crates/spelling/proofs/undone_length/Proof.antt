@@ -3,21 +3,6 @@ use borrow.Author.Needs.{needs}
 use Rattle.spelling.proofs.undone_length.Statement.{statement}
 use Rattle.spelling.proofs.undone_length.Tie as tie
 
-enum-told : tie.Need-enum-told
-enum-told c = search needs
-
-enum-told-2 : tie.Need-enum-told-2
-enum-told-2 c = search needs
-
-unescaped-length-requires : tie.Need-unescaped-length-requires
-unescaped-length-requires c κs = search needs
-
-enum-told-3 : tie.Need-enum-told-3
-enum-told-3 c = search needs
-
-unreserved-length-requires : tie.Need-unreserved-length-requires
-unreserved-length-requires c κs = search needs
-
 returns : tie.Need-returns
 unfolding undo
 returns c = rw (c .enum-told .given .1)
@@ -34,11 +19,11 @@ pub undone-length-spec : {M : Type 1} → statement M
 undone-length-spec =
     tie.close
     (tie.spec
-    enum-told
-    enum-told-2
-    unescaped-length-requires
-    enum-told-3
-    unreserved-length-requires
+    (λ c. search needs)
+    (λ c. search needs)
+    (λ c κs. search needs)
+    (λ c. search needs)
+    (λ c κs. search needs)
     returns
     returns-2
     returns-3)

@@ -1,22 +1,7 @@
 -- `is_directive` meets its contract.
-use borrow.Author.Tests.{ne-eqb}
+use Rattle.simulation.proofs.Tests.{or-more, or-none}
 use Rattle.statements.proofs.is_directive.Statement.{statement}
 use Rattle.statements.proofs.is_directive.Tie as tie
 
-returns : tie.Need-returns
-returns c = rw (c .match .keys1)
-
-returns-2 : tie.Need-returns-2
-returns-2 c = rw (c .match .keys2)
-
-returns-3 : tie.Need-returns-3
-returns-3 c = rw (c .match .keys3)
-
-returns-4 : tie.Need-returns-4
-returns-4 c = rw (c .match .keys4)
-
-returns-5 : tie.Need-returns-5
-returns-5 c = simp (ne-eqb (c .before .args .kind) 17 ((c .match .rest) .1), ne-eqb (c .before .args .kind) 16 ((c .match .rest) .0 .1), ne-eqb (c .before .args .kind) 6 ((c .match .rest) .0 .0 .1), ne-eqb (c .before .args .kind) 5 ((c .match .rest) .0 .0 .0 .1))
-
 pub is-directive-spec : {M : Type 1} → statement M
-is-directive-spec = tie.close (tie.spec returns returns-2 returns-3 returns-4 returns-5)
+is-directive-spec = tie.close (tie.spec (λ c. simp (or-more, or-none)))

@@ -5,15 +5,6 @@ use borrow.Author.Needs.{needs}
 use Rattle.term_text.proofs.answer_text.Statement.{statement}
 use Rattle.term_text.proofs.answer_text.Tie as tie
 
-find-span-requires : tie.Need-find-span-requires
-find-span-requires c κs = search needs
-
-enum-told : tie.Need-enum-told
-enum-told c = search needs
-
-enum-told-2 : tie.Need-enum-told-2
-enum-told-2 c = search needs
-
 returns : tie.Need-returns
 returns c = sym (ap answer (part-of (lent (c .before .before .before .before .before .args .terms .now) (c .before .before .before .before .before .args .count) (c .before .before .before .before .before .args .store .now) (c .before .before .before .before .before .args .used)) (c .before .before .before .before .before .args .number) _ _ (sym (c .before .before .find-span .ensures) ∙ c .enum-told .given .1) .text))
 
@@ -21,4 +12,4 @@ returns-2 : tie.Need-returns-2
 returns-2 c = sym (ap answer (none-of (lent (c .before .before .before .before .before .args .terms .now) (c .before .before .before .before .before .args .count) (c .before .before .before .before .before .args .store .now) (c .before .before .before .before .before .args .used)) (c .before .before .before .before .before .args .number) (sym (c .before .before .find-span .ensures) ∙ c .enum-told2 .given .1)))
 
 pub answer-text-spec : {M : Type 1} → statement M
-answer-text-spec = tie.close (tie.spec find-span-requires enum-told enum-told-2 returns returns-2)
+answer-text-spec = tie.close (tie.spec (λ c κs. search needs) (λ c. search needs) (λ c. search needs) (λ c. search needs) (λ c. search needs) returns returns-2)

@@ -1,5 +1,6 @@
 use Prim.Native.Nat.{_+_, _-_, _*_}
 use native.Mathlib.Omega.{arith}
+use Rattle.table.specs.Layout.{term-size}
 use Rattle.term_text.proofs.Spans.{over-count, past-count, past-terms, past-store, low-kind, high-kind, past-used, shown}
 use borrow.Author.Needs.{needs}
 use Rattle.term_text.proofs.find_span.Statement.{statement}
@@ -17,50 +18,14 @@ returns-3 c = past-terms (c .before .before .before .before .before .args .terms
 returns-4 : tie.Need-returns-4
 returns-4 c = past-store (c .before .before .before .before .before .before .args .terms .now) (c .before .before .before .before .before .before .args .count) (c .before .before .before .before .before .before .args .store .now) (c .before .before .before .before .before .before .args .used) (c .before .before .before .before .before .before .args .number) (c .before .before .before .if1 .left) (c .before .before .if2 .left) (omega (arith, c .before .if3 .left)) (c .if4 .taken)
 
-mul-at : tie.Need-mul-at
-mul-at c = search needs
-
-mul-wide : tie.Need-mul-wide
-mul-wide c = search needs
-
-shared-slice-read-wide : tie.Need-shared-slice-read-wide
-shared-slice-read-wide c = search needs
-
-wide-requires : tie.Need-wide-requires
-wide-requires c κs = search needs
-
 returns-5 : tie.Need-returns-5
 returns-5 c = low-kind (c .before .before .before .before .before .before .before .before .before .args .terms .now) (c .before .before .before .before .before .before .before .before .before .args .count) (c .before .before .before .before .before .before .before .before .before .args .store .now) (c .before .before .before .before .before .before .before .before .before .args .used) (c .before .before .before .before .before .before .before .before .before .args .number) (c .before .before .before .before .before .before .if1 .left) (c .before .before .before .before .before .if2 .left) (omega (arith, c .before .before .before .before .if3 .left)) (c .before .before .before .if4 .left) (c .before .wide .result) (c .before .wide .ensures) (c .if5 .taken)
 
 returns-6 : tie.Need-returns-6
 returns-6 c = high-kind (c .before .before .before .before .before .before .before .before .before .before .args .terms .now) (c .before .before .before .before .before .before .before .before .before .before .args .count) (c .before .before .before .before .before .before .before .before .before .before .args .store .now) (c .before .before .before .before .before .before .before .before .before .before .args .used) (c .before .before .before .before .before .before .before .before .before .before .args .number) (c .before .before .before .before .before .before .before .if1 .left) (c .before .before .before .before .before .before .if2 .left) (omega (arith, c .before .before .before .before .before .if3 .left)) (c .before .before .before .before .if4 .left) (c .before .before .wide .result) (c .before .before .wide .ensures) (c .before .if5 .left) (c .if6 .taken)
 
-add-wide : tie.Need-add-wide
-add-wide c = search needs
-
-mul-wide-2 : tie.Need-mul-wide-2
-mul-wide-2 c = search needs
-
-shared-slice-read-wide-2 : tie.Need-shared-slice-read-wide-2
-shared-slice-read-wide-2 c = search needs
-
-wide-requires-2 : tie.Need-wide-requires-2
-wide-requires-2 c κs = search needs
-
-add-wide-2 : tie.Need-add-wide-2
-add-wide-2 c = search needs
-
-mul-wide-3 : tie.Need-mul-wide-3
-mul-wide-3 c = search needs
-
-shared-slice-read-wide-3 : tie.Need-shared-slice-read-wide-3
-shared-slice-read-wide-3 c = search needs
-
-wide-requires-3 : tie.Need-wide-requires-3
-wide-requires-3 c κs = search needs
-
 add-if7 : tie.Need-add-if7
-add-if7 c = omega (arith, c .before .before .wide2 .ensures, c .wide3 .ensures, c .before .before .before .shared-slice-known4 .given (5 * (c .before .before .before .before .before .before .before .before .before .before .before .before .before .before .args .number - 1) + 1) .fits, c .before .shared-slice-known5 .given (5 * (c .before .before .before .before .before .before .before .before .before .before .before .before .before .before .args .number - 1) + 2) .fits)
+add-if7 c = omega (arith, c .before .before .wide2 .ensures, c .wide3 .ensures, c .before .before .before .shared-slice-known4 .given (term-size * (c .before .before .before .before .before .before .before .before .before .before .before .before .before .before .args .number - 1) + 1) .fits, c .before .shared-slice-known5 .given (term-size * (c .before .before .before .before .before .before .before .before .before .before .before .before .before .before .args .number - 1) + 2) .fits)
 
 returns-7 : tie.Need-returns-7
 returns-7 c = past-used (c .before .before .before .before .before .before .before .before .before .before .before .before .before .before .before .args .terms .now) (c .before .before .before .before .before .before .before .before .before .before .before .before .before .before .before .args .count) (c .before .before .before .before .before .before .before .before .before .before .before .before .before .before .before .args .store .now) (c .before .before .before .before .before .before .before .before .before .before .before .before .before .before .before .args .used) (c .before .before .before .before .before .before .before .before .before .before .before .before .before .before .before .args .number) (c .before .before .before .before .before .before .before .before .before .before .before .before .if1 .left) (c .before .before .before .before .before .before .before .before .before .before .before .if2 .left) (omega (arith, c .before .before .before .before .before .before .before .before .before .before .if3 .left)) (c .before .before .before .before .before .before .before .before .before .if4 .left) (c .before .before .before .before .before .before .before .wide .result) (c .before .before .before .before .before .before .before .wide .ensures) (c .before .before .before .before .before .before .if5 .left) (c .before .before .before .before .before .if6 .left) (c .before .before .before .wide2 .result) (c .before .wide3 .result) (c .before .before .before .wide2 .ensures) (c .before .wide3 .ensures) (c .if7 .taken)
@@ -76,20 +41,21 @@ find-span-spec =
     returns-2
     returns-3
     returns-4
-    mul-at
-    mul-wide
-    shared-slice-read-wide
-    wide-requires
+    (λ c. search needs)
+    (λ c. search needs)
+    (λ c. search needs)
+    (λ c. search needs)
+    (λ c κs. search needs)
     returns-5
     returns-6
-    add-wide
-    mul-wide-2
-    shared-slice-read-wide-2
-    wide-requires-2
-    add-wide-2
-    mul-wide-3
-    shared-slice-read-wide-3
-    wide-requires-3
+    (λ c. search needs)
+    (λ c. search needs)
+    (λ c. search needs)
+    (λ c κs. search needs)
+    (λ c. search needs)
+    (λ c. search needs)
+    (λ c. search needs)
+    (λ c κs. search needs)
     add-if7
     returns-7
     returns-8)

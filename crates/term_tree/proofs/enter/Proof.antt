@@ -4,23 +4,8 @@ use borrow.Author.Needs.{needs}
 use Rattle.term_tree.proofs.enter.Statement.{statement}
 use Rattle.term_tree.proofs.enter.Tie as tie
 
-work-size-requires : tie.Need-work-size-requires
-work-size-requires c κs = search needs
-
-sub-link : tie.Need-sub-link
-sub-link c = search needs
-
-part-link-start : tie.Need-part-link-start
-part-link-start c = search needs
-
-part-link-end : tie.Need-part-link-end
-part-link-end c = search needs
-
 link-requires : tie.Need-link-requires
 link-requires c κs = (c .before .before .before .pre .1 .0, rw (end-part (c .before .work-size .result) work-size (c .before .before .before .args .work .now) (c .before .work-size .ensures)) (c .before .before .before .pre .1 .1))
-
-same-length : tie.Need-same-length
-same-length c = search needs
 
 returns : tie.Need-returns
 returns c = entered (c .before .before .before .before .work-size .result) work-size (c .before .before .before .before .before .before .args .work .now) _ (c .before .before .before .before .before .before .args .count) (c .before .before .before .before .before .before .args .place) (c .before .before .before .before .work-size .ensures) (c .before .before .before .before .before .before .pre .0) (c .before .before .link .ensures)
@@ -29,10 +14,10 @@ pub enter-spec : {M : Type 1} → statement M
 enter-spec =
     tie.close
     (tie.spec
-    work-size-requires
-    sub-link
-    part-link-start
-    part-link-end
+    (λ c κs. search needs)
+    (λ c. search needs)
+    (λ c. search needs)
+    (λ c. search needs)
     link-requires
-    same-length
+    (λ c. search needs)
     returns)

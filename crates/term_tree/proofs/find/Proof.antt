@@ -7,9 +7,6 @@ use borrow.Author.Needs.{needs}
 use Rattle.term_tree.proofs.find.Statement.{statement}
 use Rattle.term_tree.proofs.find.Tie as tie
 
-find-from-requires : tie.Need-find-from-requires
-find-from-requires c κs = (c .before .before .before .before .before .before .before .pre .readable, omega arith)
-
 returns : tie.Need-returns
 returns c = (λ ts t H M f. rest-number (H .keeps) (c .before .before .before .before .before .before .before .before .args .sort) (joined (c .before .before .before .before .before .before .before .before .args .front .now) (c .before .before .before .before .before .before .before .before .args .form) (c .before .before .before .before .before .before .before .before .args .back .now)) (c .before .before .before .before .before .before .before .before .args .tag .now) t M f 0 _ (omega arith) (λ i l. absurd (omega arith)) (c .find-from .ensures), (λ z q. absurd (omega arith), λ q. absurd (omega arith)))
 
@@ -18,9 +15,6 @@ follow-requires c κs = ((c .before .before .before .before .before .before .bef
 
 returns-2 : tie.Need-returns-2
 returns-2 c = (λ ts t H M f. found-number (H .keeps) (c .before .before .before .before .before .before .before .before .before .before .args .sort) (joined (c .before .before .before .before .before .before .before .before .before .before .args .front .now) (c .before .before .before .before .before .before .before .before .before .before .args .form) (c .before .before .before .before .before .before .before .before .before .before .args .back .now)) (c .before .before .before .before .before .before .before .before .before .before .args .tag .now) t M f (c .before .before .follow .result .number) (c .if2 .taken) (omega (arith, followed (H .keeps) (c .before .before .before .before .before .before .before .before .before .before .args .sort) (joined (c .before .before .before .before .before .before .before .before .before .before .args .front .now) (c .before .before .before .before .before .before .before .before .before .before .args .form) (c .before .before .before .before .before .before .before .before .before .before .args .back .now)) (c .before .before .before .before .before .before .before .before .before .before .args .tag .now) t M f (c .before .before .before .before .before .before .before .before .before .before .args .index .now) (c .before .before .follow .result .number) (H .indexed) (c .before .before .follow .ensures .0) .within, least-left (c .before .before .before .before .before .before .before .before .before .before .args .counts .terms) (buckets (c .before .before .before .before .before .before .before .before .before .before .args .index .now)))) (followed (H .keeps) (c .before .before .before .before .before .before .before .before .before .before .args .sort) (joined (c .before .before .before .before .before .before .before .before .before .before .args .front .now) (c .before .before .before .before .before .before .before .before .before .before .args .form) (c .before .before .before .before .before .before .before .before .before .before .args .back .now)) (c .before .before .before .before .before .before .before .before .before .before .args .tag .now) t M f (c .before .before .before .before .before .before .before .before .before .before .args .index .now) (c .before .before .follow .result .number) (H .indexed) (c .before .before .follow .ensures .0) .found (c .if2 .taken)), (λ z. absurd (omega arith), c .before .before .follow .ensures .1 .1))
-
-smaller-requires : tie.Need-smaller-requires
-smaller-requires c κs = search needs
 
 find-from-requires-2 : tie.Need-find-from-requires-2
 find-from-requires-2 c κs = (c .before .before .before .before .before .before .before .before .before .before .before .pre .readable, omega (arith, c .smaller .ensures, least-left (c .before .before .before .before .before .before .before .before .before .before .before .args .counts .terms) (buckets (c .before .before .before .before .before .before .before .before .before .before .before .args .index .now))))
@@ -32,10 +26,10 @@ pub find-spec : {M : Type 1} → statement M
 find-spec =
     tie.close
     (tie.spec
-    find-from-requires
+    (λ c κs. (c .before .before .before .before .before .before .before .pre .readable, omega arith))
     returns
     follow-requires
     returns-2
-    smaller-requires
+    (λ c κs. search needs)
     find-from-requires-2
     returns-3)

@@ -21,20 +21,11 @@ Inv-loop index count terms store sort front form back tag m first key₀ place�
 abbrev μ-loop : tie.MeasureT-loop
 μ-loop index count terms store sort front form back tag m first key₀ place₀ level₀ k₀ key place level k = ahead (least count (buckets index)) k
 
-key-at-requires : tie.Need-key-at-requires Inv-loop μ-loop
-key-at-requires c κs = search needs
-
-rem-place : tie.Need-rem-place Inv-loop μ-loop
-rem-place c = search needs
-
 slot-requires : tie.Need-slot-requires Inv-loop μ-loop
 slot-requires c κs = omega (arith, mod-lt (c .key-at .result) (c .before .before .before .before .before .before .before .pre .0 .1))
 
 loop-holds : tie.Need-loop-holds Inv-loop μ-loop
 loop-holds c = ((came-start (c .before .before .before .before .before .before .before .before .args .index .now) (c .before .before .before .before .before .before .before .before .args .count) (turn-at (joined (c .before .before .before .before .before .before .before .before .args .front .now) (c .before .before .before .before .before .before .before .before .args .form) (c .before .before .before .before .before .before .before .before .args .back .now)) (c .before .before .before .before .before .before .before .before .args .tag .now) (type-of (c .before .before .before .before .before .before .before .before .args .sort))) (c .before .before .before .before .before .before .before .before .pre .0 .0) (c .before .key-at .result % (buckets (c .before .before .before .before .before .before .before .before .args .index .now))) (c .slot .result) (mod-lt (c .before .key-at .result) (c .before .before .before .before .before .before .before .before .pre .0 .1)) (c .slot .ensures), c .before .key-at .ensures .0), λ of turns I h. start I (c .before .key-at .result % (buckets (c .before .before .before .before .before .before .before .before .args .index .now))) (mod-lt (c .before .key-at .result) (c .before .before .before .before .before .before .before .before .pre .0 .1)) (turn-at (joined (c .before .before .before .before .before .before .before .before .args .front .now) (c .before .before .before .before .before .before .before .before .args .form) (c .before .before .before .before .before .before .before .before .args .back .now)) (c .before .before .before .before .before .before .before .before .args .tag .now) (type-of (c .before .before .before .before .before .before .before .before .args .sort))) (λ i. matches (c .before .before .before .before .before .before .before .before .args .store .now) (entry-at (c .before .before .before .before .before .before .before .before .args .terms .now) (suc i)) (c .before .before .before .before .before .before .before .before .args .sort) (joined (c .before .before .before .before .before .before .before .before .args .front .now) (c .before .before .before .before .before .before .before .before .args .form) (c .before .before .before .before .before .before .before .before .args .back .now)) (c .before .before .before .before .before .before .before .before .args .tag .now)) h)
-
-sub-i : tie.Need-sub-i Inv-loop μ-loop
-sub-i c = search needs
 
 is-term-requires : tie.Need-is-term-requires Inv-loop μ-loop
 is-term-requires c κs = c .before .before .before .before .before .before .before .before .before .before .pre .1 (c .before .loop .k - 1) (omega (arith, c .before .loop .inv .0 .0 .small, least-left (c .before .before .before .before .before .before .before .before .before .before .args .count) (buckets (c .before .before .before .before .before .before .before .before .before .before .args .index .now))))
@@ -44,9 +35,6 @@ returns c = (λ of turns I h. hit (λ i. matches (c .before .before .before .bef
 
 mul-place : tie.Need-mul-place Inv-loop μ-loop
 mul-place c = omega (arith, c .before .before .before .loop .inv .0 .0 .small, least-right (c .before .before .before .before .before .before .before .before .before .before .before .before .args .count) (buckets (c .before .before .before .before .before .before .before .before .before .before .before .before .args .index .now)))
-
-turn-requires : tie.Need-turn-requires Inv-loop μ-loop
-turn-requires c κs = search needs
 
 add-place : tie.Need-add-place Inv-loop μ-loop
 add-place c = omega (arith, c .before .before .before .before .loop .inv .0 .0 .small, least-right (c .before .before .before .before .before .before .before .before .before .before .before .before .before .args .count) (buckets (c .before .before .before .before .before .before .before .before .before .before .before .before .before .args .index .now)), c .turn .ensures .1)
@@ -78,15 +66,15 @@ follow-spec =
     (tie.spec
     Inv-loop
     μ-loop
-    key-at-requires
-    rem-place
+    (λ c κs. search needs)
+    (λ c. search needs)
     slot-requires
     loop-holds
-    sub-i
+    (λ c. search needs)
     is-term-requires
     returns
     mul-place
-    turn-requires
+    (λ c κs. search needs)
     add-place
     add-place-2
     add-level

@@ -12,47 +12,23 @@ use borrow.Author.Needs.{needs}
 use Rattle.term_tree.proofs.is_number.Statement.{statement}
 use Rattle.term_tree.proofs.is_number.Tie as tie
 
-returns : tie.Need-returns
-returns c = λ z. contrary (sym z)
-
-returns-2 : tie.Need-returns-2
-returns-2 c = λ z. contrary (sym z)
-
-enum-told : tie.Need-enum-told
-enum-told c = search needs
-
-sub-is-iri : tie.Need-sub-is-iri
-sub-is-iri c = search needs
-
 is-iri-requires : tie.Need-is-iri-requires
 is-iri-requires c κs = c .before .before .before .before .before .before .before .before .pre (c .before .before .before .before .before .before .before .before .args .number - 1) (omega arith)
 
-enum-told-2 : tie.Need-enum-told-2
-enum-told-2 c = search needs
-
-enum-told-3 : tie.Need-enum-told-3
-enum-told-3 c = search needs
-
 returns-3 : tie.Need-returns-3
 returns-3 c = λ z. (omega arith, (λ index k e ts t H M f. found-number (H .keeps) iri-sort (joined (c .before .before .before .before .before .before .before .before .before .args .front .now) Plain (c .before .before .before .before .before .before .before .before .before .args .back .now)) [] t (rw (c .before .enum-told .given .1) at M) f (c .before .before .before .before .before .before .before .before .before .args .number) (omega arith) (omega (arith, e)) (sym (c .is-iri .ensures) ∙ z)))
-
-returns-4 : tie.Need-returns-4
-returns-4 c = λ z. contrary (sym z)
-
-returns-5 : tie.Need-returns-5
-returns-5 c = λ z. contrary (sym z)
 
 pub is-number-spec : {M : Type 1} → statement M
 is-number-spec =
     tie.close
     (tie.spec
-    returns
-    returns-2
-    enum-told
-    sub-is-iri
+    (λ c. λ z. contrary (sym z))
+    (λ c. λ z. contrary (sym z))
+    (λ c. search needs)
+    (λ c. search needs)
     is-iri-requires
-    enum-told-2
-    enum-told-3
+    (λ c. search needs)
+    (λ c. search needs)
     returns-3
-    returns-4
-    returns-5)
+    (λ c. λ z. contrary (sym z))
+    (λ c. λ z. contrary (sym z)))

@@ -6,24 +6,6 @@ use borrow.Author.Needs.{needs}
 use Rattle.term_tree.proofs.key_at.Statement.{statement}
 use Rattle.term_tree.proofs.key_at.Tie as tie
 
-mul-m : tie.Need-mul-m
-mul-m c = search needs
-
-add-m : tie.Need-add-m
-add-m c = search needs
-
-hash-joined-requires : tie.Need-hash-joined-requires
-hash-joined-requires c κs = search needs
-
-hash-bytes-requires : tie.Need-hash-bytes-requires
-hash-bytes-requires c κs = (omega arith, c .hash-joined .ensures .1)
-
-type-number-requires : tie.Need-type-number-requires
-type-number-requires c κs = search needs
-
-stir-requires : tie.Need-stir-requires
-stir-requires c κs = (omega arith, (c .before .hash-bytes .ensures .1, mod-lt _ (omega arith)))
-
 returns : tie.Need-returns
 unfolding key-at
 returns c = (c .stir .ensures .0 ∙ rw (c .before .type-number .ensures, c .before .before .hash-bytes .ensures .0, c .before .before .before .hash-joined .ensures .0), c .stir .ensures .1)
@@ -32,10 +14,10 @@ pub key-at-spec : {M : Type 1} → statement M
 key-at-spec =
     tie.close
     (tie.spec
-    mul-m
-    add-m
-    hash-joined-requires
-    hash-bytes-requires
-    type-number-requires
-    stir-requires
+    (λ c. search needs)
+    (λ c. search needs)
+    (λ c κs. search needs)
+    (λ c κs. (omega arith, c .hash-joined .ensures .1))
+    (λ c κs. search needs)
+    (λ c κs. (omega arith, (c .before .hash-bytes .ensures .1, mod-lt _ (omega arith))))
     returns)

@@ -7,17 +7,8 @@ use Rattle.term_tree.proofs.link.Tie as tie
 returns : tie.Need-returns
 returns c = links-full (c .before .before .args .index .now) (c .before .before .args .count) (c .before .before .args .place) (omega arith)
 
-add-set-slot : tie.Need-add-set-slot
-add-set-slot c = search needs
-
-set-slot-requires : tie.Need-set-slot-requires
-set-slot-requires c κs = omega (arith, c .before .before .before .pre .1 (omega arith))
-
-same-length : tie.Need-same-length
-same-length c = search needs
-
 returns-2 : tie.Need-returns-2
 returns-2 c = links-new (c .before .before .before .before .before .before .args .index .now) _ (c .before .before .before .before .before .before .args .count) (c .before .before .before .before .before .before .args .place) (omega arith) (c .before .before .before .before .before .before .pre .0) (c .before .before .before .before .before .before .pre .1) (c .before .before .set-slot .ensures)
 
 pub link-spec : {M : Type 1} → statement M
-link-spec = tie.close (tie.spec returns add-set-slot set-slot-requires same-length returns-2)
+link-spec = tie.close (tie.spec returns (λ c. search needs) (λ c κs. omega (arith, c .before .before .before .pre .1 (omega arith))) (λ c. search needs) returns-2)

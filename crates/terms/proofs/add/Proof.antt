@@ -4,24 +4,6 @@ use borrow.Author.Needs.{needs}
 use Rattle.terms.proofs.add.Statement.{statement}
 use Rattle.terms.proofs.add.Tie as tie
 
-write-bytes-requires : tie.Need-write-bytes-requires
-write-bytes-requires c κs = search needs
-
-put-entry-requires : tie.Need-put-entry-requires
-put-entry-requires c κs = search needs
-
-add-count-term : tie.Need-add-count-term
-add-count-term c = search needs
-
-count-term-requires : tie.Need-count-term-requires
-count-term-requires c κs = search needs
-
-same-length : tie.Need-same-length
-same-length c = search needs
-
-same-length-2 : tie.Need-same-length-2
-same-length-2 c = search needs
-
 returns : tie.Need-returns
 returns c = added (c .before .before .before .before .before .before .before .before .before .before .before .before .before .before .args .terms .now) _ (c .before .before .before .before .before .before .before .before .before .before .before .before .before .before .args .store .now) _ (c .before .before .before .before .before .before .before .before .before .before .before .before .before .before .args .counts) _ (c .before .before .before .before .before .before .before .before .before .before .before .before .before .before .args .sort) (joined (c .before .before .before .before .before .before .before .before .before .before .before .before .before .before .args .front .now) (c .before .before .before .before .before .before .before .before .before .before .before .before .before .before .args .form) (c .before .before .before .before .before .before .before .before .before .before .before .before .before .before .args .back .now)) (c .before .before .before .before .before .before .before .before .before .before .before .before .before .before .args .tag .now) (c .before .before .before .before .before .before .before .write-bytes .result) (c .before .before .before .before .before .before .before .before .before .before .before .before .before .before .pre .0) (c .before .before .before .before .before .before .before .write-bytes .ensures .0) (c .before .before .before .put-entry .ensures) (c .before .before .before .before .before .before .before .write-bytes .ensures .1) (c .count-term .ensures)
 
@@ -29,10 +11,10 @@ pub add-spec : {M : Type 1} → statement M
 add-spec =
     tie.close
     (tie.spec
-    write-bytes-requires
-    put-entry-requires
-    add-count-term
-    count-term-requires
-    same-length
-    same-length-2
+    (λ c κs. search needs)
+    (λ c κs. search needs)
+    (λ c. search needs)
+    (λ c κs. search needs)
+    (λ c. search needs)
+    (λ c. search needs)
     returns)

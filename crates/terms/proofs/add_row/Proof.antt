@@ -3,17 +3,8 @@ use borrow.Author.Needs.{needs}
 use Rattle.terms.proofs.add_row.Statement.{statement}
 use Rattle.terms.proofs.add_row.Tie as tie
 
-mul-put-words : tie.Need-mul-put-words
-mul-put-words c = search needs
-
-put-words-requires : tie.Need-put-words-requires
-put-words-requires c κs = search needs
-
-same-length : tie.Need-same-length
-same-length c = search needs
-
 returns : tie.Need-returns
 returns c = row-added (c .before .before .before .before .before .before .args .rows .now) _ (c .before .before .before .before .before .before .args .count) (c .before .before .before .before .before .before .args .row .now) (c .before .before .before .before .before .before .pre .0) (c .before .before .put-words .ensures)
 
 pub add-row-spec : {M : Type 1} → statement M
-add-row-spec = tie.close (tie.spec mul-put-words put-words-requires same-length returns)
+add-row-spec = tie.close (tie.spec (λ c. search needs) (λ c κs. search needs) (λ c. search needs) returns)

@@ -22,17 +22,8 @@ loop-holds c = ((omega arith, c .before .before .before .before .before .pre .1)
 is-term-requires : tie.Need-is-term-requires Inv-loop μ-loop
 is-term-requires c κs = c .before .before .before .before .before .before .before .pre .0 (c .before .loop .i) (omega arith)
 
-add-result : tie.Need-add-result Inv-loop μ-loop
-add-result c = search needs
-
 returns : tie.Need-returns Inv-loop μ-loop
 returns c = first-here (λ k. matches (c .before .before .before .before .before .before .before .before .before .args .store .now) (entry-at (c .before .before .before .before .before .before .before .before .before .args .terms .now) (suc k)) (c .before .before .before .before .before .before .before .before .before .args .sort) (joined (c .before .before .before .before .before .before .before .before .before .args .front .now) (c .before .before .before .before .before .before .before .before .before .args .form) (c .before .before .before .before .before .before .before .before .before .args .back .now)) (c .before .before .before .before .before .before .before .before .before .args .tag .now)) (c .before .before .before .loop .i) (c .before .before .before .before .before .before .before .before .before .args .count) (omega arith) (sym (c .before .is-term .ensures) ∙ c .if1 .taken) ∙ sym (c .before .before .before .loop .inv .1)
-
-add-i : tie.Need-add-i Inv-loop μ-loop
-add-i c = search needs
-
-loop-less : tie.Need-loop-less Inv-loop μ-loop
-loop-less c = search needs
 
 loop-again : tie.Need-loop-again Inv-loop μ-loop
 loop-again c = ((omega arith, omega arith), c .before .before .before .loop .inv .1 ∙ first-further (λ k. matches (c .before .before .before .before .before .before .before .before .before .args .store .now) (entry-at (c .before .before .before .before .before .before .before .before .before .args .terms .now) (suc k)) (c .before .before .before .before .before .before .before .before .before .args .sort) (joined (c .before .before .before .before .before .before .before .before .before .args .front .now) (c .before .before .before .before .before .before .before .before .before .args .form) (c .before .before .before .before .before .before .before .before .before .args .back .now)) (c .before .before .before .before .before .before .before .before .before .args .tag .now)) (c .before .before .before .loop .i) (c .before .before .before .before .before .before .before .before .before .args .count) (omega arith) (sym (c .before .is-term .ensures) ∙ c .if1 .left))
@@ -48,9 +39,9 @@ find-from-spec =
     μ-loop
     loop-holds
     is-term-requires
-    add-result
+    (λ c. search needs)
     returns
-    add-i
-    loop-less
+    (λ c. search needs)
+    (λ c. search needs)
     loop-again
     returns-2)

@@ -18,29 +18,14 @@ abbrev μ-loop : tie.MeasureT-loop
 loop-holds : tie.Need-loop-holds Inv-loop μ-loop
 loop-holds c = (omega arith, over-at-start (c .args .at) (c .args .s .now) (c .args .words .now))
 
-mul-words : tie.Need-mul-words Inv-loop μ-loop
-mul-words c = search needs
-
-shared-slice-read-words : tie.Need-shared-slice-read-words Inv-loop μ-loop
-shared-slice-read-words c = search needs
-
 cast-words : tie.Need-cast-words Inv-loop μ-loop
 cast-words c = omega (arith, c .before .before .before .pre .1 (c .before .before .loop .i))
 
 add-words : tie.Need-add-words Inv-loop μ-loop
 add-words c = omega arith
 
-mul-words-2 : tie.Need-mul-words-2 Inv-loop μ-loop
-mul-words-2 c = search needs
-
 slice-write-words : tie.Need-slice-write-words Inv-loop μ-loop
 slice-write-words c = omega (arith, ap length (c .before .before .loop .inv .1), over-at-length (c .before .before .before .args .at) (take (c .before .before .loop .i) (c .before .before .before .args .s .now)) (c .before .before .before .args .words .now))
-
-add-i : tie.Need-add-i Inv-loop μ-loop
-add-i c = search needs
-
-loop-less : tie.Need-loop-less Inv-loop μ-loop
-loop-less c = search needs
 
 loop-again : tie.Need-loop-again Inv-loop μ-loop
 loop-again c = (omega arith, over-at-next (c .before .before .before .args .at) (c .before .before .before .args .s .now) (c .before .before .before .args .words .now) (c .before .before .loop .words) (c .before .before .loop .i) _ (omega arith) refl (c .before .before .loop .inv .1))
@@ -58,14 +43,14 @@ put-words-spec =
     Inv-loop
     μ-loop
     loop-holds
-    mul-words
-    shared-slice-read-words
+    (λ c. search needs)
+    (λ c. search needs)
     cast-words
     add-words
-    mul-words-2
+    (λ c. search needs)
     slice-write-words
-    add-i
-    loop-less
+    (λ c. search needs)
+    (λ c. search needs)
     loop-again
     same-length
     returns)

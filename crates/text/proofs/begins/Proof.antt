@@ -14,11 +14,8 @@ returns c = sym (begins-short (c .before .before .before .args .s .now) (c .befo
 slice-aggregate-same : tie.Need-slice-aggregate-same
 slice-aggregate-same c = sym (length-take-le (length (c .before .before .before .before .args .s .now)) (c .before .before .before .before .args .t .now) (omega arith))
 
-same-requires : tie.Need-same-requires
-same-requires c κs = search needs
-
 returns-2 : tie.Need-returns-2
 returns-2 c = c .same .ensures ∙ sym (begins-front (c .before .before .before .before .before .args .s .now) (c .before .before .before .before .before .args .t .now) (omega arith))
 
 pub begins-spec : {M : Type 1} → statement M
-begins-spec = tie.close (tie.spec returns slice-aggregate-same same-requires returns-2)
+begins-spec = tie.close (tie.spec returns slice-aggregate-same (λ c κs. search needs) returns-2)

@@ -15,29 +15,11 @@ Inv-loop s out₀ n i₀ out i = (i ≤ n) × (out ≡ over (take i s) out₀)
 abbrev μ-loop : tie.MeasureT-loop
 μ-loop s out₀ n i₀ out i = n - i
 
-least-requires : tie.Need-least-requires Inv-loop μ-loop
-least-requires c κs = search needs
-
-copy-few-requires : tie.Need-copy-few-requires Inv-loop μ-loop
-copy-few-requires c κs = search needs
-
-same-length : tie.Need-same-length Inv-loop μ-loop
-same-length c = search needs
-
-returns : tie.Need-returns Inv-loop μ-loop
-returns c = search needs
-
 loop-holds : tie.Need-loop-holds Inv-loop μ-loop
 loop-holds c = (omega arith, over-start (c .before .before .before .before .args .out .now))
 
-sub-loop : tie.Need-sub-loop Inv-loop μ-loop
-sub-loop c = search needs
-
 copy-8-requires : tie.Need-copy-8-requires Inv-loop μ-loop
 copy-8-requires c κs = (omega (arith, c .before .before .before .before .least .ensures .0), omega (arith, c .before .before .before .before .least .ensures .0, c .before .before .before .before .least .ensures .1 .0, c .before .before .loop .inv .0, copied-length (c .before .before .before .before .before .before .before .args .s .now) (c .before .before .before .before .before .before .before .args .out .now) (c .before .before .loop .out) (c .before .before .loop .i) (c .before .before .loop .inv .1)))
-
-add-i : tie.Need-add-i Inv-loop μ-loop
-add-i c = search needs
 
 loop-less : tie.Need-loop-less Inv-loop μ-loop
 loop-less c = omega arith
@@ -60,14 +42,14 @@ copy-spec =
     (tie.spec
     Inv-loop
     μ-loop
-    least-requires
-    copy-few-requires
-    same-length
-    returns
+    (λ c κs. search needs)
+    (λ c κs. search needs)
+    (λ c. search needs)
+    (λ c. search needs)
     loop-holds
-    sub-loop
+    (λ c. search needs)
     copy-8-requires
-    add-i
+    (λ c. search needs)
     loop-less
     loop-again
     copy-8-requires-2

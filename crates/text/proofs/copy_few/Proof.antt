@@ -24,18 +24,6 @@ same-length c = ap length (c .before .before .loop .inv .1) ∙ over-length _ (c
 returns : tie.Need-returns Inv-loop μ-loop
 returns c = c .before .before .loop .inv .1 ∙ over-enough (c .before .before .before .args .s .now) (c .before .before .before .args .out .now) (c .before .before .loop .i) (omega (arith, ap length (c .before .before .loop .inv .1), over-length (take (c .before .before .loop .i) (c .before .before .before .args .s .now)) (c .before .before .before .args .out .now)))
 
-shared-slice-read-out : tie.Need-shared-slice-read-out Inv-loop μ-loop
-shared-slice-read-out c = search needs
-
-slice-write-out : tie.Need-slice-write-out Inv-loop μ-loop
-slice-write-out c = search needs
-
-add-i : tie.Need-add-i Inv-loop μ-loop
-add-i c = search needs
-
-loop-less : tie.Need-loop-less Inv-loop μ-loop
-loop-less c = search needs
-
 loop-again : tie.Need-loop-again Inv-loop μ-loop
 loop-again c = (omega arith, over-next (c .before .before .before .before .args .s .now) (c .before .before .before .before .args .out .now) (c .before .before .before .loop .out) (c .before .before .before .loop .i) (omega arith) (c .before .before .before .loop .inv .1))
 
@@ -54,10 +42,10 @@ copy-few-spec =
     loop-holds
     same-length
     returns
-    shared-slice-read-out
-    slice-write-out
-    add-i
-    loop-less
+    (λ c. search needs)
+    (λ c. search needs)
+    (λ c. search needs)
+    (λ c. search needs)
     loop-again
     same-length-2
     returns-2)

@@ -20,29 +20,11 @@ abbrev μ-loop : tie.MeasureT-loop
 loop-holds : tie.Need-loop-holds Inv-loop μ-loop
 loop-holds c = (omega arith, λ k h. absurd (omega arith))
 
-sub-loop : tie.Need-sub-loop Inv-loop μ-loop
-sub-loop c = search needs
-
-none-of-16-requires : tie.Need-none-of-16-requires Inv-loop μ-loop
-none-of-16-requires c κs = search needs
-
 returns : tie.Need-returns Inv-loop μ-loop
 returns c = sym (free-some (byte (c .before .before .before .before .before .args .q)) (c .before .before .before .before .before .args .s .now) (c .before .before .before .loop .i) 16 (omega arith) (sym (c .before .none-of-16 .ensures) ∙ not-true _ (c .if1 .taken)))
 
-add-i : tie.Need-add-i Inv-loop μ-loop
-add-i c = search needs
-
-loop-less : tie.Need-loop-less Inv-loop μ-loop
-loop-less c = search needs
-
 loop-again : tie.Need-loop-again Inv-loop μ-loop
 loop-again c = (omega arith, free-front (byte (c .before .before .before .before .before .args .q)) (c .before .before .before .before .before .args .s .now) (c .before .before .before .loop .i) 16 (c .before .before .before .loop .inv .1) (sym (c .before .none-of-16 .ensures) ∙ not-false _ (c .if1 .left)))
-
-sub-none-of-16 : tie.Need-sub-none-of-16 Inv-loop μ-loop
-sub-none-of-16 c = search needs
-
-none-of-16-requires-2 : tie.Need-none-of-16-requires-2 Inv-loop μ-loop
-none-of-16-requires-2 c κs = search needs
 
 returns-2 : tie.Need-returns-2 Inv-loop μ-loop
 returns-2 c = last-block (byte (c .before .before .before .before .args .q)) (c .before .before .before .before .args .s .now) (c .before .before .loop .i) (length (c .before .before .before .before .args .s .now) - 16) 16 (c .none-of-162 .result) (c .before .before .loop .inv .1) (omega arith) (omega (arith, c .before .before .before .before .pre)) (c .none-of-162 .ensures)
@@ -54,12 +36,12 @@ has-more-spec =
     Inv-loop
     μ-loop
     loop-holds
-    sub-loop
-    none-of-16-requires
+    (λ c. search needs)
+    (λ c κs. search needs)
     returns
-    add-i
-    loop-less
+    (λ c. search needs)
+    (λ c. search needs)
     loop-again
-    sub-none-of-16
-    none-of-16-requires-2
+    (λ c. search needs)
+    (λ c κs. search needs)
     returns-2)

@@ -19,32 +19,8 @@ abbrev μ-loop : tie.MeasureT-loop
 loop-holds : tie.Need-loop-holds Inv-loop μ-loop
 loop-holds c = (c .before .pre, (omega arith, refl))
 
-sub-loop : tie.Need-sub-loop Inv-loop μ-loop
-sub-loop c = search needs
-
-none-of-four-requires : tie.Need-none-of-four-requires Inv-loop μ-loop
-none-of-four-requires c κs = search needs
-
-next-of-four-near-requires : tie.Need-next-of-four-near-requires Inv-loop μ-loop
-next-of-four-near-requires c κs = search needs
-
-returns : tie.Need-returns Inv-loop μ-loop
-returns c = search needs
-
-add-i : tie.Need-add-i Inv-loop μ-loop
-add-i c = search needs
-
-loop-less : tie.Need-loop-less Inv-loop μ-loop
-loop-less c = search needs
-
 loop-again : tie.Need-loop-again Inv-loop μ-loop
 loop-again c = (omega arith, (omega (arith, c .before .before .before .loop .inv .1 .0), c .before .before .before .loop .inv .1 .1 ∙ free-run (four (c .before .before .before .before .before .args .a) (c .before .before .before .before .before .args .b) (c .before .before .before .before .before .args .x) (c .before .before .before .before .before .args .y)) (c .before .before .before .before .before .args .s .now) (c .before .before .before .loop .i) 8 (omega arith) (sym (c .before .none-of-four .ensures) ∙ not-false _ (c .if1 .left))))
-
-next-of-four-near-requires-2 : tie.Need-next-of-four-near-requires-2 Inv-loop μ-loop
-next-of-four-near-requires-2 c κs = search needs
-
-returns-2 : tie.Need-returns-2 Inv-loop μ-loop
-returns-2 c = search needs
 
 pub next-of-four-spec : {M : Type 1} → statement M
 next-of-four-spec =
@@ -53,12 +29,12 @@ next-of-four-spec =
     Inv-loop
     μ-loop
     loop-holds
-    sub-loop
-    none-of-four-requires
-    next-of-four-near-requires
-    returns
-    add-i
-    loop-less
+    (λ c. search needs)
+    (λ c κs. search needs)
+    (λ c κs. search needs)
+    (λ c. search needs)
+    (λ c. search needs)
+    (λ c. search needs)
     loop-again
-    next-of-four-near-requires-2
-    returns-2)
+    (λ c κs. search needs)
+    (λ c. search needs))

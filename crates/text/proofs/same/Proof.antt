@@ -19,41 +19,14 @@ abbrev μ-loop : tie.MeasureT-loop
 returns : tie.Need-returns Inv-loop μ-loop
 returns c = sym (same-length (c .before .before .before .args .s .now) (c .before .before .before .args .t .now) (c .if1 .taken))
 
-same-few-requires : tie.Need-same-few-requires Inv-loop μ-loop
-same-few-requires c κs = search needs
-
-returns-2 : tie.Need-returns-2 Inv-loop μ-loop
-returns-2 c = search needs
-
 loop-holds : tie.Need-loop-holds Inv-loop μ-loop
 loop-holds c = (omega arith, refl)
-
-sub-loop : tie.Need-sub-loop Inv-loop μ-loop
-sub-loop c = search needs
-
-eight-requires : tie.Need-eight-requires Inv-loop μ-loop
-eight-requires c κs = search needs
-
-eight-requires-2 : tie.Need-eight-requires-2 Inv-loop μ-loop
-eight-requires-2 c κs = search needs
 
 returns-3 : tie.Need-returns-3 Inv-loop μ-loop
 returns-3 c = sym (c .before .before .before .before .loop .inv .1 ∙ eight-not (c .before .before .before .before .before .before .before .before .before .args .s .now) (c .before .before .before .before .before .before .before .before .before .args .t .now) (c .before .before .before .before .loop .i) (λ e. c .if3 .taken (c .before .before .eight .ensures ∙ (e ∙ sym (c .before .eight2 .ensures)))))
 
-add-i : tie.Need-add-i Inv-loop μ-loop
-add-i c = search needs
-
-loop-less : tie.Need-loop-less Inv-loop μ-loop
-loop-less c = search needs
-
 loop-again : tie.Need-loop-again Inv-loop μ-loop
 loop-again c = (omega arith, c .before .before .before .before .loop .inv .1 ∙ eight-more (c .before .before .before .before .before .before .before .before .before .args .s .now) (c .before .before .before .before .before .before .before .before .before .args .t .now) (λ k. c .before .before .before .before .before .before .before .before .shared-slice-known .given k .fits) (λ k. c .before .before .before .before .before .before .before .shared-slice-known2 .given k .fits) (c .before .before .before .before .loop .i) (omega arith) (omega (arith, c .before .before .before .before .before .before .if1 .left)) (sym (c .before .before .eight .ensures) ∙ (c .if3 .left ∙ c .before .eight2 .ensures)))
-
-eight-requires-3 : tie.Need-eight-requires-3 Inv-loop μ-loop
-eight-requires-3 c κs = search needs
-
-eight-requires-4 : tie.Need-eight-requires-4 Inv-loop μ-loop
-eight-requires-4 c κs = search needs
 
 returns-4 : tie.Need-returns-4 Inv-loop μ-loop
 returns-4 c = eight-last (c .before .before .before .before .before .before .before .before .args .s .now) (c .before .before .before .before .before .before .before .before .args .t .now) (λ k. c .before .before .before .before .before .before .before .shared-slice-known .given k .fits) (λ k. c .before .before .before .before .before .before .shared-slice-known2 .given k .fits) (c .before .before .before .before .before .if1 .left) (c .before .before .before .loop .i) (length (c .before .before .before .before .before .before .before .before .args .s .now) - 8) (omega arith) (c .before .before .before .loop .inv .1) (omega arith) (c .before .eight3 .result) (c .eight4 .result) (c .before .eight3 .ensures) (c .eight4 .ensures)
@@ -65,16 +38,16 @@ same-spec =
     Inv-loop
     μ-loop
     returns
-    same-few-requires
-    returns-2
+    (λ c κs. search needs)
+    (λ c. search needs)
     loop-holds
-    sub-loop
-    eight-requires
-    eight-requires-2
+    (λ c. search needs)
+    (λ c κs. search needs)
+    (λ c κs. search needs)
     returns-3
-    add-i
-    loop-less
+    (λ c. search needs)
+    (λ c. search needs)
     loop-again
-    eight-requires-3
-    eight-requires-4
+    (λ c κs. search needs)
+    (λ c κs. search needs)
     returns-4)

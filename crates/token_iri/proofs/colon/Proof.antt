@@ -16,20 +16,8 @@ Inv-loop s i₀ i = (i ≤ len s) × (before (is ":") s ≡ i + before (is ":") 
 abbrev μ-loop : tie.MeasureT-loop
 μ-loop s i₀ i = len s - i
 
-loop-holds : tie.Need-loop-holds Inv-loop μ-loop
-loop-holds c = search needs
-
-shared-slice-read-if1 : tie.Need-shared-slice-read-if1 Inv-loop μ-loop
-shared-slice-read-if1 c = search needs
-
 returns : tie.Need-returns Inv-loop μ-loop
 returns c = (omega (arith, c .before .before .before .loop .inv .1, before-here (is ":") (c .before .before .before .before .args .s .now) (c .before .before .before .loop .i) (omega arith) (eq-eqb _ 58 (c .if1 .taken))), omega arith)
-
-add-i : tie.Need-add-i Inv-loop μ-loop
-add-i c = search needs
-
-loop-less : tie.Need-loop-less Inv-loop μ-loop
-loop-less c = search needs
 
 loop-again : tie.Need-loop-again Inv-loop μ-loop
 loop-again c = (omega arith, omega (arith, c .before .before .before .loop .inv .1, before-more (is ":") (c .before .before .before .before .args .s .now) (c .before .before .before .loop .i) (omega arith) (ne-eqb _ 58 (c .if1 .left))))
@@ -43,10 +31,10 @@ colon-spec =
     (tie.spec
     Inv-loop
     μ-loop
-    loop-holds
-    shared-slice-read-if1
+    (λ c. search needs)
+    (λ c. search needs)
     returns
-    add-i
-    loop-less
+    (λ c. search needs)
+    (λ c. search needs)
     loop-again
     returns-2)

@@ -3,9 +3,6 @@ use borrow.Author.Needs.{needs}
 use Rattle.token_iri.proofs.lacks_base.Statement.{statement}
 use Rattle.token_iri.proofs.lacks_base.Tie as tie
 
-has-scheme-unescaped-requires : tie.Need-has-scheme-unescaped-requires
-has-scheme-unescaped-requires c κs = search needs
-
 returns : tie.Need-returns
 returns c = has-own (c .before .before .before .before .args .base .now) (c .before .before .before .before .args .text .now) (c .before .has-scheme-unescaped .result) (c .before .has-scheme-unescaped .ensures) (c .if1 .taken)
 
@@ -13,4 +10,4 @@ returns-2 : tie.Need-returns-2
 returns-2 c = no-own (c .before .before .before .before .args .base .now) (c .before .before .before .before .args .text .now) (c .before .has-scheme-unescaped .result) (c .before .has-scheme-unescaped .ensures) (c .if1 .left)
 
 pub lacks-base-spec : {M : Type 1} → statement M
-lacks-base-spec = tie.close (tie.spec has-scheme-unescaped-requires returns returns-2)
+lacks-base-spec = tie.close (tie.spec (λ c κs. search needs) returns returns-2)

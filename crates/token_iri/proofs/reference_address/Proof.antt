@@ -4,29 +4,8 @@ use borrow.Author.Needs.{needs}
 use Rattle.token_iri.proofs.reference_address.Statement.{statement}
 use Rattle.token_iri.proofs.reference_address.Tie as tie
 
-has-bad-escape-requires : tie.Need-has-bad-escape-requires
-has-bad-escape-requires c κs = search needs
-
-refuse-requires : tie.Need-refuse-requires
-refuse-requires c κs = search needs
-
 returns : tie.Need-returns
 returns c = refused-bad (c .before .before .before .before .before .before .args .token .now) (c .before .before .before .before .before .before .args .work .now) (c .before .before .before .before .before .before .args .st .now) _ (c .before .before .has-bad-escape .result) (c .refuse .result) (c .before .before .has-bad-escape .ensures) (c .before .if1 .taken) (c .refuse .ensures)
-
-inside-requires : tie.Need-inside-requires
-inside-requires c κs = search needs
-
-simplest-requires : tie.Need-simplest-requires
-simplest-requires c κs = search needs
-
-with-scheme-requires : tie.Need-with-scheme-requires
-with-scheme-requires c κs = as-escaped (c .simplest .result) (c .before .inside .result .now) (c .simplest .ensures)
-
-undone-length-requires : tie.Need-undone-length-requires
-undone-length-requires c κs = search needs
-
-refuse-requires-2 : tie.Need-refuse-requires-2
-refuse-requires-2 c κs = search needs
 
 returns-2 : tie.Need-returns-2
 returns-2 c = refused-long (c .before .before .before .before .before .before .before .before .before .before .before .before .args .token .now) (c .before .before .before .before .before .before .before .before .before .before .before .before .args .work .now) (c .before .before .before .before .before .before .before .before .before .before .before .before .args .st .now) _ (c .before .before .before .before .before .before .before .before .has-bad-escape .result) (c .before .before .before .before .before .before .before .before .has-bad-escape .ensures) (c .before .before .before .before .before .before .before .if1 .left) (c .before .before .before .before .before .before .inside .result .now) (c .before .before .before .before .before .before .inside .ensures) (c .before .before .before .before .with-scheme .result) (c .before .before .before .before .with-scheme .ensures) (c .before .before .before .if2 .taken) (c .before .before .undone-length .result) (escaped-length (c .before .before .before .before .before .simplest .result) (c .before .before .before .before .before .before .inside .result .now) _ (c .before .before .undone-length .ensures) (c .before .before .before .before .before .simplest .ensures)) (c .before .if3 .taken) (c .refuse2 .result) (c .refuse2 .ensures)
@@ -37,38 +16,11 @@ sub-t14 c = omega (arith, token-long (c .before .before .before .before .before 
 returns-3 : tie.Need-returns-3
 returns-3 c = in-form 1 (c .before .before .before .before .before .before .before .before .before .before .before .args .token .now) (c .before .before .before .before .before .before .before .before .before .before .before .args .work .now) (c .before .before .before .before .before .before .before .before .before .before .before .args .st .now) _ _ (c .before .before .before .before .simplest .result) (inside-reads (c .before .before .before .before .simplest .result) (c .before .before .before .before .before .before .before .before .before .before .before .args .token .now) (c .before .before .before .before .before .inside .result .now) (token-long (c .before .before .before .before .before .before .before .before .before .before .before .args .token .now) (c .before .before .before .before .before .before .before .before .before .before .before .args .work .now) (c .before .before .before .before .before .before .before .before .before .before .before .args .st .now) (c .before .before .before .before .before .before .before .before .before .before .before .args .buffer .now) (c .before .before .before .before .before .before .before .has-bad-escape .result) (c .before .before .before .before .before .before .before .has-bad-escape .ensures) (c .before .before .before .before .before .before .if1 .left) (c .before .before .before .before .before .inside .result .now) (c .before .before .before .before .before .inside .ensures) (c .before .before .before .with-scheme .result) (c .before .before .before .with-scheme .ensures) (c .before .before .if2 .taken) (c .before .undone-length .result) (escaped-length (c .before .before .before .before .simplest .result) (c .before .before .before .before .before .inside .result .now) _ (c .before .undone-length .ensures) (c .before .before .before .before .simplest .ensures))) (c .before .before .before .before .before .inside .ensures) (c .before .before .before .before .simplest .ensures)) (as-written (c .before .before .before .before .before .before .before .before .before .before .before .args .token .now) (c .before .before .before .before .before .before .before .before .before .before .before .args .work .now) (c .before .before .before .before .before .before .before .before .before .before .before .args .st .now) _ (c .before .before .before .before .before .before .before .has-bad-escape .result) (c .before .before .before .before .before .before .before .has-bad-escape .ensures) (c .before .before .before .before .before .before .if1 .left) (c .before .before .before .before .before .inside .result .now) (c .before .before .before .before .before .inside .ensures) (c .before .before .before .with-scheme .result) (c .before .before .before .with-scheme .ensures) (c .before .before .if2 .taken) (c .before .undone-length .result) (escaped-length (c .before .before .before .before .simplest .result) (c .before .before .before .before .before .inside .result .now) _ (c .before .undone-length .ensures) (c .before .before .before .before .simplest .ensures)) (c .if3 .left))
 
-write-reference-requires : tie.Need-write-reference-requires
-write-reference-requires c κs = search needs
-
-enum-told : tie.Need-enum-told
-enum-told c = search needs
-
-refuse-requires-3 : tie.Need-refuse-requires-3
-refuse-requires-3 c κs = search needs
-
-enum-told-2 : tie.Need-enum-told-2
-enum-told-2 c = search needs
-
-refuse-requires-4 : tie.Need-refuse-requires-4
-refuse-requires-4 c κs = search needs
-
-enum-known-a : tie.Need-enum-known-a
-enum-known-a c = search needs
-
-same-length : tie.Need-same-length
-same-length c = search needs
-
 returns-4 : tie.Need-returns-4
 returns-4 c = refused-no-base (c .before .before .before .before .before .before .before .before .before .before .before .before .before .before .before .before .args .token .now) (c .before .before .before .before .before .before .before .before .before .before .before .before .before .before .before .before .args .work .now) (c .before .before .before .before .before .before .before .before .before .before .before .before .before .before .before .before .args .st .now) _ (c .before .before .before .before .before .before .before .before .before .before .before .before .has-bad-escape .result) (c .before .before .before .before .before .before .before .before .before .before .before .before .has-bad-escape .ensures) (c .before .before .before .before .before .before .before .before .before .before .before .if1 .left) (c .before .before .before .before .before .before .before .before .before .before .inside .result .now) (c .before .before .before .before .before .before .before .before .before .before .inside .ensures) (c .before .before .before .before .before .write-reference .result) (c .before .before .before .before .before .write-reference .ensures) (c .before .enum-told .given .1) (c .refuse3 .result) (c .refuse3 .ensures)
 
-same-length-2 : tie.Need-same-length-2
-same-length-2 c = search needs
-
 returns-5 : tie.Need-returns-5
 returns-5 c = refused-over (c .before .before .before .before .before .before .before .before .before .before .before .before .before .before .before .before .args .token .now) (c .before .before .before .before .before .before .before .before .before .before .before .before .before .before .before .before .args .work .now) (c .before .before .before .before .before .before .before .before .before .before .before .before .before .before .before .before .args .st .now) _ (c .before .before .before .before .before .before .before .before .before .before .before .before .has-bad-escape .result) (c .before .before .before .before .before .before .before .before .before .before .before .before .has-bad-escape .ensures) (c .before .before .before .before .before .before .before .before .before .before .before .if1 .left) (c .before .before .before .before .before .before .before .before .before .before .inside .result .now) (c .before .before .before .before .before .before .before .before .before .before .inside .ensures) (c .before .before .before .before .before .write-reference .result) (c .before .before .before .before .before .write-reference .ensures) (c .before .enum-told2 .given .1) (c .refuse4 .result) (c .refuse4 .ensures)
-
-same-length-3 : tie.Need-same-length-3
-same-length-3 c = search needs
 
 returns-6 : tie.Need-returns-6
 returns-6 c = resolved-there (c .before .before .before .before .before .before .before .before .before .before .before .before .before .before .before .before .args .token .now) (c .before .before .before .before .before .before .before .before .before .before .before .before .before .before .before .before .args .work .now) (c .before .before .before .before .before .before .before .before .before .before .before .before .before .before .before .before .args .st .now) _ (c .before .before .before .before .before .before .before .before .before .before .before .before .has-bad-escape .result) (c .before .before .before .before .before .before .before .before .before .before .before .before .has-bad-escape .ensures) (c .before .before .before .before .before .before .before .before .before .before .before .if1 .left) (c .before .before .before .before .before .before .before .before .before .before .inside .result .now) (c .before .before .before .before .before .before .before .before .before .before .inside .ensures) (c .before .before .before .before .before .write-reference .result) (c .before .before .before .before .before .write-reference .ensures) (c .before .a .given .0 .0) (c .before .a .given .1) (omega arith)
@@ -77,26 +29,26 @@ pub reference-address-spec : {M : Type 1} → statement M
 reference-address-spec =
     tie.close
     (tie.spec
-    has-bad-escape-requires
-    refuse-requires
+    (λ c κs. search needs)
+    (λ c κs. search needs)
     returns
-    inside-requires
-    simplest-requires
-    with-scheme-requires
-    undone-length-requires
-    refuse-requires-2
+    (λ c κs. search needs)
+    (λ c κs. search needs)
+    (λ c κs. as-escaped (c .simplest .result) (c .before .inside .result .now) (c .simplest .ensures))
+    (λ c κs. search needs)
+    (λ c κs. search needs)
     returns-2
     sub-t14
     returns-3
-    write-reference-requires
-    enum-told
-    refuse-requires-3
-    enum-told-2
-    refuse-requires-4
-    enum-known-a
-    same-length
+    (λ c κs. search needs)
+    (λ c. search needs)
+    (λ c κs. search needs)
+    (λ c. search needs)
+    (λ c κs. search needs)
+    (λ c. search needs)
+    (λ c. search needs)
     returns-4
-    same-length-2
+    (λ c. search needs)
     returns-5
-    same-length-3
+    (λ c. search needs)
     returns-6)

@@ -7,71 +7,20 @@ use borrow.Author.Needs.{needs}
 use Rattle.token_iri.proofs.set_written.Statement.{statement}
 use Rattle.token_iri.proofs.set_written.Tie as tie
 
-inside-requires : tie.Need-inside-requires
-inside-requires c κs = search needs
-
-sub-write-reference : tie.Need-sub-write-reference
-sub-write-reference c = search needs
-
-part-write-reference-start : tie.Need-part-write-reference-start
-part-write-reference-start c = search needs
-
-part-write-reference-end : tie.Need-part-write-reference-end
-part-write-reference-end c = search needs
-
-write-reference-requires : tie.Need-write-reference-requires
-write-reference-requires c κs = search needs
-
-enum-told : tie.Need-enum-told
-enum-told c = search needs
-
-enum-told-2 : tie.Need-enum-told-2
-enum-told-2 c = search needs
-
-enum-known-a : tie.Need-enum-known-a
-enum-known-a c = search needs
-
 slice-reshare-prefix-set-base : tie.Need-slice-reshare-prefix-set-base
 slice-reshare-prefix-set-base c = fits (c .before .before .before .before .before .before .before .before .before .before .before .before .before .before .before .before .args .token .now) (c .before .before .before .before .before .before .before .before .before .before .before .before .before .before .before .before .args .work .now) (c .before .before .before .before .before .before .before .before .before .before .before .before .before .before .before .before .args .st .now) (c .before .before .before .before .before .before .before .before .before .before .before .before .before .before .before .before .pre .1 .1 .0) (c .before .before .before .before .before .before .before .before .before .before .before .before .before .before .before .before .pre .1 .1 .1) (c .before .before .before .before .before .before .before .before .before .before .before .before .before .before .before .before .pre .1 .0) (c .before .before .before .before .before .before .before .before .before .before .before .before .inside .result .now) (c .before .before .before .before .before .before .before .before .before .before .before .before .inside .ensures) _ (rest-all (c .before .before .before .before .before .before .before .before .before .before .before .before .before .before .before .before .args .work .now) 0) (c .before .before .before .before .before .before .before .write-reference .last .1 .1 .1 .0) (c .before .before .before .before .before .before .before .write-reference .result) (c .before .before .before .before .before .before .before .write-reference .ensures) (c .before .before .before .a .given .0 .0) (c .before .before .before .a .given .1)
 
 slice-aggregate-set-base : tie.Need-slice-aggregate-set-base
 slice-aggregate-set-base c = sym (length-take-le (c .before .before .before .before .a .given .0 .0) (c .before .before .before .before .before .before .before .before .write-reference .last .1 .1 .1 .0) (fits (c .before .before .before .before .before .before .before .before .before .before .before .before .before .before .before .before .before .args .token .now) (c .before .before .before .before .before .before .before .before .before .before .before .before .before .before .before .before .before .args .work .now) (c .before .before .before .before .before .before .before .before .before .before .before .before .before .before .before .before .before .args .st .now) (c .before .before .before .before .before .before .before .before .before .before .before .before .before .before .before .before .before .pre .1 .1 .0) (c .before .before .before .before .before .before .before .before .before .before .before .before .before .before .before .before .before .pre .1 .1 .1) (c .before .before .before .before .before .before .before .before .before .before .before .before .before .before .before .before .before .pre .1 .0) (c .before .before .before .before .before .before .before .before .before .before .before .before .before .inside .result .now) (c .before .before .before .before .before .before .before .before .before .before .before .before .before .inside .ensures) _ (rest-all (c .before .before .before .before .before .before .before .before .before .before .before .before .before .before .before .before .before .args .work .now) 0) (c .before .before .before .before .before .before .before .before .write-reference .last .1 .1 .1 .0) (c .before .before .before .before .before .before .before .before .write-reference .result) (c .before .before .before .before .before .before .before .before .write-reference .ensures) (c .before .before .before .before .a .given .0 .0) (c .before .before .before .before .a .given .1)))
 
-set-base-requires : tie.Need-set-base-requires
-set-base-requires c κs = search needs
-
-same-length : tie.Need-same-length
-same-length c = search needs
-
-same-length-2 : tie.Need-same-length-2
-same-length-2 c = search needs
-
 returns : tie.Need-returns
 returns c = base-declared (c .before .before .before .before .before .before .before .before .before .before .before .before .before .before .before .before .before .before .before .before .before .args .token .now) (c .before .before .before .before .before .before .before .before .before .before .before .before .before .before .before .before .before .before .before .before .before .args .work .now) (c .before .before .before .before .before .before .before .before .before .before .before .before .before .before .before .before .before .before .before .before .before .args .st .now) (c .before .before .before .before .before .before .before .before .before .before .before .before .before .before .before .before .before .before .before .before .before .pre .1 .1 .0) (c .before .before .before .before .before .before .before .before .before .before .before .before .before .before .before .before .before .before .before .before .before .pre .1 .1 .1) (c .before .before .before .before .before .before .before .before .before .before .before .before .before .before .before .before .before .before .before .before .before .pre .1 .0) (c .before .before .before .before .before .before .before .before .before .before .before .before .before .before .before .before .before .inside .result .now) (c .before .before .before .before .before .before .before .before .before .before .before .before .before .before .before .before .before .inside .ensures) _ (rest-all (c .before .before .before .before .before .before .before .before .before .before .before .before .before .before .before .before .before .before .before .before .before .args .work .now) 0) (c .before .before .before .before .before .before .before .before .before .before .before .before .write-reference .last .1 .1 .1 .0) (c .before .before .before .before .before .before .before .before .before .before .before .before .write-reference .result) (c .before .before .before .before .before .before .before .before .before .before .before .before .write-reference .ensures) (c .before .before .before .before .before .before .before .before .a .given .0 .0) (c .before .before .before .before .before .before .before .before .a .given .1) (omega arith) (c .before .before .before .set-base .last .0) (c .before .before .before .set-base .last .1 .0) (c .before .before .before .set-base .result) (c .before .before .before .set-base .ensures) (c .if1 .taken)
-
-same-length-3 : tie.Need-same-length-3
-same-length-3 c = search needs
-
-same-length-4 : tie.Need-same-length-4
-same-length-4 c = search needs
 
 returns-2 : tie.Need-returns-2
 returns-2 c = base-refused-no-base (c .before .before .before .before .before .before .before .before .before .before .before .before .before .args .token .now) (c .before .before .before .before .before .before .before .before .before .before .before .before .before .args .work .now) (c .before .before .before .before .before .before .before .before .before .before .before .before .before .args .st .now) (c .before .before .before .before .before .before .before .before .before .before .before .before .before .pre .1 .1 .0) (c .before .before .before .before .before .before .before .before .before .before .before .before .before .pre .1 .1 .1) (c .before .before .before .before .before .before .before .before .before .before .before .before .before .pre .1 .0) (c .before .before .before .before .before .before .before .before .before .inside .result .now) (c .before .before .before .before .before .before .before .before .before .inside .ensures) _ (rest-all (c .before .before .before .before .before .before .before .before .before .before .before .before .before .args .work .now) 0) (c .before .before .before .before .write-reference .last .1 .1 .1 .0) (c .before .before .before .before .write-reference .result) (c .before .before .before .before .write-reference .ensures) (c .enum-told .given .1)
 
-same-length-5 : tie.Need-same-length-5
-same-length-5 c = search needs
-
-same-length-6 : tie.Need-same-length-6
-same-length-6 c = search needs
-
 returns-3 : tie.Need-returns-3
 returns-3 c = base-refused-long (c .before .before .before .before .before .before .before .before .before .before .before .before .before .args .token .now) (c .before .before .before .before .before .before .before .before .before .before .before .before .before .args .work .now) (c .before .before .before .before .before .before .before .before .before .before .before .before .before .args .st .now) (c .before .before .before .before .before .before .before .before .before .before .before .before .before .pre .1 .1 .0) (c .before .before .before .before .before .before .before .before .before .before .before .before .before .pre .1 .1 .1) (c .before .before .before .before .before .before .before .before .before .before .before .before .before .pre .1 .0) (c .before .before .before .before .before .before .before .before .before .inside .result .now) (c .before .before .before .before .before .before .before .before .before .inside .ensures) _ (rest-all (c .before .before .before .before .before .before .before .before .before .before .before .before .before .args .work .now) 0) (c .before .before .before .before .write-reference .last .1 .1 .1 .0) (c .before .before .before .before .write-reference .result) (c .before .before .before .before .write-reference .ensures) (c .enum-told2 .given .1)
-
-same-length-7 : tie.Need-same-length-7
-same-length-7 c = search needs
-
-same-length-8 : tie.Need-same-length-8
-same-length-8 c = search needs
 
 returns-4 : tie.Need-returns-4
 returns-4 c = base-never-long (c .before .before .before .before .before .before .before .before .before .before .before .before .before .before .before .before .before .before .before .before .before .args .token .now) (c .before .before .before .before .before .before .before .before .before .before .before .before .before .before .before .before .before .before .before .before .before .args .work .now) (c .before .before .before .before .before .before .before .before .before .before .before .before .before .before .before .before .before .before .before .before .before .args .st .now) (c .before .before .before .before .before .before .before .before .before .before .before .before .before .before .before .before .before .before .before .before .before .pre .1 .1 .0) (c .before .before .before .before .before .before .before .before .before .before .before .before .before .before .before .before .before .before .before .before .before .pre .1 .1 .1) (c .before .before .before .before .before .before .before .before .before .before .before .before .before .before .before .before .before .before .before .before .before .pre .1 .0) (c .before .before .before .before .before .before .before .before .before .before .before .before .before .before .before .before .before .inside .result .now) (c .before .before .before .before .before .before .before .before .before .before .before .before .before .before .before .before .before .inside .ensures) _ (rest-all (c .before .before .before .before .before .before .before .before .before .before .before .before .before .before .before .before .before .before .before .before .before .args .work .now) 0) (c .before .before .before .before .before .before .before .before .before .before .before .before .write-reference .last .1 .1 .1 .0) (c .before .before .before .before .before .before .before .before .before .before .before .before .write-reference .result) (c .before .before .before .before .before .before .before .before .before .before .before .before .write-reference .ensures) (c .before .before .before .before .before .before .before .before .a .given .0 .0) (c .before .before .before .before .before .before .before .before .a .given .1) (omega arith) (c .before .before .before .set-base .last .0) (c .before .before .before .set-base .last .1 .0) (c .before .before .before .set-base .result) (c .before .before .before .set-base .ensures) (c .if1 .left)
@@ -80,26 +29,26 @@ pub set-written-spec : {M : Type 1} → statement M
 set-written-spec =
     tie.close
     (tie.spec
-    inside-requires
-    sub-write-reference
-    part-write-reference-start
-    part-write-reference-end
-    write-reference-requires
-    enum-told
-    enum-told-2
-    enum-known-a
+    (λ c κs. search needs)
+    (λ c. search needs)
+    (λ c. search needs)
+    (λ c. search needs)
+    (λ c κs. search needs)
+    (λ c. search needs)
+    (λ c. search needs)
+    (λ c. search needs)
     slice-reshare-prefix-set-base
     slice-aggregate-set-base
-    set-base-requires
-    same-length
-    same-length-2
+    (λ c κs. search needs)
+    (λ c. search needs)
+    (λ c. search needs)
     returns
-    same-length-3
-    same-length-4
+    (λ c. search needs)
+    (λ c. search needs)
     returns-2
-    same-length-5
-    same-length-6
+    (λ c. search needs)
+    (λ c. search needs)
     returns-3
-    same-length-7
-    same-length-8
+    (λ c. search needs)
+    (λ c. search needs)
     returns-4)

@@ -1,4 +1,4 @@
-use Rattle.table.specs.Usable.{usable}
+use Rattle.table.specs.Usable.{for-long-form, usable}
 use Rattle.usable.specs.Lent.{slices}
 use Rattle.usable.proofs.Facts.{counts-in, terms-alone, rows-alone}
 use borrow.Author.Needs.{needs}
@@ -7,18 +7,9 @@ use mathlib.Core.Path.{sym, _∙_}
 use Rattle.usable.proofs.is_usable.Statement.{statement}
 use Rattle.usable.proofs.is_usable.Tie as tie
 
-fit-counts-requires : tie.Need-fit-counts-requires
-fit-counts-requires c κs = search needs
-
 returns : tie.Need-returns
 unfolding usable
 returns c = simp (sym (c .before .fit-counts .ensures) ∙ not-true _ (c .if1 .taken))
-
-wide-requires : tie.Need-wide-requires
-wide-requires c κs = search needs
-
-wide-requires-2 : tie.Need-wide-requires-2
-wide-requires-2 c κs = search needs
 
 all-good-requires : tie.Need-all-good-requires
 all-good-requires c κs =
@@ -31,14 +22,8 @@ unfolding usable
 returns-2 c =
     let entry = c .before .before .before .before .before .before .before .before .before in
     let fit = sym (c .before .before .before .before .before .fit-counts .ensures) ∙ not-false _ (c .before .before .before .before .if1 .left) in
-    let terms = rw (c .before .before .before .wide .ensures, c .before .before .wide2 .ensures) at (c .before .all-good .ensures) ∙ terms-alone (entry .args .rows .now) (entry .args .row-count) (entry .args .terms .now) (entry .args .term-count) (entry .args .store .now) (entry .args .store-count) in
+    let terms = rw (c .before .before .before .wide .ensures, c .before .before .wide2 .ensures) at (c .before .all-good .ensures) ∙ terms-alone for-long-form (entry .args .rows .now) (entry .args .row-count) (entry .args .terms .now) (entry .args .term-count) (entry .args .store .now) (entry .args .store-count) in
     simp (fit, sym terms ∙ not-true _ (c .if2 .taken))
-
-wide-requires-3 : tie.Need-wide-requires-3
-wide-requires-3 c κs = search needs
-
-wide-requires-4 : tie.Need-wide-requires-4
-wide-requires-4 c κs = search needs
 
 all-good-requires-2 : tie.Need-all-good-requires-2
 all-good-requires-2 c κs =
@@ -51,20 +36,20 @@ unfolding usable
 returns-3 c =
     let entry = c .before .before .before .before .before .before .before .before .before .before .before .before in
     let fit = sym (c .before .before .before .before .before .before .before .before .fit-counts .ensures) ∙ not-false _ (c .before .before .before .before .before .before .before .if1 .left) in
-    let terms = rw (c .before .before .before .before .before .before .wide .ensures, c .before .before .before .before .before .wide2 .ensures) at (c .before .before .before .before .all-good .ensures) ∙ terms-alone (entry .args .rows .now) (entry .args .row-count) (entry .args .terms .now) (entry .args .term-count) (entry .args .store .now) (entry .args .store-count) in
+    let terms = rw (c .before .before .before .before .before .before .wide .ensures, c .before .before .before .before .before .wide2 .ensures) at (c .before .before .before .before .all-good .ensures) ∙ terms-alone for-long-form (entry .args .rows .now) (entry .args .row-count) (entry .args .terms .now) (entry .args .term-count) (entry .args .store .now) (entry .args .store-count) in
     simp (fit, sym terms ∙ not-false _ (c .before .before .before .if2 .left)) (rw (c .before .before .wide3 .ensures, c .before .wide4 .ensures) at (c .all-good2 .ensures) ∙ rows-alone (entry .args .rows .now) (entry .args .row-count) (entry .args .terms .now) (entry .args .term-count) (entry .args .store .now) (entry .args .store-count))
 
 pub is-usable-spec : {M : Type 1} → statement M
 is-usable-spec =
     tie.close
     (tie.spec
-    fit-counts-requires
+    (λ c κs. search needs)
     returns
-    wide-requires
-    wide-requires-2
+    (λ c κs. search needs)
+    (λ c κs. search needs)
     all-good-requires
     returns-2
-    wide-requires-3
-    wide-requires-4
+    (λ c κs. search needs)
+    (λ c κs. search needs)
     all-good-requires-2
     returns-3)

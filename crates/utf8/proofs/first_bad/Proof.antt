@@ -19,32 +19,11 @@ loop-holds : tie.Need-loop-holds Inv-loop μ-loop
 unfolding first-bad
 loop-holds c = (omega arith, refl)
 
-shared-slice-read-if1 : tie.Need-shared-slice-read-if1 Inv-loop μ-loop
-shared-slice-read-if1 c = search needs
-
-add-next-high : tie.Need-add-next-high Inv-loop μ-loop
-add-next-high c = search needs
-
-next-high-requires : tie.Need-next-high-requires Inv-loop μ-loop
-next-high-requires c κs = search needs
-
 loop-less : tie.Need-loop-less Inv-loop μ-loop
 loop-less c = omega (arith, c .next-high .ensures .1 .0, c .next-high .ensures .1 .1)
 
 loop-again : tie.Need-loop-again Inv-loop μ-loop
 loop-again c = (c .next-high .ensures .1 .1, bad-run (c .before .before .before .before .before .before .args .s .now) (c .before .before .before .before .loop .i) (c .next-high .result) (c .before .before .before .loop-test .taken) (c .before .if1 .taken) (c .next-high .ensures .0) (c .before .before .before .before .loop .inv .1))
-
-sub-sequence-size : tie.Need-sub-sequence-size Inv-loop μ-loop
-sub-sequence-size c = search needs
-
-part-sequence-size-start : tie.Need-part-sequence-size-start Inv-loop μ-loop
-part-sequence-size-start c = search needs
-
-part-sequence-size-end : tie.Need-part-sequence-size-end Inv-loop μ-loop
-part-sequence-size-end c = search needs
-
-sequence-size-requires : tie.Need-sequence-size-requires Inv-loop μ-loop
-sequence-size-requires c κs = search needs
 
 returns : tie.Need-returns Inv-loop μ-loop
 returns c = sym (c .before .before .before .before .before .before .loop .inv .1 ∙ bad-here (c .before .before .before .before .before .before .before .before .args .s .now) (c .before .before .before .before .before .before .loop .i) (c .before .before .before .before .before .loop-test .taken) (sym (c .before .sequence-size .ensures) ∙ c .if2 .taken))
@@ -68,15 +47,15 @@ first-bad-spec =
     Inv-loop
     μ-loop
     loop-holds
-    shared-slice-read-if1
-    add-next-high
-    next-high-requires
+    (λ c. search needs)
+    (λ c. search needs)
+    (λ c κs. search needs)
     loop-less
     loop-again
-    sub-sequence-size
-    part-sequence-size-start
-    part-sequence-size-end
-    sequence-size-requires
+    (λ c. search needs)
+    (λ c. search needs)
+    (λ c. search needs)
+    (λ c κs. search needs)
     returns
     add-i
     loop-less-2

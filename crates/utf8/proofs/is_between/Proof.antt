@@ -3,11 +3,5 @@ use borrow.Author.Tests.{lt-leb, le-leb}
 use Rattle.utf8.proofs.is_between.Statement.{statement}
 use Rattle.utf8.proofs.is_between.Tie as tie
 
-returns : tie.Need-returns
-returns c = simp (lt-leb _ _ (c .if1 .taken))
-
-returns-2 : tie.Need-returns-2
-returns-2 c = simp (le-leb _ _ (c .if1 .left))
-
 pub is-between-spec : {M : Type 1} → statement M
-is-between-spec = tie.close (tie.spec returns returns-2)
+is-between-spec = tie.close (tie.spec (λ c. simp (lt-leb _ _ (c .if1 .taken))) (λ c. simp (le-leb _ _ (c .if1 .left))))

@@ -6,20 +6,11 @@ use Prim.Native.Nat.{_-_}
 use Rattle.utf8.proofs.lead_size.Statement.{statement}
 use Rattle.utf8.proofs.lead_size.Tie as tie
 
-returns : tie.Need-returns
-returns c = simp (eq-eqb _ _ (c .if1 .taken))
-
-returns-2 : tie.Need-returns-2
-returns-2 c = simp (lt-ltb _ _ (c .if2 .taken), ne-eqb _ _ (c .before .if1 .left))
-
 returns-3 : tie.Need-returns-3
 returns-3 c = simp (lt-ltb _ _ (c .if3 .taken), le-ltb _ _ (c .before .if2 .left), ne-eqb _ _ (c .before .before .if1 .left))
-
-cast-result : tie.Need-cast-result
-cast-result c = record { fits = omega (arith, leading-le 8 (255 - (c .before .before .before .args .b))) }
 
 returns-4 : tie.Need-returns-4
 returns-4 c = simp (le-ltb _ _ (c .if3 .left), le-ltb _ _ (c .before .if2 .left), ne-eqb _ _ (c .before .before .if1 .left))
 
 pub lead-size-spec : {M : Type 1} → statement M
-lead-size-spec = tie.close (tie.spec returns returns-2 returns-3 cast-result returns-4)
+lead-size-spec = tie.close (tie.spec (λ c. simp (eq-eqb _ _ (c .if1 .taken))) (λ c. simp (lt-ltb _ _ (c .if2 .taken), ne-eqb _ _ (c .before .if1 .left))) returns-3 (λ c. record { fits = omega (arith, leading-le 8 (255 - (c .before .before .before .args .b))) }) returns-4)

@@ -9,32 +9,11 @@ use mathlib.Core.Bool.{true, false}
 use Rattle.utf8.proofs.sequence_size.Statement.{statement}
 use Rattle.utf8.proofs.sequence_size.Tie as tie
 
-returns : tie.Need-returns
-returns c = size-empty _ (c .if1 .taken)
-
-shared-slice-read-b : tie.Need-shared-slice-read-b
-shared-slice-read-b c = search needs
-
-lead-size-requires : tie.Need-lead-size-requires
-lead-size-requires c κs = search needs
-
 returns-2 : tie.Need-returns-2
 returns-2 c = size-small (now (c .before .before .before .before .before .args .s)) (omega arith) ((c .before .before .shared-slice-known2 .given) 0 .fits) _ (c .before .lead-size .ensures) (c .if2 .taken)
 
 returns-3 : tie.Need-returns-3
 returns-3 c = size-short (now (c .before .before .before .before .before .before .args .s)) (omega arith) ((c .before .before .before .shared-slice-known2 .given) 0 .fits) _ (c .before .before .lead-size .ensures) (c .before .if2 .left) (c .if3 .taken)
-
-second-low-requires : tie.Need-second-low-requires
-second-low-requires c κs = search needs
-
-second-high-requires : tie.Need-second-high-requires
-second-high-requires c κs = search needs
-
-shared-slice-read-is-between : tie.Need-shared-slice-read-is-between
-shared-slice-read-is-between c = search needs
-
-is-between-requires : tie.Need-is-between-requires
-is-between-requires c κs = search needs
 
 returns-4 : tie.Need-returns-4
 returns-4 c = size-second (now (c .before .before .before .before .before .before .before .before .before .before .before .args .s)) (omega arith) ((c .before .before .before .before .before .before .before .before .shared-slice-known2 .given) 0 .fits) _ (c .before .before .before .before .before .before .before .lead-size .ensures) (c .before .before .before .before .before .before .if2 .left) (c .before .before .before .before .before .if3 .left) _ _ (c .before .before .before .before .second-low .ensures) (c .before .before .before .second-high .ensures) _ (c .before .is-between .ensures) (not-true _ (c .if4 .taken))
@@ -42,23 +21,11 @@ returns-4 c = size-second (now (c .before .before .before .before .before .befor
 returns-5 : tie.Need-returns-5
 returns-5 c = size-two (now (c .before .before .before .before .before .before .before .before .before .before .before .before .args .s)) (omega arith) ((c .before .before .before .before .before .before .before .before .before .shared-slice-known2 .given) 0 .fits) _ (c .before .before .before .before .before .before .before .before .lead-size .ensures) (c .before .before .before .before .before .before .before .if2 .left) (c .before .before .before .before .before .before .if3 .left) _ _ (c .before .before .before .before .before .second-low .ensures) (c .before .before .before .before .second-high .ensures) _ (c .before .before .is-between .ensures) (not-false _ (c .before .if4 .left)) (c .if5 .taken)
 
-shared-slice-read-is-between-2 : tie.Need-shared-slice-read-is-between-2
-shared-slice-read-is-between-2 c = search needs
-
-is-between-requires-2 : tie.Need-is-between-requires-2
-is-between-requires-2 c κs = search needs
-
 returns-6 : tie.Need-returns-6
 returns-6 c = size-third (now (c .before .before .before .before .before .before .before .before .before .before .before .before .before .before .before .args .s)) (omega arith) ((c .before .before .before .before .before .before .before .before .before .before .before .before .shared-slice-known2 .given) 0 .fits) _ (c .before .before .before .before .before .before .before .before .before .before .before .lead-size .ensures) (c .before .before .before .before .before .before .before .before .before .before .if2 .left) (c .before .before .before .before .before .before .before .before .before .if3 .left) _ _ (c .before .before .before .before .before .before .before .before .second-low .ensures) (c .before .before .before .before .before .before .before .second-high .ensures) _ (c .before .before .before .before .before .is-between .ensures) (not-false _ (c .before .before .before .before .if4 .left)) (c .before .before .before .if5 .left) _ (c .before .is-between2 .ensures) (not-true _ (c .if6 .taken))
 
 returns-7 : tie.Need-returns-7
 returns-7 c = size-three (now (c .before .before .before .before .before .before .before .before .before .before .before .before .before .before .before .before .args .s)) (omega arith) ((c .before .before .before .before .before .before .before .before .before .before .before .before .before .shared-slice-known2 .given) 0 .fits) _ (c .before .before .before .before .before .before .before .before .before .before .before .before .lead-size .ensures) (c .before .before .before .before .before .before .before .before .before .before .before .if2 .left) (c .before .before .before .before .before .before .before .before .before .before .if3 .left) _ _ (c .before .before .before .before .before .before .before .before .before .second-low .ensures) (c .before .before .before .before .before .before .before .before .second-high .ensures) _ (c .before .before .before .before .before .before .is-between .ensures) (not-false _ (c .before .before .before .before .before .if4 .left)) (c .before .before .before .before .if5 .left) _ (c .before .before .is-between2 .ensures) (not-false _ (c .before .if6 .left)) (c .if7 .taken)
-
-shared-slice-read-is-between-3 : tie.Need-shared-slice-read-is-between-3
-shared-slice-read-is-between-3 c = search needs
-
-is-between-requires-3 : tie.Need-is-between-requires-3
-is-between-requires-3 c κs = search needs
 
 returns-8 : tie.Need-returns-8
 returns-8 c = size-fourth (now (c .before .before .before .before .before .before .before .before .before .before .before .before .before .before .before .before .before .before .before .args .s)) (omega arith) ((c .before .before .before .before .before .before .before .before .before .before .before .before .before .before .before .before .shared-slice-known2 .given) 0 .fits) _ (c .before .before .before .before .before .before .before .before .before .before .before .before .before .before .before .lead-size .ensures) (c .before .before .before .before .before .before .before .before .before .before .before .before .before .before .if2 .left) (c .before .before .before .before .before .before .before .before .before .before .before .before .before .if3 .left) _ _ (c .before .before .before .before .before .before .before .before .before .before .before .before .second-low .ensures) (c .before .before .before .before .before .before .before .before .before .before .before .second-high .ensures) _ (c .before .before .before .before .before .before .before .before .before .is-between .ensures) (not-false _ (c .before .before .before .before .before .before .before .before .if4 .left)) (c .before .before .before .before .before .before .before .if5 .left) _ (c .before .before .before .before .before .is-between2 .ensures) (not-false _ (c .before .before .before .before .if6 .left)) (c .before .before .before .if7 .left) false (sym (not-true _ (c .if8 .taken)) ∙ (c .before .is-between3 .ensures))
@@ -70,22 +37,22 @@ pub sequence-size-spec : {M : Type 1} → statement M
 sequence-size-spec =
     tie.close
     (tie.spec
-    returns
-    shared-slice-read-b
-    lead-size-requires
+    (λ c. size-empty _ (c .if1 .taken))
+    (λ c. search needs)
+    (λ c κs. search needs)
     returns-2
     returns-3
-    second-low-requires
-    second-high-requires
-    shared-slice-read-is-between
-    is-between-requires
+    (λ c κs. search needs)
+    (λ c κs. search needs)
+    (λ c. search needs)
+    (λ c κs. search needs)
     returns-4
     returns-5
-    shared-slice-read-is-between-2
-    is-between-requires-2
+    (λ c. search needs)
+    (λ c κs. search needs)
     returns-6
     returns-7
-    shared-slice-read-is-between-3
-    is-between-requires-3
+    (λ c. search needs)
+    (λ c κs. search needs)
     returns-8
     returns-9)

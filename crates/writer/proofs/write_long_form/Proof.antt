@@ -1,3 +1,4 @@
+use Rattle.table.specs.Usable.{for-long-form}
 use Rattle.usable.specs.Lent.{slices}
 use Rattle.writer.proofs.Sound.{ready, short}
 use Rattle.writer.proofs.Answers.{not-usable, too-long, lines-room, written-whole}
@@ -7,9 +8,6 @@ use mathlib.Core.Path.{sym, _∙_}
 use Rattle.writer.proofs.write_long_form.Statement.{statement}
 use Rattle.writer.proofs.write_long_form.Tie as tie
 
-is-usable-requires : tie.Need-is-usable-requires
-is-usable-requires c κs = search needs
-
 returns : tie.Need-returns
 returns c =
     let entry = c .before .before .before .before .before .before in
@@ -17,15 +15,12 @@ returns c =
     let out = entry .args .out .now in
     not-usable tables out (sym (c .before .is-usable .ensures) ∙ not-true _ (c .if1 .taken))
 
-wide-requires : tie.Need-wide-requires
-wide-requires c κs = search needs
-
 fit-lines-requires : tie.Need-fit-lines-requires
 fit-lines-requires c κs =
     let entry = c .before .before .before .before .before .before .before in
     let tables = slices (entry .args .rows .now) (entry .args .row-count) (entry .args .terms .now) (entry .args .term-count) (entry .args .store .now) (entry .args .store-count) in
     let usable = sym (c .before .before .is-usable .ensures) ∙ not-false _ (c .before .if1 .left) in
-    rw (c .wide .ensures) (ready tables usable, short tables usable (search needs))
+    rw (c .wide .ensures) (ready for-long-form tables usable, short for-long-form tables usable (search needs))
 
 returns-2 : tie.Need-returns-2
 returns-2 c =
@@ -42,10 +37,7 @@ put-lines-requires c κs =
     let usable = sym (c .before .before .before .before .before .is-usable .ensures) ∙ not-false _ (c .before .before .before .before .if1 .left) in
     let out = entry .args .out .now in
     let fits = rw (c .before .before .before .wide .ensures) at (sym (c .before .before .fit-lines .ensures) ∙ not-false _ (c .before .if2 .left)) in
-    rw (c .before .before .before .wide .ensures) (ready tables usable, lines-room tables out usable fits (search needs))
-
-same-length : tie.Need-same-length
-same-length c = search needs
+    rw (c .before .before .before .wide .ensures) (ready for-long-form tables usable, lines-room tables out usable fits (search needs))
 
 returns-3 : tie.Need-returns-3
 returns-3 c =
@@ -60,11 +52,11 @@ pub write-long-form-spec : {M : Type 1} → statement M
 write-long-form-spec =
     tie.close
     (tie.spec
-    is-usable-requires
+    (λ c κs. search needs)
     returns
-    wide-requires
+    (λ c κs. search needs)
     fit-lines-requires
     returns-2
     put-lines-requires
-    same-length
+    (λ c. search needs)
     returns-3)

@@ -6,9 +6,6 @@ use borrow.Author.Needs.{needs}
 use Rattle.writes.proofs.fresh.Statement.{statement}
 use Rattle.writes.proofs.fresh.Tie as tie
 
-counts-requires : tie.Need-counts-requires
-counts-requires c κs = search needs
-
 add-blank-requires : tie.Need-add-blank-requires
 add-blank-requires c κs = rw (c .before .counts .ensures) (fresh-room (c .before .before .before .before .args .terms .now) (c .before .before .before .before .args .st .now) (c .before .before .before .before .pre) .words, fresh-room (c .before .before .before .before .args .terms .now) (c .before .before .before .before .args .st .now) (c .before .before .before .before .pre) .small)
 
@@ -18,9 +15,6 @@ set-counts-requires c κs = c .before .before .before .before .before .before .b
 add-result : tie.Need-add-result
 add-result c = omega (arith, fresh-room (c .before .before .before .before .before .before .before .before .before .args .terms .now) (c .before .before .before .before .before .before .before .before .before .args .st .now) (c .before .before .before .before .before .before .before .before .before .pre) .small .terms, ap (λ (k : Counts). k .terms) (c .before .before .before .before .before .before .counts .ensures))
 
-same-length : tie.Need-same-length
-same-length c = search needs
-
 returns : tie.Need-returns
 returns c = fresh-writes _ (c .before .before .before .before .before .before .before .before .before .args .terms .now) _ (c .before .before .before .before .before .before .before .before .before .args .st .now) _ (c .before .before .before .before .before .before .counts .result) (c .before .before .before .before .add-blank .result) (c .before .before .before .before .before .before .before .before .before .pre) (c .before .before .before .before .before .before .counts .ensures) (c .before .before .before .before .add-blank .ensures) (c .set-counts .ensures) refl
 
@@ -28,9 +22,9 @@ pub fresh-spec : {M : Type 1} → statement M
 fresh-spec =
     tie.close
     (tie.spec
-    counts-requires
+    (λ c κs. search needs)
     add-blank-requires
     set-counts-requires
     add-result
-    same-length
+    (λ c. search needs)
     returns)

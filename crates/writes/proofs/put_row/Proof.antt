@@ -5,26 +5,11 @@ use borrow.Author.Needs.{needs}
 use Rattle.writes.proofs.put_row.Statement.{statement}
 use Rattle.writes.proofs.put_row.Tie as tie
 
-element-copy-out-count : tie.Need-element-copy-out-count
-element-copy-out-count c = search needs
-
-element-copy-out-graph : tie.Need-element-copy-out-graph
-element-copy-out-graph c = search needs
-
-slice-aggregate-add-row : tie.Need-slice-aggregate-add-row
-slice-aggregate-add-row c = search needs
-
 add-row-requires : tie.Need-add-row-requires
 add-row-requires c κs = (room-for-row (c .before .before .before .before .before .args .s) (c .before .before .before .before .before .args .p) (c .before .before .before .before .before .args .o) (c .before .before .before .before .before .args .at) (c .before .before .before .before .before .args .rows .now) (c .before .before .before .before .before .args .st .now) (c .before .before .before .before .before .pre) .0, row-small (c .before .before .before .before .before .args .s) (c .before .before .before .before .before .args .p) (c .before .before .before .before .before .args .o) (c .before .before .before .before .before .args .at) (c .before .before .before .before .before .args .rows .now) (c .before .before .before .before .before .args .st .now) (c .before .before .before .before .before .pre))
 
 add-st : tie.Need-add-st
 add-st c = omega (arith, room-for-row (c .before .before .before .before .before .before .before .before .args .s) (c .before .before .before .before .before .before .before .before .args .p) (c .before .before .before .before .before .before .before .before .args .o) (c .before .before .before .before .before .before .before .before .args .at) (c .before .before .before .before .before .before .before .before .args .rows .now) (c .before .before .before .before .before .before .before .before .args .st .now) (c .before .before .before .before .before .before .before .before .pre) .1)
-
-element-write-st : tie.Need-element-write-st
-element-write-st c = search needs
-
-same-length : tie.Need-same-length
-same-length c = search needs
 
 returns : tie.Need-returns
 returns c = row-writes (c .before .before .before .before .before .before .before .before .args .s) (c .before .before .before .before .before .before .before .before .args .p) (c .before .before .before .before .before .before .before .before .args .o) (c .before .before .before .before .before .before .before .before .args .at) (c .before .before .before .before .before .before .before .before .args .rows .now) (c .before .before .before .before .before .before .before .before .args .st .now) (c .before .before .before .before .before .before .before .before .pre) _ _ (c .before .before .add-row .ensures) refl
@@ -33,11 +18,11 @@ pub put-row-spec : {M : Type 1} → statement M
 put-row-spec =
     tie.close
     (tie.spec
-    element-copy-out-count
-    element-copy-out-graph
-    slice-aggregate-add-row
+    (λ c. search needs)
+    (λ c. search needs)
+    (λ c. search needs)
     add-row-requires
     add-st
-    element-write-st
-    same-length
+    (λ c. search needs)
+    (λ c. search needs)
     returns)

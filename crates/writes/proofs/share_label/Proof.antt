@@ -9,21 +9,9 @@ use borrow.Author.Needs.{needs}
 use Rattle.writes.proofs.share_label.Statement.{statement}
 use Rattle.writes.proofs.share_label.Tie as tie
 
-slice-aggregate-share : tie.Need-slice-aggregate-share
-slice-aggregate-share c = search needs
-
 share-requires : tie.Need-share-requires
 unfolding joined undo bad
 share-requires c κs = (share-ready blank-sort (c .before .before .before .before .before .before .before .before .before .args .text .now) [] (blank (label (c .before .before .before .before .before .before .before .before .before .args .text .now))) (label-asked (c .before .before .before .before .before .before .before .before .before .args .text .now) (c .before .before .before .before .before .before .before .before .before .pre .1)) (omega arith) (c .before .before .before .before .before .before .before .before .before .args .work .now) (c .before .before .before .before .before .before .before .before .before .args .terms .now) (c .before .before .before .before .before .before .before .before .before .args .store .now) (c .before .before .before .before .before .before .before .before .before .args .st .now) (c .before .before .before .before .before .before .before .before .before .pre .0), record { order = omega arith; front = omega arith; right = refl })
-
-same-length : tie.Need-same-length
-same-length c = search needs
-
-same-length-2 : tie.Need-same-length-2
-same-length-2 c = search needs
-
-same-length-3 : tie.Need-same-length-3
-same-length-3 c = search needs
 
 returns : tie.Need-returns
 unfolding joined undo
@@ -32,4 +20,4 @@ returns c = share-writes blank-sort (c .before .before .before .before .before .
 pub share-label-spec : {M : Type 1} → statement M
 share-label-spec =
     tie.close
-    (tie.spec slice-aggregate-share share-requires same-length same-length-2 same-length-3 returns)
+    (tie.spec (λ c. search needs) share-requires (λ c. search needs) (λ c. search needs) (λ c. search needs) returns)

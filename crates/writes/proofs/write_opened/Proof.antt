@@ -7,26 +7,8 @@ use Rattle.writes.proofs.write_opened.Tie as tie
 new-cell-requires : tie.Need-new-cell-requires
 new-cell-requires c κs = (opened-cell (c .before .before .before .before .before .before .before .before .before .before .args .spot) (c .before .before .before .before .before .before .before .before .before .before .args .work .now) (lent-tables (c .before .before .before .before .before .before .before .before .before .before .args .rows .now) (c .before .before .before .before .before .before .before .before .before .before .args .terms .now) (c .before .before .before .before .before .before .before .before .before .before .args .store .now)) (c .before .before .before .before .before .before .before .before .before .before .args .st .now) (c .before .before .before .before .before .before .before .before .before .before .pre .0) (c .before .before .before .before .before .if1 .taken), c .before .before .before .before .before .before .before .before .before .before .pre .1)
 
-element-write-st : tie.Need-element-write-st
-element-write-st c = search needs
-
-same-length : tie.Need-same-length
-same-length c = search needs
-
-same-length-2 : tie.Need-same-length-2
-same-length-2 c = search needs
-
-same-length-3 : tie.Need-same-length-3
-same-length-3 c = search needs
-
-same-length-4 : tie.Need-same-length-4
-same-length-4 c = search needs
-
 returns : tie.Need-returns
 returns c = opened-wrote (c .before .before .before .before .before .before .before .before .before .before .before .before .before .before .before .before .before .before .before .args .spot) (c .before .before .before .before .before .before .before .before .before .before .before .before .before .before .before .before .before .before .before .args .work .now) (lent-tables (c .before .before .before .before .before .before .before .before .before .before .before .before .before .before .before .before .before .before .before .args .rows .now) (c .before .before .before .before .before .before .before .before .before .before .before .before .before .before .before .before .before .before .before .args .terms .now) (c .before .before .before .before .before .before .before .before .before .before .before .before .before .before .before .before .before .before .before .args .store .now)) (c .before .before .before .before .before .before .before .before .before .before .before .before .before .before .before .before .before .before .before .args .st .now) (c .before .before .before .before .before .before .before .before .before .before .before .before .before .before .before .before .before .before .before .pre .0) (c .before .before .before .before .before .before .before .before .before .before .before .before .before .before .if1 .taken) (c .before .before .before .before .before .before .before .before .new-cell .result) _ _ _ (c .before .before .before .before .before .before .before .before .new-cell .ensures)
-
-element-write-st-2 : tie.Need-element-write-st-2
-element-write-st-2 c = search needs
 
 returns-2 : tie.Need-returns-2
 returns-2 c = opened-nothing (c .before .before .before .before .before .args .spot) (c .before .before .before .before .before .args .work .now) (lent-tables (c .before .before .before .before .before .args .rows .now) (c .before .before .before .before .before .args .terms .now) (c .before .before .before .before .before .args .store .now)) (c .before .before .before .before .before .args .st .now) (c .before .before .before .before .before .pre .0) (c .if1 .left)
@@ -36,11 +18,11 @@ write-opened-spec =
     tie.close
     (tie.spec
     new-cell-requires
-    element-write-st
-    same-length
-    same-length-2
-    same-length-3
-    same-length-4
+    (λ c. search needs)
+    (λ c. search needs)
+    (λ c. search needs)
+    (λ c. search needs)
+    (λ c. search needs)
     returns
-    element-write-st-2
+    (λ c. search needs)
     returns-2)

@@ -22,9 +22,6 @@ loop-holds c = (omega arith, over-start (c .args .s .now))
 slice-write-s : tie.Need-slice-write-s Inv-loop μ-loop
 slice-write-s c = omega (arith, cleared-size (c .before .before .args .s .now) (c .before .loop .s) (c .before .loop .cleared) (c .before .loop .inv .1))
 
-add-cleared : tie.Need-add-cleared Inv-loop μ-loop
-add-cleared c = search needs
-
 loop-less : tie.Need-loop-less Inv-loop μ-loop
 loop-less c = omega (arith, cleared-size (c .before .before .args .s .now) (c .before .loop .s) (c .before .loop .cleared) (c .before .loop .inv .1))
 
@@ -45,7 +42,7 @@ clear-bytes-spec =
     μ-loop
     loop-holds
     slice-write-s
-    add-cleared
+    (λ c. search needs)
     loop-less
     loop-again
     same-length

@@ -19,14 +19,8 @@ abbrev μ-loop : tie.MeasureT-loop
 loop-holds : tie.Need-loop-holds Inv-loop μ-loop
 loop-holds c = (omega arith, over-start (c .args .s .now))
 
-mul-s : tie.Need-mul-s Inv-loop μ-loop
-mul-s c = search needs
-
 slice-write-s : tie.Need-slice-write-s Inv-loop μ-loop
 slice-write-s c = omega (arith, cleared-size (c .before .before .args .s .now) (c .before .loop .s) (c .before .loop .i) (c .before .loop .inv .1))
-
-add-i : tie.Need-add-i Inv-loop μ-loop
-add-i c = search needs
 
 loop-less : tie.Need-loop-less Inv-loop μ-loop
 loop-less c = omega (arith, cleared-size (c .before .before .args .s .now) (c .before .loop .s) (c .before .loop .i) (c .before .loop .inv .1))
@@ -47,9 +41,9 @@ clear-words-spec =
     Inv-loop
     μ-loop
     loop-holds
-    mul-s
+    (λ c. search needs)
     slice-write-s
-    add-i
+    (λ c. search needs)
     loop-less
     loop-again
     same-length

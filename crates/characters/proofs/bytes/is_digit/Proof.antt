@@ -6,14 +6,5 @@ use Rattle.characters.proofs.Sets.{ranged}
 use Rattle.characters.proofs.bytes.is_digit.Statement.{statement}
 use Rattle.characters.proofs.bytes.is_digit.Tie as tie
 
-returns : tie.Need-returns
-returns c = ranged digit _ [] 48 10 tt (c .before .before .args .b) (λ x. x) (omega arith) (omega arith)
-
-returns-2 : tie.Need-returns-2
-returns-2 c = ranged digit _ [] 0 48 tt (c .before .args .b) (λ x. x) (omega arith) (omega arith)
-
-returns-3 : tie.Need-returns-3
-returns-3 c = ranged digit _ [] 58 198 tt (c .before .before .args .b) (λ x. x) (omega arith) (omega arith)
-
 pub is-digit-spec : {M : Type 1} → statement M
-is-digit-spec = tie.close (tie.spec returns returns-2 returns-3)
+is-digit-spec = tie.close (tie.spec (λ c. ranged digit _ [] 48 10 tt (c .before .before .args .b) (λ x. x) (omega arith) (omega arith)) (λ c. ranged digit _ [] 0 48 tt (c .before .args .b) (λ x. x) (omega arith) (omega arith)) (λ c. ranged digit _ [] 58 198 tt (c .before .before .args .b) (λ x. x) (omega arith) (omega arith)))

@@ -15,9 +15,6 @@ returns-2 c = ranged reserved _ (33 ∷ 59 ∷ 61 ∷ 95 ∷ 126 ∷ []) 48 15 t
 returns-3 : tie.Need-returns-3
 returns-3 c = ranged reserved _ (33 ∷ 59 ∷ 61 ∷ 95 ∷ 126 ∷ []) 65 191 tt (c .before .before .before .before .before .args .b) (c .before .before .before .before .match .rest .1) (omega arith) (omega arith)
 
-returns-4 : tie.Need-returns-4
-returns-4 c = keyed reserved _ (33 ∷ 59 ∷ 61 ∷ 95 ∷ 126 ∷ []) tt (c .before .args .b) (c .match .keys1)
-
 returns-5 : tie.Need-returns-5
 returns-5 c = ranged reserved _ (33 ∷ 59 ∷ 61 ∷ 95 ∷ 126 ∷ []) 35 13 tt (c .before .before .before .args .b) (c .before .before .match .rest .1) (omega arith) (omega arith)
 
@@ -25,4 +22,4 @@ returns-6 : tie.Need-returns-6
 returns-6 c = ranged reserved _ (33 ∷ 59 ∷ 61 ∷ 95 ∷ 126 ∷ []) 63 2 tt (c .before .before .before .before .before .args .b) (c .before .before .before .before .match .rest .1) (omega arith) (omega arith)
 
 pub is-reserved-spec : {M : Type 1} → statement M
-is-reserved-spec = tie.close (tie.spec returns returns-2 returns-3 returns-4 returns-5 returns-6)
+is-reserved-spec = tie.close (tie.spec returns returns-2 returns-3 (λ c. keyed reserved _ (33 ∷ 59 ∷ 61 ∷ 95 ∷ 126 ∷ []) tt (c .before .args .b) (c .match .keys1)) returns-5 returns-6)

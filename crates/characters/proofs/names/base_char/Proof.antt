@@ -10,17 +10,8 @@ use Rattle.characters.proofs.Points.{char-low, char-high}
 use Rattle.characters.proofs.names.base_char.Statement.{statement}
 use Rattle.characters.proofs.names.base_char.Tie as tie
 
-shared-slice-read-b : tie.Need-shared-slice-read-b
-shared-slice-read-b c = search needs
-
-wide-char-requires : tie.Need-wide-char-requires
-wide-char-requires c κs = ((c .before .before .before .pre), (c .if1 .taken), omega arith)
-
 returns : tie.Need-returns
 returns c = char-high letter base (now (c .before .before .before .before .args .s)) (c .before .before .before .before .args .at) (c .before .before .before .before .pre) (c .before .if1 .taken) _ (c .wide-char .ensures)
-
-is-letter-requires : tie.Need-is-letter-requires
-is-letter-requires c κs = search needs
 
 returns-2 : tie.Need-returns-2
 returns-2 c = char-low letter base (now (c .before .before .before .before .before .args .s)) (c .before .before .before .before .before .args .at) (c .before .before .before .before .before .pre) true (c .before .before .if1 .left) (sym (c .if2 .taken) ∙ (c .before .is-letter .ensures)) 1 refl
@@ -32,9 +23,9 @@ pub base-char-spec : {M : Type 1} → statement M
 base-char-spec =
     tie.close
     (tie.spec
-    shared-slice-read-b
-    wide-char-requires
+    (λ c. search needs)
+    (λ c κs. ((c .before .before .before .pre), (c .if1 .taken), omega arith))
     returns
-    is-letter-requires
+    (λ c κs. search needs)
     returns-2
     returns-3)

@@ -21,9 +21,6 @@ returns-4 : tie.Need-returns-4
 unfolding level-test intervals
 returns-4 c = level-on 0xF8 0x2FF _ tt (c .before .before .before .before .before .before .args .c) (omega arith) (omega arith) (omega arith) (omega arith)
 
-returns-5 : tie.Need-returns-5
-returns-5 c = absurd (omega arith)
-
 returns-6 : tie.Need-returns-6
 unfolding level-test intervals
 returns-6 c = level-on 0xD7 0xD7 _ tt (c .before .before .before .args .c) (omega arith) (omega arith) (omega arith) (omega arith)
@@ -32,10 +29,7 @@ returns-7 : tie.Need-returns-7
 unfolding level-test intervals
 returns-7 c = level-on 0xF7 0xF7 _ tt (c .before .before .before .before .before .args .c) (omega arith) (omega arith) (omega arith) (omega arith)
 
-returns-8 : tie.Need-returns-8
-returns-8 c = absurd (omega arith)
-
 pub low-level-spec : {M : Type 1} → statement M
 low-level-spec =
     tie.close
-    (tie.spec returns returns-2 returns-3 returns-4 returns-5 returns-6 returns-7 returns-8)
+    (tie.spec returns returns-2 returns-3 returns-4 (λ c. absurd (omega arith)) returns-6 returns-7 (λ c. absurd (omega arith)))

@@ -6,18 +6,6 @@ use Rattle.characters.proofs.Points.{wide-none, wide-needs, wide-no, wi
 use Rattle.characters.proofs.names.wide_char.Statement.{statement}
 use Rattle.characters.proofs.names.wide_char.Tie as tie
 
-sub-read-code-point : tie.Need-sub-read-code-point
-sub-read-code-point c = search needs
-
-part-read-code-point-start : tie.Need-part-read-code-point-start
-part-read-code-point-start c = search needs
-
-part-read-code-point-end : tie.Need-part-read-code-point-end
-part-read-code-point-end c = search needs
-
-read-code-point-requires : tie.Need-read-code-point-requires
-read-code-point-requires c κs = search needs
-
 returns : tie.Need-returns
 returns c = wide-none (now (c .before .before .before .before .args .s)) (c .before .before .before .before .args .at) _ _ ((c .before .before .before .before .pre .0)) ((c .before .before .before .before .pre .1)) (c .before .read-code-point .ensures .0) (c .before .read-code-point .ensures .1) [] (c .before .before .before .before .args .least) (c .if1 .taken)
 
@@ -34,10 +22,10 @@ pub wide-char-spec : {M : Type 1} → statement M
 wide-char-spec =
     tie.close
     (tie.spec
-    sub-read-code-point
-    part-read-code-point-start
-    part-read-code-point-end
-    read-code-point-requires
+    (λ c. search needs)
+    (λ c. search needs)
+    (λ c. search needs)
+    (λ c κs. search needs)
     returns
     name-level-requires
     returns-2

@@ -21,20 +21,8 @@ loop-holds c = (omega arith, omega arith, refl)
 returns : tie.Need-returns Inv-loop μ-loop
 returns c = place-of-end _ _ _ _ (c .before .before .loop .inv .2) (omega arith) (omega arith) (omega arith)
 
-ends-line-requires : tie.Need-ends-line-requires Inv-loop μ-loop
-ends-line-requires c κs = search needs
-
-shared-slice-read-passed : tie.Need-shared-slice-read-passed Inv-loop μ-loop
-shared-slice-read-passed c = search needs
-
 passed-requires : tie.Need-passed-requires Inv-loop μ-loop
 passed-requires c κs = (bounded-place _ _ _ (c .before .before .before .before .loop .inv .2) .0, bounded-place _ _ _ (c .before .before .before .before .loop .inv .2) .1, omega arith)
-
-add-i : tie.Need-add-i Inv-loop μ-loop
-add-i c = search needs
-
-loop-less : tie.Need-loop-less Inv-loop μ-loop
-loop-less c = search needs
 
 loop-again : tie.Need-loop-again Inv-loop μ-loop
 loop-again c = (omega arith, omega arith, next-place _ _ _ _ _ (c .before .before .before .before .before .loop .inv .2) (c .before .before .ends-line .ensures) (c .passed .ensures))
@@ -50,10 +38,10 @@ place-of-spec =
     μ-loop
     loop-holds
     returns
-    ends-line-requires
-    shared-slice-read-passed
+    (λ c κs. search needs)
+    (λ c. search needs)
     passed-requires
-    add-i
-    loop-less
+    (λ c. search needs)
+    (λ c. search needs)
     loop-again
     returns-2)

@@ -8,31 +8,13 @@ returns : tie.Need-returns
 unfolding four
 returns c = simp (lt-ltb _ _ (c .if1 .taken))
 
-add-last : tie.Need-add-last
-add-last c = search needs
-
-add-t9 : tie.Need-add-t9
-add-t9 c = search needs
-
 returns-2 : tie.Need-returns-2
 unfolding four
 returns-2 c = simp (eq-eqb _ _ (c .if2 .taken), le-ltb _ _ (c .before .if1 .left))
 
-add-third : tie.Need-add-third
-add-third c = search needs
-
-add-t12 : tie.Need-add-t12
-add-t12 c = search needs
-
 returns-3 : tie.Need-returns-3
 unfolding four
 returns-3 c = simp (eq-eqb _ _ (c .if3 .taken), ne-eqb _ _ (c .before .if2 .left), le-ltb _ _ (c .before .before .if1 .left))
-
-add-t7 : tie.Need-add-t7
-add-t7 c = search needs
-
-add-t15 : tie.Need-add-t15
-add-t15 c = search needs
 
 returns-4 : tie.Need-returns-4
 unfolding four
@@ -43,12 +25,12 @@ bytes-spec =
     tie.close
     (tie.spec
     returns
-    add-last
-    add-t9
+    (λ c. search needs)
+    (λ c. search needs)
     returns-2
-    add-third
-    add-t12
+    (λ c. search needs)
+    (λ c. search needs)
     returns-3
-    add-t7
-    add-t15
+    (λ c. search needs)
+    (λ c. search needs)
     returns-4)

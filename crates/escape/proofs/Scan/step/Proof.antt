@@ -4,22 +4,13 @@ use borrow.Author.Needs.{needs}
 use Rattle.escape.proofs.Scan.step.Statement.{statement}
 use Rattle.escape.proofs.Scan.step.Tie as tie
 
-step-outside-requires : tie.Need-step-outside-requires
-step-outside-requires c κs = search needs
-
 returns : tie.Need-returns
 unfolding step
 returns c = simp (eq-eqb _ _ (c .before .if1 .taken)) (c .step-outside .ensures)
 
-step-name-requires : tie.Need-step-name-requires
-step-name-requires c κs = search needs
-
 returns-2 : tie.Need-returns-2
 unfolding step
 returns-2 c = simp (ne-eqb _ _ (c .before .before .if1 .left), eq-eqb _ _ (c .before .if2 .taken)) (c .step-name .ensures)
-
-step-escape-requires : tie.Need-step-escape-requires
-step-escape-requires c κs = search needs
 
 returns-3 : tie.Need-returns-3
 unfolding step
@@ -29,9 +20,9 @@ pub step-spec : {M : Type 1} → statement M
 step-spec =
     tie.close
     (tie.spec
-    step-outside-requires
+    (λ c κs. search needs)
     returns
-    step-name-requires
+    (λ c κs. search needs)
     returns-2
-    step-escape-requires
+    (λ c κs. search needs)
     returns-3)

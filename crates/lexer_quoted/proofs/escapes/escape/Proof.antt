@@ -7,20 +7,8 @@ use Rattle.lexer_quoted.proofs.Escaping.{escape-none, escape-is}
 use Rattle.lexer_quoted.proofs.escapes.escape.Statement.{statement}
 use Rattle.lexer_quoted.proofs.escapes.escape.Tie as tie
 
-returns : tie.Need-returns
-returns c = escape-none (now (c .before .before .args .s)) (c .before .before .args .at) (c .if1 .taken)
-
-shared-slice-read-is-echar : tie.Need-shared-slice-read-is-echar
-shared-slice-read-is-echar c = search needs
-
-is-echar-requires : tie.Need-is-echar-requires
-is-echar-requires c κs = search needs
-
 returns-2 : tie.Need-returns-2
 returns-2 c = sym (escape-is (now (c .before .before .before .before .before .args .s)) (c .before .before .before .before .before .args .at) (c .before .before .before .if1 .left) true (sym (c .if2 .taken) ∙ (c .before .is-echar .ensures)))
-
-uchar-requires : tie.Need-uchar-requires
-uchar-requires c κs = search needs
 
 returns-3 : tie.Need-returns-3
 returns-3 c = (c .uchar .ensures) ∙ sym (escape-is (now (c .before .before .before .before .before .before .args .s)) (c .before .before .before .before .before .before .args .at) (c .before .before .before .before .if1 .left) false (sym (c .before .if2 .left) ∙ (c .before .before .is-echar .ensures)))
@@ -29,9 +17,9 @@ pub escape-spec : {M : Type 1} → statement M
 escape-spec =
     tie.close
     (tie.spec
-    returns
-    shared-slice-read-is-echar
-    is-echar-requires
+    (λ c. escape-none (now (c .before .before .args .s)) (c .before .before .args .at) (c .if1 .taken))
+    (λ c. search needs)
+    (λ c κs. search needs)
     returns-2
-    uchar-requires
+    (λ c κs. search needs)
     returns-3)

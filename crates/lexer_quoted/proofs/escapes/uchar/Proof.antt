@@ -5,29 +5,11 @@ use Rattle.lexer_quoted.proofs.Escaping.{uchar-none, uchar-four, uchar-
 use Rattle.lexer_quoted.proofs.escapes.uchar.Statement.{statement}
 use Rattle.lexer_quoted.proofs.escapes.uchar.Tie as tie
 
-returns : tie.Need-returns
-returns c = uchar-none (now (c .before .before .args .s)) (c .before .before .args .at) (c .if1 .taken)
-
-shared-slice-read-b : tie.Need-shared-slice-read-b
-shared-slice-read-b c = search needs
-
-add-hexes : tie.Need-add-hexes
-add-hexes c = search needs
-
-hexes-requires : tie.Need-hexes-requires
-hexes-requires c κs = search needs
-
 returns-2 : tie.Need-returns-2
 returns-2 c = rw (c .if3 .taken) at (uchar-four (now (c .before .before .before .before .before .before .args .s)) (c .before .before .before .before .before .before .args .at) (c .before .before .before .before .if1 .left) (c .before .before .if2 .taken) (c .before .hexes .result) (c .before .hexes .ensures))
 
 returns-3 : tie.Need-returns-3
 returns-3 c = rw (c .if3 .left) at (uchar-four (now (c .before .before .before .before .before .before .args .s)) (c .before .before .before .before .before .before .args .at) (c .before .before .before .before .if1 .left) (c .before .before .if2 .taken) (c .before .hexes .result) (c .before .hexes .ensures))
-
-add-hexes-2 : tie.Need-add-hexes-2
-add-hexes-2 c = search needs
-
-hexes-requires-2 : tie.Need-hexes-requires-2
-hexes-requires-2 c κs = search needs
 
 returns-4 : tie.Need-returns-4
 returns-4 c = rw (c .if5 .taken) at (uchar-eight (now (c .before .before .before .before .before .before .before .args .s)) (c .before .before .before .before .before .before .before .args .at) (c .before .before .before .before .before .if1 .left) (c .before .before .before .if2 .left) (c .before .before .if4 .taken) (c .before .hexes2 .result) (c .before .hexes2 .ensures))
@@ -42,14 +24,14 @@ pub uchar-spec : {M : Type 1} → statement M
 uchar-spec =
     tie.close
     (tie.spec
-    returns
-    shared-slice-read-b
-    add-hexes
-    hexes-requires
+    (λ c. uchar-none (now (c .before .before .args .s)) (c .before .before .args .at) (c .if1 .taken))
+    (λ c. search needs)
+    (λ c. search needs)
+    (λ c κs. search needs)
     returns-2
     returns-3
-    add-hexes-2
-    hexes-requires-2
+    (λ c. search needs)
+    (λ c κs. search needs)
     returns-4
     returns-5
     returns-6)

@@ -14,26 +14,11 @@ Inv-loop s i₀ i = Stopped s i
 abbrev μ-loop : tie.MeasureT-loop
 μ-loop s i₀ i = length s - i
 
-next-stop-requires : tie.Need-next-stop-requires Inv-loop μ-loop
-next-stop-requires c κs = search needs
-
 loop-holds : tie.Need-loop-holds Inv-loop μ-loop
 loop-holds c = iri-run (now (c .before .before .args .s)) 1 _ (iri-start (now (c .before .before .args .s)) (c .before .before .pre .0) (c .before .before .pre .1)) (c .next-stop .ensures .0)
 
-shared-slice-read-b : tie.Need-shared-slice-read-b Inv-loop μ-loop
-shared-slice-read-b c = search needs
-
-add-uchar : tie.Need-add-uchar Inv-loop μ-loop
-add-uchar c = search needs
-
-uchar-requires : tie.Need-uchar-requires Inv-loop μ-loop
-uchar-requires c κs = search needs
-
 returns : tie.Need-returns Inv-loop μ-loop
 returns c = iri-broken (now (c .before .before .before .before .before .before .before .before .args .s)) (c .before .before .before .before .before .loop .i) (c .before .before .before .before .before .loop .inv) (c .before .before .before .before .loop-test .taken) (c .before .before .if1 .taken) _ (c .before .uchar .ensures) (c .if2 .taken)
-
-add-next-stop : tie.Need-add-next-stop Inv-loop μ-loop
-add-next-stop c = search needs
 
 add-next-stop-2 : tie.Need-add-next-stop-2 Inv-loop μ-loop
 add-next-stop-2 c = omega (arith, iri-escaped (now (c .before .before .before .before .before .before .before .before .args .s)) (c .before .before .before .before .before .loop .i) (c .before .before .before .before .before .loop .inv) (c .before .before .before .before .loop-test .taken) (c .before .before .if1 .taken) _ (c .before .uchar .ensures) (c .if2 .left) .within)
@@ -41,14 +26,8 @@ add-next-stop-2 c = omega (arith, iri-escaped (now (c .before .before .before .b
 next-stop-requires-2 : tie.Need-next-stop-requires-2 Inv-loop μ-loop
 next-stop-requires-2 c κs = iri-escaped (now (c .before .before .before .before .before .before .before .before .args .s)) (c .before .before .before .before .before .loop .i) (c .before .before .before .before .before .loop .inv) (c .before .before .before .before .loop-test .taken) (c .before .before .if1 .taken) _ (c .before .uchar .ensures) (c .if2 .left) .within
 
-loop-less : tie.Need-loop-less Inv-loop μ-loop
-loop-less c = search needs
-
 loop-again : tie.Need-loop-again Inv-loop μ-loop
 loop-again c = iri-run (now (c .before .before .before .before .before .before .before .before .before .args .s)) (c .before .before .before .before .before .before .loop .i + 1 + c .before .before .uchar .result) _ (iri-escaped (now (c .before .before .before .before .before .before .before .before .before .args .s)) (c .before .before .before .before .before .before .loop .i) (c .before .before .before .before .before .before .loop .inv) (c .before .before .before .before .before .loop-test .taken) (c .before .before .before .if1 .taken) _ (c .before .before .uchar .ensures) (c .before .if2 .left)) (c .next-stop2 .ensures .0)
-
-add-t13 : tie.Need-add-t13 Inv-loop μ-loop
-add-t13 c = search needs
 
 returns-2 : tie.Need-returns-2 Inv-loop μ-loop
 returns-2 c = iri-close (now (c .before .before .before .before .before .before .before .args .s)) (c .before .before .before .before .loop .i) (c .before .before .before .before .loop .inv) (c .before .before .before .loop-test .taken) (c .if3 .taken)
@@ -65,18 +44,18 @@ iriref-spec =
     (tie.spec
     Inv-loop
     μ-loop
-    next-stop-requires
+    (λ c κs. search needs)
     loop-holds
-    shared-slice-read-b
-    add-uchar
-    uchar-requires
+    (λ c. search needs)
+    (λ c. search needs)
+    (λ c κs. search needs)
     returns
-    add-next-stop
+    (λ c. search needs)
     add-next-stop-2
     next-stop-requires-2
-    loop-less
+    (λ c. search needs)
     loop-again
-    add-t13
+    (λ c. search needs)
     returns-2
     returns-3
     returns-4)

@@ -22,20 +22,8 @@ abbrev μ-loop : tie.MeasureT-loop
 loop-holds : tie.Need-loop-holds Inv-loop μ-loop
 loop-holds c = (c .before .pre, (omega arith, refl))
 
-shared-slice-read-b : tie.Need-shared-slice-read-b Inv-loop μ-loop
-shared-slice-read-b c = search needs
-
-is-iri-requires : tie.Need-is-iri-requires Inv-loop μ-loop
-is-iri-requires c κs = search needs
-
 returns : tie.Need-returns Inv-loop μ-loop
 returns c = (sym (c .before .before .before .before .before .loop .inv .1 .1 ∙ next-here iri-stop (now (c .before .before .before .before .before .before .before .args .s)) (c .before .before .before .before .before .loop .i) (omega arith) (at-stop _ _ (c .before .before .if1 .taken) (c .before .is-iri .ensures) (c .if2 .taken))), (c .before .before .before .before .before .loop .inv .1 .0, omega arith))
-
-add-i : tie.Need-add-i Inv-loop μ-loop
-add-i c = search needs
-
-loop-less : tie.Need-loop-less Inv-loop μ-loop
-loop-less c = search needs
 
 loop-again : tie.Need-loop-again Inv-loop μ-loop
 loop-again c = (omega arith, (omega (arith, c .before .before .before .loop .inv .1 .0), c .before .before .before .loop .inv .1 .1 ∙ next-more iri-stop (now (c .before .before .before .before .before .args .s)) (c .before .before .before .loop .i) (omega arith) (⊎-elim (λ x. no-stop-low (getD (now (c .before .before .before .before .before .args .s)) (c .before .before .before .loop .i) 0) _ (x .1 .ensures) (x .2 .left)) (λ x. no-stop-high (getD (now (c .before .before .before .before .before .args .s)) (c .before .before .before .loop .i) 0) (x .left)) (c .if1 .came))))
@@ -50,10 +38,10 @@ next-stop-near-spec =
     Inv-loop
     μ-loop
     loop-holds
-    shared-slice-read-b
-    is-iri-requires
+    (λ c. search needs)
+    (λ c κs. search needs)
     returns
-    add-i
-    loop-less
+    (λ c. search needs)
+    (λ c. search needs)
     loop-again
     returns-2)

@@ -17,38 +17,14 @@ abbrev μ-loop : tie.MeasureT-loop
 loop-holds : tie.Need-loop-holds Inv-loop μ-loop
 loop-holds c = (omega arith, long-begin (now (c .before .args .s)) (c .before .args .quote) (c .before .args .kind) (c .before .pre .2) (c .before .pre .0) (c .before .pre .1) (c .before .pre .3))
 
-shared-slice-read-b : tie.Need-shared-slice-read-b Inv-loop μ-loop
-shared-slice-read-b c = search needs
-
-add-t13 : tie.Need-add-t13 Inv-loop μ-loop
-add-t13 c = search needs
-
 returns : tie.Need-returns Inv-loop μ-loop
 returns c = long-close (now (c .before .before .before .before .before .before .args .s)) (c .before .before .before .before .before .before .args .quote) (c .before .before .before .before .before .before .args .kind) (c .before .before .before .before .before .before .pre .2) (c .before .before .before .before .loop .i) (c .before .before .before .before .loop .run) (c .before .before .before .before .loop .inv .1) (c .before .before .before .loop-test .taken) (c .before .if1 .taken) (c .if2 .taken)
-
-add-run : tie.Need-add-run Inv-loop μ-loop
-add-run c = search needs
-
-add-i : tie.Need-add-i Inv-loop μ-loop
-add-i c = search needs
-
-loop-less : tie.Need-loop-less Inv-loop μ-loop
-loop-less c = search needs
 
 loop-again : tie.Need-loop-again Inv-loop μ-loop
 loop-again c = (omega arith, long-quote (now (c .before .before .before .before .before .before .args .s)) (c .before .before .before .before .before .before .args .quote) (c .before .before .before .before .before .before .args .kind) (c .before .before .before .before .before .before .pre .2) (c .before .before .before .before .loop .i) (c .before .before .before .before .loop .run) (c .before .before .before .before .loop .inv .1) (c .before .before .before .loop-test .taken) (c .before .if1 .taken) (c .if2 .left))
 
-add-escape : tie.Need-add-escape Inv-loop μ-loop
-add-escape c = search needs
-
-escape-requires : tie.Need-escape-requires Inv-loop μ-loop
-escape-requires c κs = search needs
-
 returns-2 : tie.Need-returns-2 Inv-loop μ-loop
 returns-2 c = long-broken (now (c .before .before .before .before .before .before .before .before .args .s)) (c .before .before .before .before .before .before .before .before .args .quote) (c .before .before .before .before .before .before .before .before .args .kind) (c .before .before .before .before .before .before .before .before .pre .2) (c .before .before .before .before .before .before .loop .i) (c .before .before .before .before .before .before .loop .run) (c .before .before .before .before .before .before .loop .inv .1) (c .before .before .before .before .before .loop-test .taken) (c .before .before .if3 .taken) _ (c .before .escape .ensures) (c .if4 .taken)
-
-add-i-2 : tie.Need-add-i-2 Inv-loop μ-loop
-add-i-2 c = search needs
 
 add-i-3 : tie.Need-add-i-3 Inv-loop μ-loop
 add-i-3 c = omega (arith, long-escaped (now (c .before .before .before .before .before .before .before .before .args .s)) (c .before .before .before .before .before .before .before .before .args .quote) (c .before .before .before .before .before .before .before .before .args .kind) (c .before .before .before .before .before .before .before .before .pre .2) (c .before .before .before .before .before .before .loop .i) (c .before .before .before .before .before .before .loop .run) (c .before .before .before .before .before .before .loop .inv .1) (c .before .before .before .before .before .loop-test .taken) (c .before .before .if3 .taken) _ (c .before .escape .ensures) (c .if4 .left) .within)
@@ -58,12 +34,6 @@ loop-less-2 c = omega (arith, long-escaped (now (c .before .before .before .befo
 
 loop-again-2 : tie.Need-loop-again-2 Inv-loop μ-loop
 loop-again-2 c = (omega arith, long-escaped (now (c .before .before .before .before .before .before .before .before .args .s)) (c .before .before .before .before .before .before .before .before .args .quote) (c .before .before .before .before .before .before .before .before .args .kind) (c .before .before .before .before .before .before .before .before .pre .2) (c .before .before .before .before .before .before .loop .i) (c .before .before .before .before .before .before .loop .run) (c .before .before .before .before .before .before .loop .inv .1) (c .before .before .before .before .before .loop-test .taken) (c .before .before .if3 .taken) _ (c .before .escape .ensures) (c .if4 .left))
-
-add-next-of-four : tie.Need-add-next-of-four Inv-loop μ-loop
-add-next-of-four c = search needs
-
-next-of-four-requires : tie.Need-next-of-four-requires Inv-loop μ-loop
-next-of-four-requires c κs = search needs
 
 loop-less-3 : tie.Need-loop-less-3 Inv-loop μ-loop
 loop-less-3 c = omega (arith, c .next-of-four .ensures .1 .0, c .next-of-four .ensures .1 .1)
@@ -81,22 +51,22 @@ long-string-spec =
     Inv-loop
     μ-loop
     loop-holds
-    shared-slice-read-b
-    add-t13
+    (λ c. search needs)
+    (λ c. search needs)
     returns
-    add-run
-    add-i
-    loop-less
+    (λ c. search needs)
+    (λ c. search needs)
+    (λ c. search needs)
     loop-again
-    add-escape
-    escape-requires
+    (λ c. search needs)
+    (λ c κs. search needs)
     returns-2
-    add-i-2
+    (λ c. search needs)
     add-i-3
     loop-less-2
     loop-again-2
-    add-next-of-four
-    next-of-four-requires
+    (λ c. search needs)
+    (λ c κs. search needs)
     loop-less-3
     loop-again-3
     returns-3)

@@ -19,12 +19,6 @@ abbrev μ-loop : tie.MeasureT-loop
 loop-holds : tie.Need-loop-holds Inv-loop μ-loop
 loop-holds c = str-start (now (c .before .args .s)) (c .before .args .quote) (c .before .args .kind) (c .before .pre .2) (c .before .pre .0) (c .before .pre .1) (c .before .pre .3)
 
-shared-slice-read-b : tie.Need-shared-slice-read-b Inv-loop μ-loop
-shared-slice-read-b c = search needs
-
-add-t11 : tie.Need-add-t11 Inv-loop μ-loop
-add-t11 c = search needs
-
 returns : tie.Need-returns Inv-loop μ-loop
 returns c = str-close (now (c .before .before .before .before .before .args .s)) (c .before .before .before .before .before .args .quote) (c .before .before .before .before .before .args .kind) (c .before .before .before .before .before .pre .2) (c .before .before .before .loop .i) (c .before .before .before .loop .inv) (c .before .before .loop-test .taken) (c .if1 .taken)
 
@@ -34,17 +28,8 @@ returns-2 c = str-line (now (c .before .before .before .before .before .before .
 returns-3 : tie.Need-returns-3 Inv-loop μ-loop
 returns-3 c = str-return (now (c .before .before .before .before .before .before .before .args .s)) (c .before .before .before .before .before .before .before .args .quote) (c .before .before .before .before .before .before .before .args .kind) (c .before .before .before .before .before .before .before .pre .2) (c .before .before .before .before .before .loop .i) (c .before .before .before .before .before .loop .inv) (c .before .before .before .before .loop-test .taken) (c .if3 .taken)
 
-add-escape : tie.Need-add-escape Inv-loop μ-loop
-add-escape c = search needs
-
-escape-requires : tie.Need-escape-requires Inv-loop μ-loop
-escape-requires c κs = search needs
-
 returns-4 : tie.Need-returns-4 Inv-loop μ-loop
 returns-4 c = str-broken (now (c .before .before .before .before .before .before .before .before .before .before .args .s)) (c .before .before .before .before .before .before .before .before .before .before .args .quote) (c .before .before .before .before .before .before .before .before .before .before .args .kind) (c .before .before .before .before .before .before .before .before .before .before .pre .2) (c .before .before .before .before .before .before .before .before .loop .i) (c .before .before .before .before .before .before .before .before .loop .inv) (c .before .before .before .before .before .before .before .loop-test .taken) (c .before .before .if4 .taken) _ (c .before .escape .ensures) (c .if5 .taken)
-
-add-i : tie.Need-add-i Inv-loop μ-loop
-add-i c = search needs
 
 add-i-2 : tie.Need-add-i-2 Inv-loop μ-loop
 add-i-2 c = omega (arith, str-escaped (now (c .before .before .before .before .before .before .before .before .before .before .args .s)) (c .before .before .before .before .before .before .before .before .before .before .args .quote) (c .before .before .before .before .before .before .before .before .before .before .args .kind) (c .before .before .before .before .before .before .before .before .before .before .pre .2) (c .before .before .before .before .before .before .before .before .loop .i) (c .before .before .before .before .before .before .before .before .loop .inv) (c .before .before .before .before .before .before .before .loop-test .taken) (c .before .before .if4 .taken) _ (c .before .escape .ensures) (c .if5 .left) .within)
@@ -54,12 +39,6 @@ loop-less c = omega (arith, str-escaped (now (c .before .before .before .before 
 
 loop-again : tie.Need-loop-again Inv-loop μ-loop
 loop-again c = str-escaped (now (c .before .before .before .before .before .before .before .before .before .before .args .s)) (c .before .before .before .before .before .before .before .before .before .before .args .quote) (c .before .before .before .before .before .before .before .before .before .before .args .kind) (c .before .before .before .before .before .before .before .before .before .before .pre .2) (c .before .before .before .before .before .before .before .before .loop .i) (c .before .before .before .before .before .before .before .before .loop .inv) (c .before .before .before .before .before .before .before .loop-test .taken) (c .before .before .if4 .taken) _ (c .before .escape .ensures) (c .if5 .left)
-
-add-next-of-four : tie.Need-add-next-of-four Inv-loop μ-loop
-add-next-of-four c = search needs
-
-next-of-four-requires : tie.Need-next-of-four-requires Inv-loop μ-loop
-next-of-four-requires c κs = search needs
 
 loop-less-2 : tie.Need-loop-less-2 Inv-loop μ-loop
 loop-less-2 c = omega (arith, c .next-of-four .ensures .1 .0, c .next-of-four .ensures .1 .1)
@@ -77,20 +56,20 @@ short-string-spec =
     Inv-loop
     μ-loop
     loop-holds
-    shared-slice-read-b
-    add-t11
+    (λ c. search needs)
+    (λ c. search needs)
     returns
     returns-2
     returns-3
-    add-escape
-    escape-requires
+    (λ c. search needs)
+    (λ c κs. search needs)
     returns-4
-    add-i
+    (λ c. search needs)
     add-i-2
     loop-less
     loop-again
-    add-next-of-four
-    next-of-four-requires
+    (λ c. search needs)
+    (λ c κs. search needs)
     loop-less-2
     loop-again-2
     returns-5)

@@ -6,43 +6,28 @@ use Rattle.lexer_words.proofs.Parts.{under-end, under-other, colon-end,
 use Rattle.lexer_words.proofs.labels.label.Statement.{statement}
 use Rattle.lexer_words.proofs.labels.label.Tie as tie
 
-returns : tie.Need-returns
-returns c = under-end (now (c .before .before .args .s)) (c .before .before .pre) (c .if1 .taken)
-
-shared-slice-read-if2 : tie.Need-shared-slice-read-if2
-shared-slice-read-if2 c = search needs
-
 returns-2 : tie.Need-returns-2
 returns-2 c = under-other (now (c .before .before .before .before .args .s)) (c .before .before .before .before .pre) (c .before .before .if1 .left) (c .if2 .taken)
 
 returns-3 : tie.Need-returns-3
 returns-3 c = colon-end (now (c .before .before .before .before .before .args .s)) (c .before .before .before .before .before .pre) (c .before .before .before .if1 .left) (c .before .if2 .left) (c .if3 .taken)
 
-label-start-requires : tie.Need-label-start-requires
-label-start-requires c κs = search needs
-
 returns-4 : tie.Need-returns-4
 returns-4 c = colon-none (now (c .before .before .before .before .before .before .before .args .s)) (c .before .before .before .before .before .before .before .pre) (c .before .before .before .before .before .if1 .left) (c .before .before .before .if2 .left) _ (c .before .label-start .ensures) (c .if4 .taken)
 
-add-label-rest : tie.Need-add-label-rest
-add-label-rest c = omega (arith, (c .before .label-start .ensures) .within)
-
 label-rest-requires : tie.Need-label-rest-requires
 label-rest-requires c κs = colon-more (now (c .before .before .before .before .before .before .before .args .s)) (c .before .before .before .before .before .before .before .pre) (c .before .before .before .before .before .if1 .left) (c .before .before .before .if2 .left) _ (c .before .label-start .ensures) (c .if4 .left)
-
-returns-5 : tie.Need-returns-5
-returns-5 c = (c .label-rest .ensures)
 
 pub label-spec : {M : Type 1} → statement M
 label-spec =
     tie.close
     (tie.spec
-    returns
-    shared-slice-read-if2
+    (λ c. under-end (now (c .before .before .args .s)) (c .before .before .pre) (c .if1 .taken))
+    (λ c. search needs)
     returns-2
     returns-3
-    label-start-requires
+    (λ c κs. search needs)
     returns-4
-    add-label-rest
+    (λ c. omega (arith, (c .before .label-start .ensures) .within))
     label-rest-requires
-    returns-5)
+    (λ c. (c .label-rest .ensures)))

@@ -22,20 +22,8 @@ names-requires c κs = c .before .pre .within
 loop-holds : tie.Need-loop-holds Inv-loop μ-loop
 loop-holds c = label-run (now (c .before .before .args .s)) (c .before .before .args .at) (c .names .result) (c .before .before .pre) (c .names .ensures)
 
-shared-slice-read-if1 : tie.Need-shared-slice-read-if1 Inv-loop μ-loop
-shared-slice-read-if1 c = search needs
-
-add-i : tie.Need-add-i Inv-loop μ-loop
-add-i c = search needs
-
-loop-less : tie.Need-loop-less Inv-loop μ-loop
-loop-less c = search needs
-
 loop-again : tie.Need-loop-again Inv-loop μ-loop
 loop-again c = label-to-dot (now (c .before .before .before .before .before .before .args .s)) (c .before .before .before .loop .i) (c .before .before .before .loop .end) (c .before .before .before .loop .inv) (c .before .before .loop-test .taken) (c .if1 .taken)
-
-name-char-requires : tie.Need-name-char-requires Inv-loop μ-loop
-name-char-requires c κs = search needs
 
 returns : tie.Need-returns Inv-loop μ-loop
 returns c = label-other (now (c .before .before .before .before .before .before .before .before .args .s)) (c .before .before .before .before .before .loop .i) (c .before .before .before .before .before .loop .end) (c .before .before .before .before .before .loop .inv) (c .before .before .before .before .loop-test .taken) _ (c .before .name-char .ensures) (c .before .before .if1 .left) (c .if2 .taken)
@@ -60,11 +48,11 @@ label-rest-spec =
     μ-loop
     names-requires
     loop-holds
-    shared-slice-read-if1
-    add-i
-    loop-less
+    (λ c. search needs)
+    (λ c. search needs)
+    (λ c. search needs)
     loop-again
-    name-char-requires
+    (λ c κs. search needs)
     returns
     add-i-2
     loop-less-2

@@ -8,17 +8,11 @@ use Rattle.lexer_words.proofs.Parts.{local-char-is, local-plx-is}
 use Rattle.lexer_words.proofs.locals.local_next.Statement.{statement}
 use Rattle.lexer_words.proofs.locals.local_next.Tie as tie
 
-local-char-requires : tie.Need-local-char-requires
-local-char-requires c κs = search needs
-
 returns : tie.Need-returns
 returns c = local-char-is local inner (now (c .before .before .before .args .s)) (c .before .before .before .args .at) _ (c .before .before .before .pre) (c .before .local-char .ensures) refl refl (c .if1 .taken)
-
-plx-requires : tie.Need-plx-requires
-plx-requires c κs = search needs
 
 returns-2 : tie.Need-returns-2
 returns-2 c = local-plx-is local inner (now (c .before .before .before .before .args .s)) (c .before .before .before .before .args .at) _ (c .before .before .before .before .pre) (c .before .before .local-char .ensures) refl refl (c .before .if1 .left) _ (c .plx .ensures)
 
 pub local-next-spec : {M : Type 1} → statement M
-local-next-spec = tie.close (tie.spec local-char-requires returns plx-requires returns-2)
+local-next-spec = tie.close (tie.spec (λ c κs. search needs) returns (λ c κs. search needs) returns-2)

@@ -9,22 +9,13 @@ use Rattle.lexer_words.proofs.locals.local_part.Tie as tie
 returns : tie.Need-returns
 returns c = local-end (now (c .before .before .args .s)) (c .before .before .args .at) (c .before .before .pre) (c .if1 .taken)
 
-local-first-requires : tie.Need-local-first-requires
-local-first-requires c κs = search needs
-
 returns-2 : tie.Need-returns-2
 returns-2 c = local-none (now (c .before .before .before .before .args .s)) (c .before .before .before .before .args .at) (c .before .before .before .before .pre) (c .before .before .if1 .left) _ (c .before .local-first .ensures) (c .if2 .taken)
-
-add-local-rest : tie.Need-add-local-rest
-add-local-rest c = omega (arith, (c .before .local-first .ensures) .within)
 
 local-rest-requires : tie.Need-local-rest-requires
 local-rest-requires c κs = local-more (now (c .before .before .before .before .args .s)) (c .before .before .before .before .args .at) (c .before .before .before .before .pre) (c .before .before .if1 .left) _ (c .before .local-first .ensures) (c .if2 .left)
 
-returns-3 : tie.Need-returns-3
-returns-3 c = (c .local-rest .ensures)
-
 pub local-part-spec : {M : Type 1} → statement M
 local-part-spec =
     tie.close
-    (tie.spec returns local-first-requires returns-2 add-local-rest local-rest-requires returns-3)
+    (tie.spec returns (λ c κs. search needs) returns-2 (λ c. omega (arith, (c .before .local-first .ensures) .within)) local-rest-requires (λ c. (c .local-rest .ensures)))

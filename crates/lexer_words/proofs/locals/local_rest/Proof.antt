@@ -22,20 +22,8 @@ locals-requires c κs = c .before .pre .within
 loop-holds : tie.Need-loop-holds Inv-loop μ-loop
 loop-holds c = rest-run (now (c .before .before .args .s)) (c .before .before .args .at) (c .locals .result) (c .before .before .pre) (c .locals .ensures)
 
-shared-slice-read-if1 : tie.Need-shared-slice-read-if1 Inv-loop μ-loop
-shared-slice-read-if1 c = search needs
-
-add-i : tie.Need-add-i Inv-loop μ-loop
-add-i c = search needs
-
-loop-less : tie.Need-loop-less Inv-loop μ-loop
-loop-less c = search needs
-
 loop-again : tie.Need-loop-again Inv-loop μ-loop
 loop-again c = rest-dot (now (c .before .before .before .before .before .before .args .s)) (c .before .before .before .loop .i) (c .before .before .before .loop .end) (c .before .before .before .loop .inv) (c .before .before .loop-test .taken) (c .if1 .taken)
-
-local-next-requires : tie.Need-local-next-requires Inv-loop μ-loop
-local-next-requires c κs = search needs
 
 returns : tie.Need-returns Inv-loop μ-loop
 returns c = rest-none (now (c .before .before .before .before .before .before .before .before .args .s)) (c .before .before .before .before .before .loop .i) (c .before .before .before .before .before .loop .end) (c .before .before .before .before .before .loop .inv) (c .before .before .before .before .loop-test .taken) (c .before .before .if1 .left) _ (c .before .local-next .ensures) (c .if2 .taken)
@@ -60,11 +48,11 @@ local-rest-spec =
     μ-loop
     locals-requires
     loop-holds
-    shared-slice-read-if1
-    add-i
-    loop-less
+    (λ c. search needs)
+    (λ c. search needs)
+    (λ c. search needs)
     loop-again
-    local-next-requires
+    (λ c κs. search needs)
     returns
     add-i-2
     loop-less-2

@@ -6,15 +6,6 @@ use Rattle.lexer_words.proofs.Parts.{plx-percent, plx-other, plx-short,
 use Rattle.lexer_words.proofs.locals.plx.Statement.{statement}
 use Rattle.lexer_words.proofs.locals.plx.Tie as tie
 
-shared-slice-read-b : tie.Need-shared-slice-read-b
-shared-slice-read-b c = search needs
-
-add-hexes : tie.Need-add-hexes
-add-hexes c = search needs
-
-hexes-requires : tie.Need-hexes-requires
-hexes-requires c κs = search needs
-
 returns : tie.Need-returns
 returns c = rw (c .if2 .taken) at (plx-percent (now (c .before .before .before .before .before .args .s)) (c .before .before .before .before .before .args .at) (c .before .before .before .before .before .pre) (c .before .before .if1 .taken) (c .before .hexes .result) (c .before .hexes .ensures))
 
@@ -24,20 +15,8 @@ returns-2 c = rw (c .if2 .left) at (plx-percent (now (c .before .before .before 
 returns-3 : tie.Need-returns-3
 returns-3 c = plx-other (now (c .before .before .before .before .args .s)) (c .before .before .before .before .args .at) (c .before .before .before .before .pre) (c .before .if1 .left) (c .if3 .taken)
 
-sub-if4 : tie.Need-sub-if4
-sub-if4 c = search needs
-
 returns-4 : tie.Need-returns-4
 returns-4 c = plx-short (now (c .before .before .before .before .before .args .s)) (c .before .before .before .before .before .args .at) (c .before .before .before .before .before .pre) (c .before .before .if1 .left) (c .before .if3 .left) (omega arith)
-
-add-is-reserved : tie.Need-add-is-reserved
-add-is-reserved c = search needs
-
-shared-slice-read-is-reserved : tie.Need-shared-slice-read-is-reserved
-shared-slice-read-is-reserved c = search needs
-
-is-reserved-requires : tie.Need-is-reserved-requires
-is-reserved-requires c κs = search needs
 
 returns-5 : tie.Need-returns-5
 returns-5 c = rw (c .if5 .taken) at (plx-slash (now (c .before .before .before .before .before .before .before .before .args .s)) (c .before .before .before .before .before .before .before .before .args .at) (c .before .before .before .before .before .before .before .before .pre) (c .before .before .before .before .before .if1 .left) (c .before .before .before .before .if3 .left) (omega arith) (c .before .is-reserved .result) (c .before .is-reserved .ensures))
@@ -49,16 +28,16 @@ pub plx-spec : {M : Type 1} → statement M
 plx-spec =
     tie.close
     (tie.spec
-    shared-slice-read-b
-    add-hexes
-    hexes-requires
+    (λ c. search needs)
+    (λ c. search needs)
+    (λ c κs. search needs)
     returns
     returns-2
     returns-3
-    sub-if4
+    (λ c. search needs)
     returns-4
-    add-is-reserved
-    shared-slice-read-is-reserved
-    is-reserved-requires
+    (λ c. search needs)
+    (λ c. search needs)
+    (λ c κs. search needs)
     returns-5
     returns-6)

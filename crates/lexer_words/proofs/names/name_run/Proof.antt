@@ -15,26 +15,11 @@ Inv-loop s at i₀ i = Scanned s at i
 abbrev μ-loop : tie.MeasureT-loop
 μ-loop s at i₀ i = length s - i
 
-names-requires : tie.Need-names-requires Inv-loop μ-loop
-names-requires c κs = search needs
-
 loop-holds : tie.Need-loop-holds Inv-loop μ-loop
 loop-holds c = scan-run (now (c .before .before .args .s)) (c .before .before .args .at) (c .names .result) (c .before .before .pre) (c .names .ensures)
 
-shared-slice-read-b : tie.Need-shared-slice-read-b Inv-loop μ-loop
-shared-slice-read-b c = search needs
-
-add-i : tie.Need-add-i Inv-loop μ-loop
-add-i c = search needs
-
-loop-less : tie.Need-loop-less Inv-loop μ-loop
-loop-less c = search needs
-
 loop-again : tie.Need-loop-again Inv-loop μ-loop
 loop-again c = scan-dot (now (c .before .before .before .before .before .before .args .s)) (c .before .before .before .before .before .before .args .at) (c .before .before .before .loop .i) (c .before .before .before .loop .inv) (c .before .before .loop-test .taken) (c .if1 .taken)
-
-name-char-requires : tie.Need-name-char-requires Inv-loop μ-loop
-name-char-requires c κs = search needs
 
 returns : tie.Need-returns Inv-loop μ-loop
 returns c = run-stop (now (c .before .before .before .before .before .before .before .before .args .s)) (c .before .before .before .before .before .before .before .before .args .at) (c .before .before .before .before .before .loop .i) (c .before .before .before .before .before .loop .inv) _ (c .before .name-char .ensures) (c .before .before .before .before .loop-test .taken) (c .before .before .if1 .left) (c .if2 .taken)
@@ -57,13 +42,13 @@ name-run-spec =
     (tie.spec
     Inv-loop
     μ-loop
-    names-requires
+    (λ c κs. search needs)
     loop-holds
-    shared-slice-read-b
-    add-i
-    loop-less
+    (λ c. search needs)
+    (λ c. search needs)
+    (λ c. search needs)
     loop-again
-    name-char-requires
+    (λ c κs. search needs)
     returns
     add-i-2
     loop-less-2

@@ -6,38 +6,14 @@ use Rattle.lexer_words.proofs.Clearing.{next-settled, next-token, prefi
 use Rattle.lexer_words.proofs.names.prefix_rest.Statement.{statement}
 use Rattle.lexer_words.proofs.names.prefix_rest.Tie as tie
 
-name-run-requires : tie.Need-name-run-requires
-name-run-requires c κs = (c .before .pre .within)
-
-settle-requires : tie.Need-settle-requires
-settle-requires c κs = (c .before .name-run .ensures) .scanned .from
-
 returns : tie.Need-returns
 returns c = next-settled (now (c .before .before .before .before .args .s)) (c .before .before .before .before .args .at) (c .before .before .name-run .result) (c .before .before .before .before .args .kind) (c .before .before .name-run .ensures) (c .before .before .before .before .pre) (no-colon-end _ _ _ (c .before .before .name-run .ensures) (c .before .if1 .taken)) _ (c .settle .ensures)
-
-shared-slice-read-if2 : tie.Need-shared-slice-read-if2
-shared-slice-read-if2 c = search needs
-
-settle-requires-2 : tie.Need-settle-requires-2
-settle-requires-2 c κs = (c .before .before .before .name-run .ensures) .scanned .from
 
 returns-2 : tie.Need-returns-2
 returns-2 c = next-settled (now (c .before .before .before .before .before .before .args .s)) (c .before .before .before .before .before .before .args .at) (c .before .before .before .before .name-run .result) (c .before .before .before .before .before .before .args .kind) (c .before .before .before .before .name-run .ensures) (c .before .before .before .before .before .before .pre) (no-colon-other _ _ _ (c .before .before .before .before .name-run .ensures) (c .before .if2 .taken)) _ (c .settle2 .ensures)
 
-sub-if4 : tie.Need-sub-if4
-sub-if4 c = search needs
-
-shared-slice-read-if4 : tie.Need-shared-slice-read-if4
-shared-slice-read-if4 c = search needs
-
-settle-requires-3 : tie.Need-settle-requires-3
-settle-requires-3 c κs = (c .before .before .before .before .before .before .name-run .ensures) .scanned .from
-
 returns-3 : tie.Need-returns-3
 returns-3 c = next-settled (now (c .before .before .before .before .before .before .before .before .before .args .s)) (c .before .before .before .before .before .before .before .before .before .args .at) (c .before .before .before .before .before .before .before .name-run .result) (c .before .before .before .before .before .before .before .before .before .args .kind) (c .before .before .before .before .before .before .before .name-run .ensures) (c .before .before .before .before .before .before .before .before .before .pre) (no-colon-dot _ _ _ (c .before .before .before .before .before .before .before .name-run .ensures) (c .before .before .before .if3 .taken) (c .before .if4 .taken)) _ (c .settle3 .ensures)
-
-add-local-part : tie.Need-add-local-part
-add-local-part c = search needs
 
 local-part-requires : tie.Need-local-part-requires
 local-part-requires c κs = prefix-colon (now (c .before .before .before .before .before .before .args .s)) (c .before .before .before .before .before .before .args .at) (c .before .before .before .before .name-run .result) (c .before .before .before .before .name-run .ensures) (c .before .before .before .before .before .before .pre) (c .before .before .before .if1 .left) (c .before .if2 .left) (⊎-elim (λ x. dot-other (now (c .before .before .before .before .before .before .args .s)) (c .before .before .before .before .before .before .args .at) (c .before .before .before .before .name-run .result) (x .0 .taken) (x .2 .left)) (λ x. dot-none (now (c .before .before .before .before .before .before .args .s)) (c .before .before .before .before .before .before .args .at) (c .before .before .before .before .name-run .result) (x .left)) (c .if3 .came))
@@ -49,16 +25,16 @@ pub prefix-rest-spec : {M : Type 1} → statement M
 prefix-rest-spec =
     tie.close
     (tie.spec
-    name-run-requires
-    settle-requires
+    (λ c κs. (c .before .pre .within))
+    (λ c κs. (c .before .name-run .ensures) .scanned .from)
     returns
-    shared-slice-read-if2
-    settle-requires-2
+    (λ c. search needs)
+    (λ c κs. (c .before .before .before .name-run .ensures) .scanned .from)
     returns-2
-    sub-if4
-    shared-slice-read-if4
-    settle-requires-3
+    (λ c. search needs)
+    (λ c. search needs)
+    (λ c κs. (c .before .before .before .before .before .before .name-run .ensures) .scanned .from)
     returns-3
-    add-local-part
+    (λ c. search needs)
     local-part-requires
     returns-4)

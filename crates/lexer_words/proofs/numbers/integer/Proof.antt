@@ -5,32 +5,14 @@ use Rattle.lexer_words.proofs.Numbering.{integer-none, integer-to-dot, 
 use Rattle.lexer_words.proofs.numbers.integer.Statement.{statement}
 use Rattle.lexer_words.proofs.numbers.integer.Tie as tie
 
-digits-requires : tie.Need-digits-requires
-digits-requires c κs = (c .before .pre .within)
-
 returns : tie.Need-returns
 returns c = integer-none (now (c .before .before .before .args .s)) (c .before .before .before .args .at) (c .before .digits .result) (c .before .before .before .pre) (c .before .digits .ensures) (c .if1 .taken)
-
-shared-slice-read-b : tie.Need-shared-slice-read-b
-shared-slice-read-b c = search needs
 
 point-requires : tie.Need-point-requires
 point-requires c κs = integer-to-dot (now (c .before .before .before .before .before .args .s)) (c .before .before .before .before .before .args .at) (c .before .before .before .digits .result) (c .before .before .before .before .before .pre) (c .before .before .before .digits .ensures) (c .before .before .if1 .left) (c .if2 .taken)
 
-returns-2 : tie.Need-returns-2
-returns-2 c = (c .point .ensures)
-
-is-exponent-requires : tie.Need-is-exponent-requires
-is-exponent-requires c κs = search needs
-
-add-exponent : tie.Need-add-exponent
-add-exponent c = search needs
-
 exponent-requires : tie.Need-exponent-requires
 exponent-requires c κs = integer-to-e (now (c .before .before .before .before .before .before .before .args .s)) (c .before .before .before .before .before .before .before .args .at) (c .before .before .before .before .before .digits .result) (c .before .before .before .before .before .before .before .pre) (c .before .before .before .before .before .digits .ensures) (c .before .before .before .before .if1 .left) _ (c .before .is-exponent .ensures) (c .if3 .taken)
-
-returns-3 : tie.Need-returns-3
-returns-3 c = (c .exponent .ensures)
 
 returns-4 : tie.Need-returns-4
 returns-4 c = integer-other (now (c .before .before .before .before .before .before .before .args .s)) (c .before .before .before .before .before .before .before .args .at) (c .before .before .before .before .before .digits .result) (c .before .before .before .before .before .before .before .pre) (c .before .before .before .before .before .digits .ensures) (c .before .before .before .before .if1 .left) _ (c .before .is-exponent .ensures) (c .before .before .if2 .left) (c .if3 .left)
@@ -39,13 +21,13 @@ pub integer-spec : {M : Type 1} → statement M
 integer-spec =
     tie.close
     (tie.spec
-    digits-requires
+    (λ c κs. (c .before .pre .within))
     returns
-    shared-slice-read-b
+    (λ c. search needs)
     point-requires
-    returns-2
-    is-exponent-requires
-    add-exponent
+    (λ c. (c .point .ensures))
+    (λ c κs. search needs)
+    (λ c. search needs)
     exponent-requires
-    returns-3
+    (λ c. (c .exponent .ensures))
     returns-4)

@@ -4,17 +4,11 @@ use mathlib.Core.Path.{refl}
 use Rattle.lexer_words.proofs.tags.directive.Statement.{statement}
 use Rattle.lexer_words.proofs.tags.directive.Tie as tie
 
-agree-requires : tie.Need-agree-requires
-agree-requires c κs = ((c .before .before .pre .from), refl)
-
 add-tag : tie.Need-add-tag
 add-tag c = omega (arith, (c .before .before .before .before .pre .read) (c .before .agree .result) (c .before .agree .ensures) .whole (c .if1 .taken) .within)
 
 tag-requires : tie.Need-tag-requires
 tag-requires c κs = (c .before .before .before .before .pre .read) (c .before .agree .result) (c .before .agree .ensures) .whole (c .if1 .taken)
-
-returns : tie.Need-returns
-returns c = (c .tag .ensures)
 
 add-tag-2 : tie.Need-add-tag-2
 add-tag-2 c = omega (arith, (c .before .before .before .before .pre .read) (c .before .agree .result) (c .before .agree .ensures) .part (c .if1 .left) .within)
@@ -22,10 +16,7 @@ add-tag-2 c = omega (arith, (c .before .before .before .before .pre .read) (c .b
 tag-requires-2 : tie.Need-tag-requires-2
 tag-requires-2 c κs = (c .before .before .before .before .pre .read) (c .before .agree .result) (c .before .agree .ensures) .part (c .if1 .left)
 
-returns-2 : tie.Need-returns-2
-returns-2 c = (c .tag2 .ensures)
-
 pub directive-spec : {M : Type 1} → statement M
 directive-spec =
     tie.close
-    (tie.spec agree-requires add-tag tag-requires returns add-tag-2 tag-requires-2 returns-2)
+    (tie.spec (λ c κs. ((c .before .before .pre .from), refl)) add-tag tag-requires (λ c. (c .tag .ensures)) add-tag-2 tag-requires-2 (λ c. (c .tag2 .ensures)))

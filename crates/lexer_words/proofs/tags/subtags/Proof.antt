@@ -18,20 +18,8 @@ abbrev μ-loop : tie.MeasureT-loop
 loop-holds : tie.Need-loop-holds Inv-loop μ-loop
 loop-holds c = (c .before .pre)
 
-shared-slice-read-if1 : tie.Need-shared-slice-read-if1 Inv-loop μ-loop
-shared-slice-read-if1 c = search needs
-
 returns : tie.Need-returns Inv-loop μ-loop
 returns c = sub-stop (now (c .before .before .before .before .before .args .s)) (c .before .before .before .loop .end) (c .before .before .before .loop .k) (c .before .before .before .loop .inv) (c .before .before .loop-test .taken) (c .if1 .taken)
-
-add-letters-or-digits : tie.Need-add-letters-or-digits Inv-loop μ-loop
-add-letters-or-digits c = search needs
-
-letters-or-digits-requires : tie.Need-letters-or-digits-requires Inv-loop μ-loop
-letters-or-digits-requires c κs = search needs
-
-add-if2 : tie.Need-add-if2 Inv-loop μ-loop
-add-if2 c = search needs
 
 returns-2 : tie.Need-returns-2 Inv-loop μ-loop
 returns-2 c = sub-none (now (c .before .before .before .before .before .before .before .args .s)) (c .before .before .before .before .before .loop .end) (c .before .before .before .before .before .loop .k) (c .before .before .before .before .before .loop .inv) (c .before .before .before .before .loop-test .taken) (c .before .before .if1 .left) (c .before .letters-or-digits .result) (c .before .letters-or-digits .ensures) (c .if2 .taken)
@@ -52,11 +40,11 @@ subtags-spec =
     Inv-loop
     μ-loop
     loop-holds
-    shared-slice-read-if1
+    (λ c. search needs)
     returns
-    add-letters-or-digits
-    letters-or-digits-requires
-    add-if2
+    (λ c. search needs)
+    (λ c κs. search needs)
+    (λ c. search needs)
     returns-2
     loop-less
     loop-again

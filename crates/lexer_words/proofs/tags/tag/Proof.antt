@@ -4,21 +4,12 @@ use Rattle.lexer_words.proofs.Tagging.{tag-same, tag-more}
 use Rattle.lexer_words.proofs.tags.tag.Statement.{statement}
 use Rattle.lexer_words.proofs.tags.tag.Tie as tie
 
-letters-requires : tie.Need-letters-requires
-letters-requires c κs = (c .before .pre .within)
-
 subtags-requires : tie.Need-subtags-requires
 subtags-requires c κs = tag-same (now (c .before .before .before .args .s)) (c .before .before .before .args .at) (c .before .before .before .args .kind) (c .before .letters .result) (c .before .before .before .pre) (c .before .letters .ensures) (c .if1 .taken)
-
-returns : tie.Need-returns
-returns c = (c .subtags .ensures)
 
 subtags-requires-2 : tie.Need-subtags-requires-2
 subtags-requires-2 c κs = tag-more (now (c .before .before .before .args .s)) (c .before .before .before .args .at) (c .before .before .before .args .kind) (c .before .letters .result) (c .before .before .before .pre) (c .before .letters .ensures) (c .if1 .left)
 
-returns-2 : tie.Need-returns-2
-returns-2 c = (c .subtags2 .ensures)
-
 pub tag-spec : {M : Type 1} → statement M
 tag-spec =
-    tie.close (tie.spec letters-requires subtags-requires returns subtags-requires-2 returns-2)
+    tie.close (tie.spec (λ c κs. (c .before .pre .within)) subtags-requires (λ c. (c .subtags .ensures)) subtags-requires-2 (λ c. (c .subtags2 .ensures)))

@@ -18,35 +18,11 @@ abbrev μ-loop : tie.MeasureT-loop
 loop-holds : tie.Need-loop-holds Inv-loop μ-loop
 loop-holds c = (omega arith, agree-begin (now (c .before .before .before .args .s)) (c .before .before .before .args .at) (now (c .before .before .before .args .low)) (now (c .before .before .before .args .up)))
 
-sub-if1 : tie.Need-sub-if1 Inv-loop μ-loop
-sub-if1 c = search needs
-
 returns : tie.Need-returns Inv-loop μ-loop
 returns c = agree-short (now (c .before .before .before .before .before .before .args .s)) (c .before .before .before .before .before .before .args .at) (now (c .before .before .before .before .before .before .args .low)) (now (c .before .before .before .before .before .before .args .up)) (c .before .before .loop .k) (c .before .before .loop .inv .1) (c .if1 .taken)
 
-add-is-either : tie.Need-add-is-either Inv-loop μ-loop
-add-is-either c = search needs
-
-shared-slice-read-is-either : tie.Need-shared-slice-read-is-either Inv-loop μ-loop
-shared-slice-read-is-either c = search needs
-
-shared-slice-read-is-either-2 : tie.Need-shared-slice-read-is-either-2 Inv-loop μ-loop
-shared-slice-read-is-either-2 c = search needs
-
-shared-slice-read-is-either-3 : tie.Need-shared-slice-read-is-either-3 Inv-loop μ-loop
-shared-slice-read-is-either-3 c = search needs
-
-is-either-requires : tie.Need-is-either-requires Inv-loop μ-loop
-is-either-requires c κs = search needs
-
 returns-2 : tie.Need-returns-2 Inv-loop μ-loop
 returns-2 c = agree-stop (now (c .before .before .before .before .before .before .before .before .before .before .before .args .s)) (c .before .before .before .before .before .before .before .before .before .before .before .args .at) (now (c .before .before .before .before .before .before .before .before .before .before .before .args .low)) (now (c .before .before .before .before .before .before .before .before .before .before .before .args .up)) (c .before .before .before .before .before .before .before .loop .k) (c .before .before .before .before .before .before .before .loop .inv .1) (c .before .before .before .before .before .before .loop-test .taken) (c .before .before .before .before .before .before .before .before .before .before .before .pre .1) (c .before .before .before .before .before .if1 .left) _ (c .before .is-either .ensures) (not-true _ (c .if2 .taken))
-
-add-k : tie.Need-add-k Inv-loop μ-loop
-add-k c = search needs
-
-loop-less : tie.Need-loop-less Inv-loop μ-loop
-loop-less c = search needs
 
 loop-again : tie.Need-loop-again Inv-loop μ-loop
 loop-again c = (omega arith, agree-more (now (c .before .before .before .before .before .before .before .before .before .before .before .args .s)) (c .before .before .before .before .before .before .before .before .before .before .before .args .at) (now (c .before .before .before .before .before .before .before .before .before .before .before .args .low)) (now (c .before .before .before .before .before .before .before .before .before .before .before .args .up)) (c .before .before .before .before .before .before .before .loop .k) (c .before .before .before .before .before .before .before .loop .inv .1) (c .before .before .before .before .before .before .loop-test .taken) (c .before .before .before .before .before .before .before .before .before .before .before .pre .1) (c .before .before .before .before .before .if1 .left) _ (c .before .is-either .ensures) (not-false _ (c .if2 .left)))
@@ -61,15 +37,15 @@ agree-spec =
     Inv-loop
     μ-loop
     loop-holds
-    sub-if1
+    (λ c. search needs)
     returns
-    add-is-either
-    shared-slice-read-is-either
-    shared-slice-read-is-either-2
-    shared-slice-read-is-either-3
-    is-either-requires
+    (λ c. search needs)
+    (λ c. search needs)
+    (λ c. search needs)
+    (λ c. search needs)
+    (λ c κs. search needs)
     returns-2
-    add-k
-    loop-less
+    (λ c. search needs)
+    (λ c. search needs)
     loop-again
     returns-3)

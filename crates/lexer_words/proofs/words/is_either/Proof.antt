@@ -4,11 +4,5 @@ use borrow.Author.Tests.{eq-eqb, ne-eqb}
 use Rattle.lexer_words.proofs.words.is_either.Statement.{statement}
 use Rattle.lexer_words.proofs.words.is_either.Tie as tie
 
-returns : tie.Need-returns
-returns c = sym (simp (eq-eqb _ _ (c .if1 .taken)))
-
-returns-2 : tie.Need-returns-2
-returns-2 c = sym (simp (ne-eqb _ _ (c .if1 .left)))
-
 pub is-either-spec : {M : Type 1} → statement M
-is-either-spec = tie.close (tie.spec returns returns-2)
+is-either-spec = tie.close (tie.spec (λ c. sym (simp (eq-eqb _ _ (c .if1 .taken)))) (λ c. sym (simp (ne-eqb _ _ (c .if1 .left)))))

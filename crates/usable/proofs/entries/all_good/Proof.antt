@@ -1,5 +1,5 @@
 -- The invariant: all terms are good where those that are left are.
-use Rattle.table.specs.Usable.{each, good-term}
+use Rattle.table.specs.Usable.{each, for-long-form, good-term}
 use Rattle.usable.specs.Lent.{lent}
 use Rattle.usable.proofs.Each.{left, each-start, each-done, each-next, each-fails}
 use borrow.Author.Needs.{needs}
@@ -11,7 +11,7 @@ use Rattle.usable.proofs.entries.all_good.Statement.{statement}
 use Rattle.usable.proofs.entries.all_good.Tie as tie
 
 abbrev Inv-loop : tie.InvT-loop
-Inv-loop terms count store used i₀ i = (i ≤ count) × (each (good-term (lent terms 0 store used)) 1 count ≡ left (good-term (lent terms 0 store used)) 1 count i)
+Inv-loop terms count store used i₀ i = (i ≤ count) × (each (good-term for-long-form (lent terms 0 store used)) 1 count ≡ left (good-term for-long-form (lent terms 0 store used)) 1 count i)
 
 abbrev μ-loop : tie.MeasureT-loop
 μ-loop terms count store used i₀ i = count - i
@@ -19,37 +19,25 @@ abbrev μ-loop : tie.MeasureT-loop
 loop-holds : tie.Need-loop-holds Inv-loop μ-loop
 loop-holds c =
     let entry = c .before .before in
-    let test = good-term (lent (entry .args .terms .now) 0 (entry .args .store .now) (entry .args .used)) in
+    let test = good-term for-long-form (lent (entry .args .terms .now) 0 (entry .args .store .now) (entry .args .used)) in
     (omega arith, each-start test 1 (entry .args .count))
-
-add-is-good : tie.Need-add-is-good Inv-loop μ-loop
-add-is-good c = search needs
-
-is-good-requires : tie.Need-is-good-requires Inv-loop μ-loop
-is-good-requires c κs = search needs
 
 returns : tie.Need-returns Inv-loop μ-loop
 returns c =
     let entry = c .before .before .before .before .before .before in
-    let test = good-term (lent (entry .args .terms .now) 0 (entry .args .store .now) (entry .args .used)) in
+    let test = good-term for-long-form (lent (entry .args .terms .now) 0 (entry .args .store .now) (entry .args .used)) in
     each-fails test 1 (entry .args .count) (c .before .before .before .loop .i) (c .before .before .before .loop .i + 1) (c .before .before .loop-test .taken) (omega arith) (sym (c .before .is-good .ensures) ∙ not-true _ (c .if1 .taken)) ∙ sym (c .before .before .before .loop .inv .1)
-
-add-i : tie.Need-add-i Inv-loop μ-loop
-add-i c = search needs
-
-loop-less : tie.Need-loop-less Inv-loop μ-loop
-loop-less c = search needs
 
 loop-again : tie.Need-loop-again Inv-loop μ-loop
 loop-again c =
     let entry = c .before .before .before .before .before .before in
-    let test = good-term (lent (entry .args .terms .now) 0 (entry .args .store .now) (entry .args .used)) in
+    let test = good-term for-long-form (lent (entry .args .terms .now) 0 (entry .args .store .now) (entry .args .used)) in
     (omega arith, c .before .before .before .loop .inv .1 ∙ each-next test 1 (entry .args .count) (c .before .before .before .loop .i) (c .before .before .before .loop .i + 1) (c .before .before .loop-test .taken) (omega arith) (sym (c .before .is-good .ensures) ∙ not-false _ (c .if1 .left)))
 
 returns-2 : tie.Need-returns-2 Inv-loop μ-loop
 returns-2 c =
     let entry = c .before .before .before .before in
-    let test = good-term (lent (entry .args .terms .now) 0 (entry .args .store .now) (entry .args .used)) in
+    let test = good-term for-long-form (lent (entry .args .terms .now) 0 (entry .args .store .now) (entry .args .used)) in
     each-done test 1 (entry .args .count) (c .before .loop .i) (c .loop-test .left) ∙ sym (c .before .loop .inv .1)
 
 pub all-good-spec : {M : Type 1} → statement M
@@ -59,10 +47,10 @@ all-good-spec =
     Inv-loop
     μ-loop
     loop-holds
-    add-is-good
-    is-good-requires
+    (λ c. search needs)
+    (λ c κs. search needs)
     returns
-    add-i
-    loop-less
+    (λ c. search needs)
+    (λ c. search needs)
     loop-again
     returns-2)

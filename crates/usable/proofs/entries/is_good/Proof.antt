@@ -6,9 +6,6 @@ use mathlib.Core.Path.{sym, _∙_}
 use Rattle.usable.proofs.entries.is_good.Statement.{statement}
 use Rattle.usable.proofs.entries.is_good.Tie as tie
 
-has-text-requires : tie.Need-has-text-requires
-has-text-requires c κs = search needs
-
 fits-kind-requires : tie.Need-fits-kind-requires
 fits-kind-requires c κs =
     let entry = c .before .before .before .before in
@@ -23,4 +20,4 @@ unfolding good-term
 returns-2 c = simp (sym (c .before .has-text .ensures) ∙ c .if1 .left)
 
 pub is-good-spec : {M : Type 1} → statement M
-is-good-spec = tie.close (tie.spec has-text-requires fits-kind-requires returns returns-2)
+is-good-spec = tie.close (tie.spec (λ c κs. search needs) fits-kind-requires returns returns-2)

@@ -22,20 +22,11 @@ loop-holds c =
     let test = row-test (entry .args .rows .now) (entry .args .terms .now) (entry .args .count) in
     (omega arith, each-start test 0 (entry .args .row-count))
 
-is-good-requires : tie.Need-is-good-requires Inv-loop μ-loop
-is-good-requires c κs = search needs
-
 returns : tie.Need-returns Inv-loop μ-loop
 returns c =
     let entry = c .before .before .before .before .before .before in
     let test = row-test (entry .args .rows .now) (entry .args .terms .now) (entry .args .count) in
     each-fails test 0 (entry .args .row-count) (c .before .before .before .loop .i) (c .before .before .before .loop .i) (c .before .before .loop-test .taken) (omega arith) (sym (c .before .is-good .ensures) ∙ not-true _ (c .if1 .taken)) ∙ sym (c .before .before .before .loop .inv .1)
-
-add-i : tie.Need-add-i Inv-loop μ-loop
-add-i c = search needs
-
-loop-less : tie.Need-loop-less Inv-loop μ-loop
-loop-less c = search needs
 
 loop-again : tie.Need-loop-again Inv-loop μ-loop
 loop-again c =
@@ -56,9 +47,9 @@ all-good-spec =
     Inv-loop
     μ-loop
     loop-holds
-    is-good-requires
+    (λ c κs. search needs)
     returns
-    add-i
-    loop-less
+    (λ c. search needs)
+    (λ c. search needs)
     loop-again
     returns-2)

@@ -2,11 +2,5 @@ use borrow.Author.Tests.{le-leb, lt-leb}
 use Rattle.usable.proofs.rows.is_present.Statement.{statement}
 use Rattle.usable.proofs.rows.is_present.Tie as tie
 
-returns : tie.Need-returns
-returns c = simp (lt-leb _ _ (c .if1 .taken))
-
-returns-2 : tie.Need-returns-2
-returns-2 c = simp (le-leb _ _ (c .if1 .left))
-
 pub is-present-spec : {M : Type 1} → statement M
-is-present-spec = tie.close (tie.spec returns returns-2)
+is-present-spec = tie.close (tie.spec (λ c. simp (lt-leb _ _ (c .if1 .taken))) (λ c. simp (le-leb _ _ (c .if1 .left))))

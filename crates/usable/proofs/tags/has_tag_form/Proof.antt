@@ -19,23 +19,8 @@ abbrev μ-loop : tie.MeasureT-loop
 loop-holds : tie.Need-loop-holds Inv-loop μ-loop
 loop-holds c = (omega arith, refl)
 
-shared-slice-read-next : tie.Need-shared-slice-read-next Inv-loop μ-loop
-shared-slice-read-next c = search needs
-
-next-requires : tie.Need-next-requires Inv-loop μ-loop
-next-requires c κs = search needs
-
-add-i : tie.Need-add-i Inv-loop μ-loop
-add-i c = search needs
-
-loop-less : tie.Need-loop-less Inv-loop μ-loop
-loop-less c = search needs
-
 loop-again : tie.Need-loop-again Inv-loop μ-loop
 loop-again c = (omega arith, c .before .before .before .loop .inv .1 ∙ walks-on _ _ (c .before .before .before .before .before .args .s .now) _ (c .before .before .loop-test .taken) (c .next .ensures))
-
-is-end-requires : tie.Need-is-end-requires Inv-loop μ-loop
-is-end-requires c κs = search needs
 
 returns : tie.Need-returns Inv-loop μ-loop
 returns c = c .is-end .ensures ∙ sym (c .before .before .loop .inv .1 ∙ walks-end _ (c .before .before .before .before .args .s .now) _ (c .before .loop-test .left))
@@ -47,10 +32,10 @@ has-tag-form-spec =
     Inv-loop
     μ-loop
     loop-holds
-    shared-slice-read-next
-    next-requires
-    add-i
-    loop-less
+    (λ c. search needs)
+    (λ c κs. search needs)
+    (λ c. search needs)
+    (λ c. search needs)
     loop-again
-    is-end-requires
+    (λ c κs. search needs)
     returns)

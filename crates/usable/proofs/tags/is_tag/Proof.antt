@@ -4,26 +4,11 @@ use mathlib.Core.Path.{sym, _∙_}
 use Rattle.usable.proofs.tags.is_tag.Statement.{statement}
 use Rattle.usable.proofs.tags.is_tag.Tie as tie
 
-slice-aggregate-same : tie.Need-slice-aggregate-same
-slice-aggregate-same c = search needs
-
-same-requires : tie.Need-same-requires
-same-requires c κs = search needs
-
 returns : tie.Need-returns
 returns c = not-prefix (c .before .before .before .before .args .s .now) (sym (c .before .same .ensures) ∙ c .if1 .taken)
 
-slice-aggregate-same-2 : tie.Need-slice-aggregate-same-2
-slice-aggregate-same-2 c = search needs
-
-same-requires-2 : tie.Need-same-requires-2
-same-requires-2 c κs = search needs
-
 returns-2 : tie.Need-returns-2
 returns-2 c = not-base (c .before .before .before .before .before .before .before .args .s .now) (sym (c .before .before .before .before .same .ensures) ∙ c .before .before .before .if1 .left) (sym (c .before .same2 .ensures) ∙ c .if2 .taken)
-
-has-tag-form-requires : tie.Need-has-tag-form-requires
-has-tag-form-requires c κs = search needs
 
 returns-3 : tie.Need-returns-3
 returns-3 c = c .has-tag-form .ensures ∙ walked (c .before .before .before .before .before .before .before .before .args .s .now) (sym (c .before .before .before .before .before .same .ensures) ∙ c .before .before .before .before .if1 .left) (sym (c .before .before .same2 .ensures) ∙ c .before .if2 .left)
@@ -32,11 +17,11 @@ pub is-tag-spec : {M : Type 1} → statement M
 is-tag-spec =
     tie.close
     (tie.spec
-    slice-aggregate-same
-    same-requires
+    (λ c. search needs)
+    (λ c κs. search needs)
     returns
-    slice-aggregate-same-2
-    same-requires-2
+    (λ c. search needs)
+    (λ c κs. search needs)
     returns-2
-    has-tag-form-requires
+    (λ c κs. search needs)
     returns-3)

@@ -4,54 +4,21 @@ use mathlib.Core.Path.{sym, _∙_}
 use Rattle.usable.proofs.tags.next.Statement.{statement}
 use Rattle.usable.proofs.tags.next.Tie as tie
 
-enum-told : tie.Need-enum-told
-enum-told c = search needs
-
-is-letter-requires : tie.Need-is-letter-requires
-is-letter-requires c κs = search needs
-
 returns : tie.Need-returns
 unfolding next-place
 returns c = simp (c .before .before .enum-told .given .1, sym (c .before .is-letter .ensures) ∙ c .if1 .taken)
-
-enum-told-2 : tie.Need-enum-told-2
-enum-told-2 c = search needs
-
-is-letter-requires-2 : tie.Need-is-letter-requires-2
-is-letter-requires-2 c κs = search needs
 
 returns-2 : tie.Need-returns-2
 unfolding next-place
 returns-2 c = simp (c .before .before .enum-told2 .given .1, sym (c .before .is-letter2 .ensures) ∙ c .if2 .taken)
 
-at-dash-requires : tie.Need-at-dash-requires
-at-dash-requires c κs = search needs
-
-enum-told-3 : tie.Need-enum-told-3
-enum-told-3 c = search needs
-
-is-letter-or-digit-requires : tie.Need-is-letter-or-digit-requires
-is-letter-or-digit-requires c κs = search needs
-
 returns-3 : tie.Need-returns-3
 unfolding next-place
 returns-3 c = simp (c .before .before .enum-told3 .given .1, sym (c .before .is-letter-or-digit .ensures) ∙ c .if3 .taken)
 
-enum-told-4 : tie.Need-enum-told-4
-enum-told-4 c = search needs
-
-is-letter-or-digit-requires-2 : tie.Need-is-letter-or-digit-requires-2
-is-letter-or-digit-requires-2 c κs = search needs
-
 returns-4 : tie.Need-returns-4
 unfolding next-place
 returns-4 c = simp (c .before .before .enum-told4 .given .1, sym (c .before .is-letter-or-digit2 .ensures) ∙ c .if4 .taken)
-
-at-dash-requires-2 : tie.Need-at-dash-requires-2
-at-dash-requires-2 c κs = search needs
-
-enum-told-5 : tie.Need-enum-told-5
-enum-told-5 c = search needs
 
 returns-5 : tie.Need-returns-5
 unfolding next-place
@@ -77,21 +44,21 @@ pub next-spec : {M : Type 1} → statement M
 next-spec =
     tie.close
     (tie.spec
-    enum-told
-    is-letter-requires
+    (λ c. search needs)
+    (λ c κs. search needs)
     returns
-    enum-told-2
-    is-letter-requires-2
+    (λ c. search needs)
+    (λ c κs. search needs)
     returns-2
-    at-dash-requires
-    enum-told-3
-    is-letter-or-digit-requires
+    (λ c κs. search needs)
+    (λ c. search needs)
+    (λ c κs. search needs)
     returns-3
-    enum-told-4
-    is-letter-or-digit-requires-2
+    (λ c. search needs)
+    (λ c κs. search needs)
     returns-4
-    at-dash-requires-2
-    enum-told-5
+    (λ c κs. search needs)
+    (λ c. search needs)
     returns-5
     returns-6
     returns-7

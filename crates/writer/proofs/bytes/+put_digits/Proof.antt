@@ -35,16 +35,6 @@ put-digits-returns : (t : ℕ) → put-digits-lts.Need-returns (
 ) (put-digits-at t) put-digits.Post
 put-digits-returns t c = rw (← digits-none (c .before .before .args .most) (c .before .before .args .n) (c .if1 .taken)) (wrote-nothing (c .before .before .args .at) (c .before .before .args .out .now))
 
-put-digits-digit-requires : (t : ℕ) → put-digits-lts.Need-digit-requires (
-  digit-reads.Asked,
-  digit-reads.Learnt,
-  put-reads.Asked,
-  put-reads.Learnt,
-  put-digits-below t,
-  put-digits.Post,
-) (put-digits-at t) put-digits.Post
-put-digits-digit-requires t c κs = search needs
-
 put-digits-put-requires : (t : ℕ) → put-digits-lts.Need-put-requires (
   digit-reads.Asked,
   digit-reads.Learnt,
@@ -54,16 +44,6 @@ put-digits-put-requires : (t : ℕ) → put-digits-lts.Need-put-requires (
   put-digits.Post,
 ) (put-digits-at t) put-digits.Post
 put-digits-put-requires t c κs = rw (← digits-one (c .before .before .before .before .before .args .most) (c .before .before .before .before .before .args .n) (c .before .before .before .if1 .left) (c .before .before .if2 .taken), ← c .digit .ensures) at (c .before .before .before .before .before .pre .1)
-
-put-digits-same-length : (t : ℕ) → put-digits-lts.Need-same-length (
-  digit-reads.Asked,
-  digit-reads.Learnt,
-  put-reads.Asked,
-  put-reads.Learnt,
-  put-digits-below t,
-  put-digits.Post,
-) (put-digits-at t) put-digits.Post
-put-digits-same-length t c = search needs
 
 put-digits-returns-2 : (t : ℕ) → put-digits-lts.Need-returns-2 (
   digit-reads.Asked,
@@ -75,16 +55,6 @@ put-digits-returns-2 : (t : ℕ) → put-digits-lts.Need-returns-2 (
 ) (put-digits-at t) put-digits.Post
 put-digits-returns-2 t c = rw (← digits-one (c .before .before .before .before .before .before .before .before .args .most) (c .before .before .before .before .before .before .before .before .args .n) (c .before .before .before .before .before .before .if1 .left) (c .before .before .before .before .before .if2 .taken), ← c .before .before .before .digit .ensures) (c .before .before .put .ensures)
 
-put-digits-sub-put-digits : (t : ℕ) → put-digits-lts.Need-sub-put-digits (
-  digit-reads.Asked,
-  digit-reads.Learnt,
-  put-reads.Asked,
-  put-reads.Learnt,
-  put-digits-below t,
-  put-digits.Post,
-) (put-digits-at t) put-digits.Post
-put-digits-sub-put-digits t c = search needs
-
 put-digits-put-digits-requires : (t : ℕ) → put-digits-lts.Need-put-digits-requires (
   digit-reads.Asked,
   digit-reads.Learnt,
@@ -95,16 +65,6 @@ put-digits-put-digits-requires : (t : ℕ) → put-digits-lts.Need-put-digits-re
 ) (put-digits-at t) put-digits.Post
 put-digits-put-digits-requires t c κs = (omega arith, room-before _ _ (rw (← digits-last (c .before .before .before .before .args .most) (c .before .before .before .before .args .n) (c .before .before .if1 .left) (c .before .if2 .left)) at (c .before .before .before .before .pre .1)))
 
-put-digits-digit-requires-2 : (t : ℕ) → put-digits-lts.Need-digit-requires-2 (
-  digit-reads.Asked,
-  digit-reads.Learnt,
-  put-reads.Asked,
-  put-reads.Learnt,
-  put-digits-below t,
-  put-digits.Post,
-) (put-digits-at t) put-digits.Post
-put-digits-digit-requires-2 t c κs = search needs
-
 put-digits-put-requires-2 : (t : ℕ) → put-digits-lts.Need-put-requires-2 (
   digit-reads.Asked,
   digit-reads.Learnt,
@@ -114,16 +74,6 @@ put-digits-put-requires-2 : (t : ℕ) → put-digits-lts.Need-put-requires-2 (
   put-digits.Post,
 ) (put-digits-at t) put-digits.Post
 put-digits-put-requires-2 t c κs = rw (c .digit2 .ensures) (room-after (c .before .before .before .before .put-digits .ensures) (rw (← digits-last (c .before .before .before .before .before .before .before .before .before .args .most) (c .before .before .before .before .before .before .before .before .before .args .n) (c .before .before .before .before .before .before .before .if1 .left) (c .before .before .before .before .before .before .if2 .left)) at (c .before .before .before .before .before .before .before .before .before .pre .1)))
-
-put-digits-same-length-2 : (t : ℕ) → put-digits-lts.Need-same-length-2 (
-  digit-reads.Asked,
-  digit-reads.Learnt,
-  put-reads.Asked,
-  put-reads.Learnt,
-  put-digits-below t,
-  put-digits.Post,
-) (put-digits-at t) put-digits.Post
-put-digits-same-length-2 t c = search needs
 
 put-digits-returns-3 : (t : ℕ) → put-digits-lts.Need-returns-3 (
   digit-reads.Asked,
@@ -147,13 +97,13 @@ pub +put-digits-spec : {M : Type 1} → statement M
     (put-digits-at t)
     put-digits.Post
     (put-digits-returns t)
-    (put-digits-digit-requires t)
+    (λ c κs. search needs)
     (put-digits-put-requires t)
-    (put-digits-same-length t)
+    (λ c. search needs)
     (put-digits-returns-2 t)
-    (put-digits-sub-put-digits t)
+    (λ c. search needs)
     (put-digits-put-digits-requires t)
-    (put-digits-digit-requires-2 t)
+    (λ c κs. search needs)
     (put-digits-put-requires-2 t)
-    (put-digits-same-length-2 t)
+    (λ c. search needs)
     (put-digits-returns-3 t)

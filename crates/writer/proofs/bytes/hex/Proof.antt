@@ -3,17 +3,5 @@ use borrow.Author.Tests.{le-ltb, lt-ltb}
 use Rattle.writer.proofs.bytes.hex.Statement.{statement}
 use Rattle.writer.proofs.bytes.hex.Tie as tie
 
-add-result : tie.Need-add-result
-add-result c = search needs
-
-returns : tie.Need-returns
-returns c = simp (lt-ltb _ _ (c .if1 .taken))
-
-add-result-2 : tie.Need-add-result-2
-add-result-2 c = search needs
-
-returns-2 : tie.Need-returns-2
-returns-2 c = simp (le-ltb _ _ (c .if1 .left))
-
 pub hex-spec : {M : Type 1} → statement M
-hex-spec = tie.close (tie.spec add-result returns add-result-2 returns-2)
+hex-spec = tie.close (tie.spec (λ c. search needs) (λ c. simp (lt-ltb _ _ (c .if1 .taken))) (λ c. search needs) (λ c. simp (le-ltb _ _ (c .if1 .left))))

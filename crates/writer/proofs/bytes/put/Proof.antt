@@ -8,12 +8,6 @@ use mathlib.Core.Logic.{⊎-elim}
 use Rattle.writer.proofs.bytes.put.Statement.{statement}
 use Rattle.writer.proofs.bytes.put.Tie as tie
 
-slice-write-out : tie.Need-slice-write-out
-slice-write-out c = search needs
-
-add-result : tie.Need-add-result
-add-result c = search needs
-
 same-length : tie.Need-same-length
 same-length c =
     let out = c .before .args .out .now in
@@ -27,4 +21,4 @@ returns c =
     wrote
 
 pub put-spec : {M : Type 1} → statement M
-put-spec = tie.close (tie.spec slice-write-out add-result same-length returns)
+put-spec = tie.close (tie.spec (λ c. search needs) (λ c. search needs) same-length returns)

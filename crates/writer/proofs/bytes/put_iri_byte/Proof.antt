@@ -4,17 +4,11 @@ use mathlib.Core.Path.{sym, _∙_}
 use Rattle.writer.proofs.bytes.put_iri_byte.Statement.{statement}
 use Rattle.writer.proofs.bytes.put_iri_byte.Tie as tie
 
-is-forbidden-requires : tie.Need-is-forbidden-requires
-is-forbidden-requires c κs = search needs
-
 put-code-requires : tie.Need-put-code-requires
 put-code-requires c κs =
     let entry = c .before .before .before .before in
     let form = iri-escaped (entry .args .c) (sym (c .before .before .is-forbidden .ensures) ∙ c .before .if1 .taken) in
     rw form at (entry .pre)
-
-same-length : tie.Need-same-length
-same-length c = search needs
 
 returns : tie.Need-returns
 returns c =
@@ -28,9 +22,6 @@ put-requires c κs =
     let form = iri-plain (entry .args .c) (sym (c .before .before .is-forbidden .ensures) ∙ c .before .if1 .left) in
     rw form at (entry .pre)
 
-same-length-2 : tie.Need-same-length-2
-same-length-2 c = search needs
-
 returns-2 : tie.Need-returns-2
 returns-2 c =
     let entry = c .before .before .before .before .before .before .before in
@@ -41,10 +32,10 @@ pub put-iri-byte-spec : {M : Type 1} → statement M
 put-iri-byte-spec =
     tie.close
     (tie.spec
-    is-forbidden-requires
+    (λ c κs. search needs)
     put-code-requires
-    same-length
+    (λ c. search needs)
     returns
     put-requires
-    same-length-2
+    (λ c. search needs)
     returns-2)

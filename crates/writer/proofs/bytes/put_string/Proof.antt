@@ -4,9 +4,6 @@ use borrow.Author.Needs.{needs}
 use Rattle.writer.proofs.bytes.put_string.Statement.{statement}
 use Rattle.writer.proofs.bytes.put_string.Tie as tie
 
-put-requires : tie.Need-put-requires
-put-requires c κs = search needs
-
 put-escaped-requires : tie.Need-put-escaped-requires
 unfolding byte-form
 put-escaped-requires c κs = room-before _ _ (room-after (c .before .before .before .put .ensures) (c .before .before .before .before .before .before .before .pre))
@@ -15,13 +12,10 @@ put-requires-2 : tie.Need-put-requires-2
 unfolding byte-form
 put-requires-2 c κs = room-after (c .before .before .before .put-escaped .ensures) (room-after (c .before .before .before .before .before .before .before .put .ensures) (c .before .before .before .before .before .before .before .before .before .before .before .pre))
 
-same-length : tie.Need-same-length
-same-length c = search needs
-
 returns : tie.Need-returns
 unfolding byte-form
 returns c = both (c .before .before .before .before .before .before .before .before .before .before .put .ensures) (both (c .before .before .before .before .before .before .put-escaped .ensures) (c .before .before .put2 .ensures))
 
 pub put-string-spec : {M : Type 1} → statement M
 put-string-spec =
-    tie.close (tie.spec put-requires put-escaped-requires put-requires-2 same-length returns)
+    tie.close (tie.spec (λ c κs. search needs) put-escaped-requires put-requires-2 (λ c. search needs) returns)

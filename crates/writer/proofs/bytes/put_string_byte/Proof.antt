@@ -4,17 +4,11 @@ use mathlib.Core.Path.{sym, _∙_}
 use Rattle.writer.proofs.bytes.put_string_byte.Statement.{statement}
 use Rattle.writer.proofs.bytes.put_string_byte.Tie as tie
 
-escape-of-requires : tie.Need-escape-of-requires
-escape-of-requires c κs = search needs
-
 put-requires : tie.Need-put-requires
 put-requires c κs =
     let entry = c .before .before .before .before in
     let form = string-plain (entry .args .c) (sym (c .before .before .escape-of .ensures) ∙ c .before .if1 .taken) in
     rw form at (entry .pre)
-
-same-length : tie.Need-same-length
-same-length c = search needs
 
 returns : tie.Need-returns
 returns c =
@@ -28,9 +22,6 @@ put-two-requires c κs =
     let form = string-escaped (entry .args .c) (λ e. c .before .if1 .left (c .before .before .escape-of .ensures ∙ e)) in
     rw (form, ← c .before .before .escape-of .ensures) at (entry .pre)
 
-same-length-2 : tie.Need-same-length-2
-same-length-2 c = search needs
-
 returns-2 : tie.Need-returns-2
 returns-2 c =
     let entry = c .before .before .before .before .before .before .before in
@@ -41,10 +32,10 @@ pub put-string-byte-spec : {M : Type 1} → statement M
 put-string-byte-spec =
     tie.close
     (tie.spec
-    escape-of-requires
+    (λ c κs. search needs)
     put-requires
-    same-length
+    (λ c. search needs)
     returns
     put-two-requires
-    same-length-2
+    (λ c. search needs)
     returns-2)

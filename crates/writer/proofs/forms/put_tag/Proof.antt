@@ -4,17 +4,11 @@ use borrow.Author.Needs.{needs}
 use Rattle.writer.proofs.forms.put_tag.Statement.{statement}
 use Rattle.writer.proofs.forms.put_tag.Tie as tie
 
-put-requires : tie.Need-put-requires
-put-requires c κs = search needs
-
 put-escaped-requires : tie.Need-put-escaped-requires
 put-escaped-requires c κs = rw (escaped-plain (c .before .before .before .before .before .before .before .args .tag .now)) (room-after (c .before .before .before .put .ensures) (c .before .before .before .before .before .before .before .pre))
-
-same-length : tie.Need-same-length
-same-length c = search needs
 
 returns : tie.Need-returns
 returns c = both (c .before .before .before .before .before .before .put .ensures) (rw (escaped-plain (c .before .before .before .before .before .before .before .before .before .before .args .tag .now)) at (c .before .before .put-escaped .ensures))
 
 pub put-tag-spec : {M : Type 1} → statement M
-put-tag-spec = tie.close (tie.spec put-requires put-escaped-requires same-length returns)
+put-tag-spec = tie.close (tie.spec (λ c κs. search needs) put-escaped-requires (λ c. search needs) returns)

@@ -1,3 +1,4 @@
+use Rattle.table.specs.Layout.{entry-at}
 use Rattle.usable.specs.Lent.{lent}
 use Rattle.usable.proofs.Words.{kind-word, fourth-word}
 use Rattle.writer.proofs.Pieces.{term-iri, term-blank, term-literal}
@@ -7,77 +8,71 @@ use mathlib.Core.Path.{sym, _∙_}
 use Rattle.writer.proofs.forms.put_term.Statement.{statement}
 use Rattle.writer.proofs.forms.put_term.Tie as tie
 
-word-requires : tie.Need-word-requires
-word-requires c κs =
+term-word-requires : tie.Need-term-word-requires
+term-word-requires c κs =
     let entry = c .before .before .before in
     (entry .pre .0 .stands, omega arith)
 
-text-of-requires : tie.Need-text-of-requires
-text-of-requires c κs =
+span-of-requires : tie.Need-span-of-requires
+unfolding entry-at
+span-of-requires c κs =
     let entry = c .before .before .before .before .before in
-    (entry .pre .0 .stands, entry .pre .0 .text-in)
+    (entry .pre .0 .stands, (omega arith, entry .pre .0 .text-in))
 
 put-iri-requires : tie.Need-put-iri-requires
+unfolding entry-at
 put-iri-requires c κs =
     let entry = c .before .before .before .before .before .before .before in
     let tables = lent (entry .args .terms .now) 0 (entry .args .store .now) 0 in
-    let kind = kind-word (entry .args .terms .now) (entry .args .n) (c .before .before .before .word .result) (c .before .before .before .word .ensures .0) in
+    let kind = kind-word (entry .args .terms .now) (entry .args .n) (c .before .before .before .term-word .result) (c .before .before .before .term-word .ensures .0) in
     let form = term-iri tables (entry .args .n) (sym kind ∙ c .before .before .if1 .taken) in
-    rw (c .before .text-of .ensures) (rw form at (entry .pre .1))
-
-same-length : tie.Need-same-length
-same-length c = search needs
+    rw (c .before .span-of .ensures) (rw form at (entry .pre .1))
 
 returns : tie.Need-returns
+unfolding entry-at
 returns c =
     let entry = c .before .before .before .before .before .before .before .before .before .before in
     let tables = lent (entry .args .terms .now) 0 (entry .args .store .now) 0 in
-    let kind = kind-word (entry .args .terms .now) (entry .args .n) (c .before .before .before .before .before .before .word .result) (c .before .before .before .before .before .before .word .ensures .0) in
+    let kind = kind-word (entry .args .terms .now) (entry .args .n) (c .before .before .before .before .before .before .term-word .result) (c .before .before .before .before .before .before .term-word .ensures .0) in
     let form = term-iri tables (entry .args .n) (sym kind ∙ c .before .before .before .before .before .if1 .taken) in
-    rw form (rw (c .before .before .before .before .text-of .ensures) at (c .before .before .put-iri .ensures))
+    rw form (rw (c .before .before .before .before .span-of .ensures) at (c .before .before .put-iri .ensures))
 
-word-requires-2 : tie.Need-word-requires-2
-word-requires-2 c κs =
+term-word-requires-2 : tie.Need-term-word-requires-2
+term-word-requires-2 c κs =
     let entry = c .before .before .before .before .before .before in
     (entry .pre .0 .stands, omega arith)
 
 put-blank-requires : tie.Need-put-blank-requires
 put-blank-requires c κs =
     let entry = c .before .before .before .before .before .before .before .before in
-    let datatype = fourth-word (entry .args .terms .now) (entry .args .n) (c .before .word2 .result) (c .before .word2 .ensures .0) in
+    let datatype = fourth-word (entry .args .terms .now) (entry .args .n) (c .before .term-word2 .result) (c .before .term-word2 .ensures .0) in
     let tables = lent (entry .args .terms .now) 0 (entry .args .store .now) 0 in
-    let kind = kind-word (entry .args .terms .now) (entry .args .n) (c .before .before .before .before .word .result) (c .before .before .before .before .word .ensures .0) in
+    let kind = kind-word (entry .args .terms .now) (entry .args .n) (c .before .before .before .before .term-word .result) (c .before .before .before .before .term-word .ensures .0) in
     let form = term-blank tables (entry .args .n) (λ e. c .before .before .before .if1 .left (kind ∙ e)) (sym kind ∙ c .before .before .if2 .taken) in
     rw datatype (rw form at (entry .pre .1))
-
-same-length-2 : tie.Need-same-length-2
-same-length-2 c = search needs
 
 returns-2 : tie.Need-returns-2
 returns-2 c =
     let entry = c .before .before .before .before .before .before .before .before .before .before .before in
     let tables = lent (entry .args .terms .now) 0 (entry .args .store .now) 0 in
-    let kind = kind-word (entry .args .terms .now) (entry .args .n) (c .before .before .before .before .before .before .before .word .result) (c .before .before .before .before .before .before .before .word .ensures .0) in
+    let kind = kind-word (entry .args .terms .now) (entry .args .n) (c .before .before .before .before .before .before .before .term-word .result) (c .before .before .before .before .before .before .before .term-word .ensures .0) in
     let form = term-blank tables (entry .args .n) (λ e. c .before .before .before .before .before .before .if1 .left (kind ∙ e)) (sym kind ∙ c .before .before .before .before .before .if2 .taken) in
-    let datatype = fourth-word (entry .args .terms .now) (entry .args .n) (c .before .before .before .before .word2 .result) (c .before .before .before .before .word2 .ensures .0) in
+    let datatype = fourth-word (entry .args .terms .now) (entry .args .n) (c .before .before .before .before .term-word2 .result) (c .before .before .before .before .term-word2 .ensures .0) in
     rw form (rw datatype at (c .before .before .put-blank .ensures))
 
 put-literal-requires : tie.Need-put-literal-requires
 put-literal-requires c κs =
     let entry = c .before .before .before .before .before .before .before in
-    let kind = kind-word (entry .args .terms .now) (entry .args .n) (c .before .before .before .word .result) (c .before .before .before .word .ensures .0) in
+    let kind = kind-word (entry .args .terms .now) (entry .args .n) (c .before .before .before .term-word .result) (c .before .before .before .term-word .ensures .0) in
     let tables = lent (entry .args .terms .now) 0 (entry .args .store .now) 0 in
     let form = term-literal tables (entry .args .n) (λ e. c .before .before .if1 .left (kind ∙ e)) (λ e. c .before .if2 .left (kind ∙ e)) in
     (entry .pre .0, (((λ e. c .before .before .if1 .left (kind ∙ e)), (λ e. c .before .if2 .left (kind ∙ e))), rw form at (entry .pre .1)))
-
-same-length-3 : tie.Need-same-length-3
-same-length-3 c = search needs
 
 returns-3 : tie.Need-returns-3
 returns-3 c =
     let entry = c .before .before .before .before .before .before .before .before .before .before in
     let tables = lent (entry .args .terms .now) 0 (entry .args .store .now) 0 in
-    let kind = kind-word (entry .args .terms .now) (entry .args .n) (c .before .before .before .before .before .before .word .result) (c .before .before .before .before .before .before .word .ensures .0) in
+    let kind = kind-word (entry .args .terms .now) (entry .args .n) (c .before .before .before .before .before .before .term-word .result) (c .before .before .before .before .before .before .term-word .ensures .0) in
     let form = term-literal tables (entry .args .n) (λ e. c .before .before .before .before .before .if1 .left (kind ∙ e)) (λ e. c .before .before .before .before .if2 .left (kind ∙ e)) in
     rw form (c .before .before .put-literal .ensures)
 
@@ -85,15 +80,15 @@ pub put-term-spec : {M : Type 1} → statement M
 put-term-spec =
     tie.close
     (tie.spec
-    word-requires
-    text-of-requires
+    term-word-requires
+    span-of-requires
     put-iri-requires
-    same-length
+    (λ c. search needs)
     returns
-    word-requires-2
+    term-word-requires-2
     put-blank-requires
-    same-length-2
+    (λ c. search needs)
     returns-2
     put-literal-requires
-    same-length-3
+    (λ c. search needs)
     returns-3)

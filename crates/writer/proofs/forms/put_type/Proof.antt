@@ -5,9 +5,6 @@ use mathlib.Core.Path.{sym, _∙_}
 use Rattle.writer.proofs.forms.put_type.Statement.{statement}
 use Rattle.writer.proofs.forms.put_type.Tie as tie
 
-is-xsd-string-requires : tie.Need-is-xsd-string-requires
-is-xsd-string-requires c κs = search needs
-
 returns : tie.Need-returns
 returns c =
     let entry = c .before .before .before .before in
@@ -26,9 +23,6 @@ put-iri-requires c κs =
     let form = type-some (entry .args .datatype .now) (sym (c .before .before .before .before .before .before .is-xsd-string .ensures) ∙ c .before .before .before .before .before .if1 .left) in
     room-after (c .before .before .before .put-two .ensures) (rw form at (entry .pre))
 
-same-length : tie.Need-same-length
-same-length c = search needs
-
 returns-2 : tie.Need-returns-2
 returns-2 c =
     let entry = c .before .before .before .before .before .before .before .before .before .before .before .before in
@@ -39,9 +33,9 @@ pub put-type-spec : {M : Type 1} → statement M
 put-type-spec =
     tie.close
     (tie.spec
-    is-xsd-string-requires
+    (λ c κs. search needs)
     returns
     put-two-requires
     put-iri-requires
-    same-length
+    (λ c. search needs)
     returns-2)

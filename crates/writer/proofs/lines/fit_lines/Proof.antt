@@ -31,23 +31,11 @@ put-line-requires c κs =
     let entry = c .before .before .before .before .before .before in
     (entry .pre .0 (c .before .before .loop .i) (c .before .loop-test .taken), entry .pre .1 (c .before .before .loop .i) (c .before .loop-test .taken))
 
-sub-if1 : tie.Need-sub-if1 Inv-loop μ-loop
-sub-if1 c = search needs
-
 returns : tie.Need-returns Inv-loop μ-loop
 returns c =
     let entry = c .before .before .before .before .before .before .before .before .before in
     let tables = drawn (entry .args .rows .now) (entry .args .terms .now) (entry .args .store .now) in
     too-long tables (c .before .before .before .before .before .loop .i) (entry .args .count) (c .before .before .before .before .loop-test .taken) (c .before .before .before .before .before .loop .total) (entry .args .limit) (c .before .before .put-line .result) (c .before .before .before .before .before .loop .inv .1) (c .before .before .put-line .ensures .end) (c .if1 .taken)
-
-add-total : tie.Need-add-total Inv-loop μ-loop
-add-total c = search needs
-
-add-i : tie.Need-add-i Inv-loop μ-loop
-add-i c = search needs
-
-loop-less : tie.Need-loop-less Inv-loop μ-loop
-loop-less c = search needs
 
 loop-again : tie.Need-loop-again Inv-loop μ-loop
 loop-again c =
@@ -70,10 +58,10 @@ fit-lines-spec =
     loop-holds
     slice-aggregate-put-line
     put-line-requires
-    sub-if1
+    (λ c. search needs)
     returns
-    add-total
-    add-i
-    loop-less
+    (λ c. search needs)
+    (λ c. search needs)
+    (λ c. search needs)
     loop-again
     returns-2)

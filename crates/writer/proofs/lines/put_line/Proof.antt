@@ -8,18 +8,12 @@ use mathlib.Core.Path.{sym, _∙_}
 use Rattle.writer.proofs.lines.put_line.Statement.{statement}
 use Rattle.writer.proofs.lines.put_line.Tie as tie
 
-add-word : tie.Need-add-word
-add-word c = search needs
-
-word-requires : tie.Need-word-requires
-word-requires c κs = search needs
-
 put-triple-requires : tie.Need-put-triple-requires
 put-triple-requires c κs =
     let entry = c .before .before .before .before .before .before .before in
     let tables = drawn (entry .args .rows .now) (entry .args .terms .now) (entry .args .store .now) in
     let row = row-at (entry .args .rows .now) (entry .args .i) in
-    let graph-read = graph-word (entry .args .rows .now) (entry .args .i) (c .before .before .word .result) (c .before .before .word .ensures .0) in
+    let graph-read = graph-word (entry .args .rows .now) (entry .args .i) (c .before .before .row-word .result) (c .before .before .row-word .ensures .0) in
     let form = line-default tables row (sym graph-read ∙ c .before .if1 .taken) in
     (entry .pre .0, room-before _ _ (rw form at (entry .pre .1)))
 
@@ -28,26 +22,23 @@ put-requires c κs =
     let entry = c .before .before .before .before .before .before .before .before .before .before .before in
     let tables = drawn (entry .args .rows .now) (entry .args .terms .now) (entry .args .store .now) in
     let row = row-at (entry .args .rows .now) (entry .args .i) in
-    let graph-read = graph-word (entry .args .rows .now) (entry .args .i) (c .before .before .before .before .before .before .word .result) (c .before .before .before .before .before .before .word .ensures .0) in
+    let graph-read = graph-word (entry .args .rows .now) (entry .args .i) (c .before .before .before .before .before .before .row-word .result) (c .before .before .before .before .before .before .row-word .ensures .0) in
     let form = line-default tables row (sym graph-read ∙ c .before .before .before .before .before .if1 .taken) in
     room-after (c .before .before .before .put-triple .ensures) (rw form at (entry .pre .1))
-
-same-length : tie.Need-same-length
-same-length c = search needs
 
 returns : tie.Need-returns
 returns c =
     let entry = c .before .before .before .before .before .before .before .before .before .before .before .before .before .before in
     let tables = drawn (entry .args .rows .now) (entry .args .terms .now) (entry .args .store .now) in
     let row = row-at (entry .args .rows .now) (entry .args .i) in
-    let graph-read = graph-word (entry .args .rows .now) (entry .args .i) (c .before .before .before .before .before .before .before .before .before .word .result) (c .before .before .before .before .before .before .before .before .before .word .ensures .0) in
+    let graph-read = graph-word (entry .args .rows .now) (entry .args .i) (c .before .before .before .before .before .before .before .before .before .row-word .result) (c .before .before .before .before .before .before .before .before .before .row-word .ensures .0) in
     let form = line-default tables row (sym graph-read ∙ c .before .before .before .before .before .before .before .before .if1 .taken) in
     rw form (both (c .before .before .before .before .before .before .put-triple .ensures) (c .before .before .put .ensures))
 
 put-part-requires : tie.Need-put-part-requires
 put-part-requires c κs =
     let entry = c .before .before .before .before .before .before .before in
-    let graph-read = graph-word (entry .args .rows .now) (entry .args .i) (c .before .before .word .result) (c .before .before .word .ensures .0) in
+    let graph-read = graph-word (entry .args .rows .now) (entry .args .i) (c .before .before .row-word .result) (c .before .before .row-word .ensures .0) in
     let tables = drawn (entry .args .rows .now) (entry .args .terms .now) (entry .args .store .now) in
     let row = row-at (entry .args .rows .now) (entry .args .i) in
     let form = line-graph tables row (λ e. c .before .if1 .left (graph-read ∙ e)) in
@@ -57,7 +48,7 @@ put-part-requires c κs =
 put-two-requires : tie.Need-put-two-requires
 put-two-requires c κs =
     let entry = c .before .before .before .before .before .before .before .before .before .before .before in
-    let graph-read = graph-word (entry .args .rows .now) (entry .args .i) (c .before .before .before .before .before .before .word .result) (c .before .before .before .before .before .before .word .ensures .0) in
+    let graph-read = graph-word (entry .args .rows .now) (entry .args .i) (c .before .before .before .before .before .before .row-word .result) (c .before .before .before .before .before .before .row-word .ensures .0) in
     let label = rw graph-read at (c .before .before .before .put-part .ensures) in
     let tables = drawn (entry .args .rows .now) (entry .args .terms .now) (entry .args .store .now) in
     let row = row-at (entry .args .rows .now) (entry .args .i) in
@@ -68,7 +59,7 @@ put-two-requires c κs =
 put-triple-requires-2 : tie.Need-put-triple-requires-2
 put-triple-requires-2 c κs =
     let entry = c .before .before .before .before .before .before .before .before .before .before .before .before .before .before .before in
-    let graph-read = graph-word (entry .args .rows .now) (entry .args .i) (c .before .before .before .before .before .before .before .before .before .before .word .result) (c .before .before .before .before .before .before .before .before .before .before .word .ensures .0) in
+    let graph-read = graph-word (entry .args .rows .now) (entry .args .i) (c .before .before .before .before .before .before .before .before .before .before .row-word .result) (c .before .before .before .before .before .before .before .before .before .before .row-word .ensures .0) in
     let label = rw graph-read at (c .before .before .before .before .before .before .before .put-part .ensures) in
     let tables = drawn (entry .args .rows .now) (entry .args .terms .now) (entry .args .store .now) in
     let row = row-at (entry .args .rows .now) (entry .args .i) in
@@ -79,7 +70,7 @@ put-triple-requires-2 c κs =
 put-three-requires : tie.Need-put-three-requires
 put-three-requires c κs =
     let entry = c .before .before .before .before .before .before .before .before .before .before .before .before .before .before .before .before .before .before .before in
-    let graph-read = graph-word (entry .args .rows .now) (entry .args .i) (c .before .before .before .before .before .before .before .before .before .before .before .before .before .before .word .result) (c .before .before .before .before .before .before .before .before .before .before .before .before .before .before .word .ensures .0) in
+    let graph-read = graph-word (entry .args .rows .now) (entry .args .i) (c .before .before .before .before .before .before .before .before .before .before .before .before .before .before .row-word .result) (c .before .before .before .before .before .before .before .before .before .before .before .before .before .before .row-word .ensures .0) in
     let label = rw graph-read at (c .before .before .before .before .before .before .before .before .before .before .before .put-part .ensures) in
     let tables = drawn (entry .args .rows .now) (entry .args .terms .now) (entry .args .store .now) in
     let row = row-at (entry .args .rows .now) (entry .args .i) in
@@ -87,15 +78,12 @@ put-three-requires c κs =
     let all = rw form at (entry .pre .1) in
     room-after (c .before .before .before .put-triple2 .ensures) (room-after (c .before .before .before .before .before .before .before .put-two .ensures) (room-after label all))
 
-same-length-2 : tie.Need-same-length-2
-same-length-2 c = search needs
-
 returns-2 : tie.Need-returns-2
 returns-2 c =
     let entry = c .before .before .before .before .before .before .before .before .before .before .before .before .before .before .before .before .before .before .before .before .before .before in
     let tables = drawn (entry .args .rows .now) (entry .args .terms .now) (entry .args .store .now) in
     let row = row-at (entry .args .rows .now) (entry .args .i) in
-    let graph-read = graph-word (entry .args .rows .now) (entry .args .i) (c .before .before .before .before .before .before .before .before .before .before .before .before .before .before .before .before .before .word .result) (c .before .before .before .before .before .before .before .before .before .before .before .before .before .before .before .before .before .word .ensures .0) in
+    let graph-read = graph-word (entry .args .rows .now) (entry .args .i) (c .before .before .before .before .before .before .before .before .before .before .before .before .before .before .before .before .before .row-word .result) (c .before .before .before .before .before .before .before .before .before .before .before .before .before .before .before .before .before .row-word .ensures .0) in
     let form = line-graph tables row (λ e. c .before .before .before .before .before .before .before .before .before .before .before .before .before .before .before .before .if1 .left (graph-read ∙ e)) in
     let label = rw graph-read at (c .before .before .before .before .before .before .before .before .before .before .before .before .before .before .put-part .ensures) in
     rw form (both label (both (c .before .before .before .before .before .before .before .before .before .before .put-two .ensures) (both (c .before .before .before .before .before .before .put-triple2 .ensures) (c .before .before .put-three .ensures))))
@@ -104,15 +92,14 @@ pub put-line-spec : {M : Type 1} → statement M
 put-line-spec =
     tie.close
     (tie.spec
-    add-word
-    word-requires
+    (λ c κs. search needs)
     put-triple-requires
     put-requires
-    same-length
+    (λ c. search needs)
     returns
     put-part-requires
     put-two-requires
     put-triple-requires-2
     put-three-requires
-    same-length-2
+    (λ c. search needs)
     returns-2)

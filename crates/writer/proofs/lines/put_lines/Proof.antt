@@ -29,12 +29,6 @@ put-line-requires c κs =
     let tables = drawn (entry .args .rows .now) (entry .args .terms .now) (entry .args .store .now) in
     (entry .pre .0 (c .before .before .loop .i) (c .before .loop-test .taken), line-room tables (c .before .before .loop .i) (entry .args .count) (c .before .loop-test .taken) (c .before .before .loop .inv .1) (entry .pre .1))
 
-add-i : tie.Need-add-i Inv-loop μ-loop
-add-i c = search needs
-
-loop-less : tie.Need-loop-less Inv-loop μ-loop
-loop-less c = search needs
-
 loop-again : tie.Need-loop-again Inv-loop μ-loop
 loop-again c =
     let entry = c .before .before .before .before .before .before .before .before .before .before in
@@ -57,8 +51,8 @@ put-lines-spec =
     μ-loop
     loop-holds
     put-line-requires
-    add-i
-    loop-less
+    (λ c. search needs)
+    (λ c. search needs)
     loop-again
     same-length
     returns)

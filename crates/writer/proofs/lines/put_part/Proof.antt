@@ -9,11 +9,8 @@ put-term-requires c κs = (c .before .before .before .before .pre .0, room-befor
 put-requires : tie.Need-put-requires
 put-requires c κs = room-after (c .before .before .before .put-term .ensures) (c .before .before .before .before .before .before .before .before .pre .1)
 
-same-length : tie.Need-same-length
-same-length c = search needs
-
 returns : tie.Need-returns
 returns c = both (c .before .before .before .before .before .before .put-term .ensures) (c .before .before .put .ensures)
 
 pub put-part-spec : {M : Type 1} → statement M
-put-part-spec = tie.close (tie.spec put-term-requires put-requires same-length returns)
+put-part-spec = tie.close (tie.spec put-term-requires put-requires (λ c. search needs) returns)

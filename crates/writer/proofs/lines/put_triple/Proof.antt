@@ -7,45 +7,33 @@ use borrow.Author.Needs.{needs}
 use Rattle.writer.proofs.lines.put_triple.Statement.{statement}
 use Rattle.writer.proofs.lines.put_triple.Tie as tie
 
-add-n : tie.Need-add-n
-add-n c = search needs
-
-word-requires : tie.Need-word-requires
-word-requires c κs = search needs
-
 put-part-requires : tie.Need-put-part-requires
 put-part-requires c κs =
     let entry = c .before .before .before .before .before .before in
-    let subject = subject-word (entry .args .rows .now) (entry .args .i) (c .before .word .result) (c .before .word .ensures .0) in
+    let subject = subject-word (entry .args .rows .now) (entry .args .i) (c .before .row-word .result) (c .before .row-word .ensures .0) in
     let tables = drawn (entry .args .rows .now) (entry .args .terms .now) (entry .args .store .now) in
     let row = row-at (entry .args .rows .now) (entry .args .i) in
     let all = rw (triple-parts tables row) at (entry .pre .1) in
     (rw subject (entry .pre .0 .subject), rw subject (room-before _ _ all))
 
-word-requires-2 : tie.Need-word-requires-2
-word-requires-2 c κs = search needs
-
 put-part-requires-2 : tie.Need-put-part-requires-2
 put-part-requires-2 c κs =
     let entry = c .before .before .before .before .before .before .before .before .before .before .before in
-    let predicate = predicate-word (entry .args .rows .now) (entry .args .i) (c .before .word2 .result) (c .before .word2 .ensures .0) in
-    let subject = subject-word (entry .args .rows .now) (entry .args .i) (c .before .before .before .before .before .before .word .result) (c .before .before .before .before .before .before .word .ensures .0) in
+    let predicate = predicate-word (entry .args .rows .now) (entry .args .i) (c .before .row-word2 .result) (c .before .row-word2 .ensures .0) in
+    let subject = subject-word (entry .args .rows .now) (entry .args .i) (c .before .before .before .before .before .before .row-word .result) (c .before .before .before .before .before .before .row-word .ensures .0) in
     let one = rw subject at (c .before .before .before .before .put-part .ensures) in
     let tables = drawn (entry .args .rows .now) (entry .args .terms .now) (entry .args .store .now) in
     let row = row-at (entry .args .rows .now) (entry .args .i) in
     let all = rw (triple-parts tables row) at (entry .pre .1) in
     (rw predicate (entry .pre .0 .predicate), rw predicate (room-before _ _ (room-after one all)))
 
-word-requires-3 : tie.Need-word-requires-3
-word-requires-3 c κs = search needs
-
 put-term-requires : tie.Need-put-term-requires
 put-term-requires c κs =
     let entry = c .before .before .before .before .before .before .before .before .before .before .before .before .before .before .before .before in
-    let object = object-word (entry .args .rows .now) (entry .args .i) (c .before .word3 .result) (c .before .word3 .ensures .0) in
-    let predicate = predicate-word (entry .args .rows .now) (entry .args .i) (c .before .before .before .before .before .before .word2 .result) (c .before .before .before .before .before .before .word2 .ensures .0) in
+    let object = object-word (entry .args .rows .now) (entry .args .i) (c .before .row-word3 .result) (c .before .row-word3 .ensures .0) in
+    let predicate = predicate-word (entry .args .rows .now) (entry .args .i) (c .before .before .before .before .before .before .row-word2 .result) (c .before .before .before .before .before .before .row-word2 .ensures .0) in
     let two = rw predicate at (c .before .before .before .before .put-part2 .ensures) in
-    let subject = subject-word (entry .args .rows .now) (entry .args .i) (c .before .before .before .before .before .before .before .before .before .before .before .word .result) (c .before .before .before .before .before .before .before .before .before .before .before .word .ensures .0) in
+    let subject = subject-word (entry .args .rows .now) (entry .args .i) (c .before .before .before .before .before .before .before .before .before .before .before .row-word .result) (c .before .before .before .before .before .before .before .before .before .before .before .row-word .ensures .0) in
     let one = rw subject at (c .before .before .before .before .before .before .before .before .before .put-part .ensures) in
     let tables = drawn (entry .args .rows .now) (entry .args .terms .now) (entry .args .store .now) in
     let row = row-at (entry .args .rows .now) (entry .args .i) in
@@ -55,30 +43,27 @@ put-term-requires c κs =
 put-two-requires : tie.Need-put-two-requires
 put-two-requires c κs =
     let entry = c .before .before .before .before .before .before .before .before .before .before .before .before .before .before .before .before .before .before .before .before in
-    let object = object-word (entry .args .rows .now) (entry .args .i) (c .before .before .before .before .before .word3 .result) (c .before .before .before .before .before .word3 .ensures .0) in
+    let object = object-word (entry .args .rows .now) (entry .args .i) (c .before .before .before .before .before .row-word3 .result) (c .before .before .before .before .before .row-word3 .ensures .0) in
     let three = rw object at (c .before .before .before .put-term .ensures) in
-    let predicate = predicate-word (entry .args .rows .now) (entry .args .i) (c .before .before .before .before .before .before .before .before .before .before .word2 .result) (c .before .before .before .before .before .before .before .before .before .before .word2 .ensures .0) in
+    let predicate = predicate-word (entry .args .rows .now) (entry .args .i) (c .before .before .before .before .before .before .before .before .before .before .row-word2 .result) (c .before .before .before .before .before .before .before .before .before .before .row-word2 .ensures .0) in
     let two = rw predicate at (c .before .before .before .before .before .before .before .before .put-part2 .ensures) in
-    let subject = subject-word (entry .args .rows .now) (entry .args .i) (c .before .before .before .before .before .before .before .before .before .before .before .before .before .before .before .word .result) (c .before .before .before .before .before .before .before .before .before .before .before .before .before .before .before .word .ensures .0) in
+    let subject = subject-word (entry .args .rows .now) (entry .args .i) (c .before .before .before .before .before .before .before .before .before .before .before .before .before .before .before .row-word .result) (c .before .before .before .before .before .before .before .before .before .before .before .before .before .before .before .row-word .ensures .0) in
     let one = rw subject at (c .before .before .before .before .before .before .before .before .before .before .before .before .before .put-part .ensures) in
     let tables = drawn (entry .args .rows .now) (entry .args .terms .now) (entry .args .store .now) in
     let row = row-at (entry .args .rows .now) (entry .args .i) in
     let all = rw (triple-parts tables row) at (entry .pre .1) in
     room-after three (room-after two (room-after one all))
 
-same-length : tie.Need-same-length
-same-length c = search needs
-
 returns : tie.Need-returns
 returns c =
     let entry = c .before .before .before .before .before .before .before .before .before .before .before .before .before .before .before .before .before .before .before .before .before .before .before in
     let tables = drawn (entry .args .rows .now) (entry .args .terms .now) (entry .args .store .now) in
     let row = row-at (entry .args .rows .now) (entry .args .i) in
-    let subject = subject-word (entry .args .rows .now) (entry .args .i) (c .before .before .before .before .before .before .before .before .before .before .before .before .before .before .before .before .before .before .word .result) (c .before .before .before .before .before .before .before .before .before .before .before .before .before .before .before .before .before .before .word .ensures .0) in
+    let subject = subject-word (entry .args .rows .now) (entry .args .i) (c .before .before .before .before .before .before .before .before .before .before .before .before .before .before .before .before .before .before .row-word .result) (c .before .before .before .before .before .before .before .before .before .before .before .before .before .before .before .before .before .before .row-word .ensures .0) in
     let one = rw subject at (c .before .before .before .before .before .before .before .before .before .before .before .before .before .before .before .before .put-part .ensures) in
-    let predicate = predicate-word (entry .args .rows .now) (entry .args .i) (c .before .before .before .before .before .before .before .before .before .before .before .before .before .word2 .result) (c .before .before .before .before .before .before .before .before .before .before .before .before .before .word2 .ensures .0) in
+    let predicate = predicate-word (entry .args .rows .now) (entry .args .i) (c .before .before .before .before .before .before .before .before .before .before .before .before .before .row-word2 .result) (c .before .before .before .before .before .before .before .before .before .before .before .before .before .row-word2 .ensures .0) in
     let two = rw predicate at (c .before .before .before .before .before .before .before .before .before .before .before .put-part2 .ensures) in
-    let object = object-word (entry .args .rows .now) (entry .args .i) (c .before .before .before .before .before .before .before .before .word3 .result) (c .before .before .before .before .before .before .before .before .word3 .ensures .0) in
+    let object = object-word (entry .args .rows .now) (entry .args .i) (c .before .before .before .before .before .before .before .before .row-word3 .result) (c .before .before .before .before .before .before .before .before .row-word3 .ensures .0) in
     let three = rw object at (c .before .before .before .before .before .before .put-term .ensures) in
     rw (triple-parts tables row) (both one (both two (both three (c .before .before .put-two .ensures))))
 
@@ -86,13 +71,12 @@ pub put-triple-spec : {M : Type 1} → statement M
 put-triple-spec =
     tie.close
     (tie.spec
-    add-n
-    word-requires
+    (λ c κs. search needs)
     put-part-requires
-    word-requires-2
+    (λ c κs. search needs)
     put-part-requires-2
-    word-requires-3
+    (λ c κs. search needs)
     put-term-requires
     put-two-requires
-    same-length
+    (λ c. search needs)
     returns)
