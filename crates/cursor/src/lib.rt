@@ -38,7 +38,7 @@ fn kind_there(kind: usize, at: usize, size: usize) -> usize
     Kind::END
 }
 
-// Goes to the first token from a place on. No prefixed name begins within the `zeroing` bytes behind that place.
+// Goes to the first token from a place on. No prefixed name begins within the `clear` bytes behind that place.
 pub fn seek(doc: &[u8], st: &mut [usize; Layout::WORDS], at: usize, clear: usize)
     requires { ⌜ ((length (now doc) ≤ document-limit) × (at ≤ length (now doc))) × ((first-bad (drop at (now doc)) ≡ none) × (Clear (drop at (now doc)) clear × (length (now st) ≡ words-size))) ⌝ }
     ensures { λ _. ⌜ Sought (now (doc .entry)) at (now (st .entry)) (now (st .exit)) ⌝ }

@@ -110,7 +110,7 @@ fn known(t: Token, clear: usize) -> Next
 }
 
 // The token at the front, the longest that the terminals match there; kind and length are 0 where none can be read.
-// No prefixed name begins within the first `zeroing` bytes (0 says nothing), nor within the `zeroing` bytes after the token.
+// No prefixed name begins within the first `clear` bytes (0 says nothing), nor within the `clear` bytes after the token.
 pub fn next_token(s: &[u8], clear: usize) -> Next
     ensures { λ r. ⌜ NextAt (now (s .entry)) clear r ⌝ }
 {

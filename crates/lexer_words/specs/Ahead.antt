@@ -33,7 +33,7 @@ pub record Clear (s : Text) (n : ℕ) : Type 0 where
 abbrev pub next : ℕ → ℕ → ℕ → Next
 next k n clear = record { kind = k; len = n; clear = clear }
 
--- The token at the front of s, where its first `zeroing` bytes begin no prefixed name, and how far none begins in what follows.
+-- The token at the front of s, where its first `clear` bytes begin no prefixed name, and how far none begins in what follows.
 -- Where nothing is known ahead, also the token before a bad sequence, as `TokenAt` has it; `Clear` says nothing of such a text.
 pub record NextAt (s : Text) (clear : ℕ) (r : Next) : Type 0 where
   pub within : r .len ≤ length s

@@ -1,5 +1,5 @@
 // Prefixed names and keywords. A word needs no end: `atrue` is two keywords, and `true.x:y` is one name, so the run of
-// characters after a keyword is followed to see whether a colon comes. `zeroing` says how far that was done before.
+// characters after a keyword is followed to see whether a colon comes. `clear` says how far that was done before.
 ghost use mathlib.Core.Path.{_≡_};
 ghost use mathlib.Core.Bool.{false};
 ghost use mathlib.Core.Logic.{_⊎_};
