@@ -1,9 +1,7 @@
 -- The long form: "One line a row, LF after each."
 use mathlib.Core.List.{[], _∷_, _++_}
-use mathlib.Core.Bool.{not}
 use Prim.Native.Nat.{ℕ, zero, suc, _+_, _/_, _%_}
 use lib.Dec.{eqb, ltb}
-use lib.ListN.{length, drop}
 use Rattle.text.specs.Text.{Text, ascii, cond, is, same-text}
 use Rattle.token.specs.Tokens.{computing as token-computing}
 use Rattle.iri.specs.Iri.{forbidden}
@@ -13,6 +11,7 @@ use Rattle.table.specs.Layout.{Row, row-words, row-at, entry-words, entr
 use Rattle.table.specs.Tables.{same-blank, same-term, number-from, number, term-at, words-from, terms-words, store-bytes, store-size, rows-words, quads}
 use Rattle.table.specs.Usable.{each, is-match, is-tag, for-long-form, the, text, tag, has-kind, counts-fit, good-term, good-row, usable, quads-from, quads-held}
 use Rattle.table.specs.TermText.{shows, term-text}
+pub use Rattle.table.specs.Written.{Written, written}
 
 -- A 32-bit number in decimal digits: at most ten.
 unfoldable pub digits : ℕ → ℕ → Text
@@ -74,21 +73,10 @@ module _ (s : Slices) where
   unfoldable pub long-form : Text
   long-form = lines-from 0 (s .row-count)
 
--- ---- The writer's answer: its number, the length written, and what the output buffer then holds
+-- ---- The writer's answer: 18, then 17
 
-pub record Written : Type 0 where
-  pub number : ℕ
-  pub position : ℕ
-  pub output : Text
-
--- "The writer returns 18 first .. Then 17. Both leave the output buffer unchanged. On 0 its position is the length written, and the bytes past it stay."
 unfoldable pub write : Slices → Text → Written
-write s out =
-    let form = long-form s in
-    let fits : Written = record { number = 0; position = length form; output = form ++ drop (length form) out } in
-    let full : Written = record { number = 17; position = 0; output = out } in
-    let bad : Written = record { number = 18; position = 0; output = out } in
-    cond (not (usable for-long-form s)) bad (cond (ltb (length out) (length form)) full fits)
+write s out = written 17 (usable for-long-form s) (long-form s) out
 
 -- All that computes here; an example that is checked by evaluation names it.
 unfoldable pub computing : ℕ

@@ -1,6 +1,6 @@
 -- Comparing eight bytes at once.
 use mathlib.Core.Path.{_≡_, sym, ap, _∙_}
-use mathlib.Core.Bool.{false}
+use mathlib.Core.Bool.{Bool, false}
 use Prim.Native.Nat.{ℕ, _+_, _*_, _-_, _<_, _≤_}
 use native.Mathlib.Omega.{arith}
 use lib.ListN.{length, getD, drop}
@@ -22,31 +22,45 @@ four-small s i b = omega (arith, b i, b (i + 1), b (i + 2), b (i + 3))
 low : (a b x y : ℕ) → a < 256 → b < 256 → a + 256 * x ≡ b + 256 * y → (b ≡ a) × (x ≡ y)
 low a b x y h g e = (omega arith, omega arith)
 
-module _ (s t : Text) (bs : Bytes s) (bt : Bytes t) where
-  -- The same four bytes, from i on.
-  pub four-more : (i : ℕ) → i + 4 ≤ length s → i + 4 ≤ length t → four-at s i ≡ four-at t i → same-text (drop i s) (drop i t) ≡ same-text (drop (i + 4) s) (drop (i + 4) t)
+-- A comparison that goes on behind a byte that both texts have.
+abbrev pub GoesOn : (Text → Text → Bool) → Text → Text → Type 0
+GoesOn f s t = (i : ℕ) → i < length s → i < length t → getD t i 0 ≡ getD s i 0 → f (drop i s) (drop i t) ≡ f (drop (i + 1) s) (drop (i + 1) t)
+
+-- It goes on behind four, and behind eight.
+module _ (f : Text → Text → Bool) (s t : Text) (bs : Bytes s) (bt : Bytes t) (on : GoesOn f s t) where
+  four-on : (i : ℕ) → i + 4 ≤ length s → i + 4 ≤ length t → four-at s i ≡ four-at t i → f (drop i s) (drop i t) ≡ f (drop (i + 4) s) (drop (i + 4) t)
   unfolding four-at
-  four-more i h g e =
+  four-on i h g e =
       let (p, r) = low (getD s i 0) (getD t i 0) (getD s (i + 1) 0 + 256 * (getD s (i + 2) 0 + 256 * getD s (i + 3) 0)) (getD t (i + 1) 0 + 256 * (getD t (i + 2) 0 + 256 * getD t (i + 3) 0)) (bs i) (bt i) (omega (arith, e)) in
       let (q, u) = low (getD s (i + 1) 0) (getD t (i + 1) 0) (getD s (i + 2) 0 + 256 * getD s (i + 3) 0) (getD t (i + 2) 0 + 256 * getD t (i + 3) 0) (bs (i + 1)) (bt (i + 1)) r in
       let (v, w) = low (getD s (i + 2) 0) (getD t (i + 2) 0) (getD s (i + 3) 0) (getD t (i + 3) 0) (bs (i + 2)) (bt (i + 2)) u in
-      same-more s t i i (omega arith) (omega arith) p
-      ∙ (same-more s t (i + 1) (i + 1) (omega arith) (omega arith) q
+      on i (omega arith) (omega arith) p
+      ∙ (on (i + 1) (omega arith) (omega arith) q
       ∙ (next (i + 1) (i + 2) (omega arith)
-      ∙ (same-more s t (i + 2) (i + 2) (omega arith) (omega arith) v
+      ∙ (on (i + 2) (omega arith) (omega arith) v
       ∙ (next (i + 2) (i + 3) (omega arith)
-      ∙ (same-more s t (i + 3) (i + 3) (omega arith) (omega arith) (sym w) ∙ next (i + 3) (i + 4) (omega arith))))))
+      ∙ (on (i + 3) (omega arith) (omega arith) (sym w) ∙ next (i + 3) (i + 4) (omega arith))))))
     where
-      next : (j k : ℕ) → j + 1 ≡ k → same-text (drop (j + 1) s) (drop (j + 1) t) ≡ same-text (drop k s) (drop k t)
-      next j k e = ap (λ (n : ℕ). same-text (drop n s) (drop n t)) e
+      next : (j k : ℕ) → j + 1 ≡ k → f (drop (j + 1) s) (drop (j + 1) t) ≡ f (drop k s) (drop k t)
+      next j k e = ap (λ (n : ℕ). f (drop n s) (drop n t)) e
 
-  pub eight-more : (i : ℕ) → i + 8 ≤ length s → i + 8 ≤ length t → eight-at s i ≡ eight-at t i → same-text (drop i s) (drop i t) ≡ same-text (drop (i + 8) s) (drop (i + 8) t)
-  eight-more i h g e =
+  pub eight-on : (i : ℕ) → i + 8 ≤ length s → i + 8 ≤ length t → eight-at s i ≡ eight-at t i → f (drop i s) (drop i t) ≡ f (drop (i + 8) s) (drop (i + 8) t)
+  eight-on i h g e =
       let a = four-small s i bs in
       let b = four-small t i bt in
-      four-more i (omega arith) (omega arith) (omega (arith, e, a, b))
-      ∙ (four-more (i + 4) (omega arith) (omega arith) (omega (arith, e, a, b))
-      ∙ ap (λ (n : ℕ). same-text (drop n s) (drop n t)) (let z : i + 4 + 4 ≡ i + 8 = omega arith in z))
+      four-on i (omega arith) (omega arith) (omega (arith, e, a, b))
+      ∙ (four-on (i + 4) (omega arith) (omega arith) (omega (arith, e, a, b))
+      ∙ ap (λ (n : ℕ). f (drop n s) (drop n t)) (let z : i + 4 + 4 ≡ i + 8 = omega arith in z))
+
+module _ (s t : Text) (bs : Bytes s) (bt : Bytes t) where
+  same-on : GoesOn same-text s t
+  same-on i h g e = same-more s t i i h g e
+
+  pub four-more : (i : ℕ) → i + 4 ≤ length s → i + 4 ≤ length t → four-at s i ≡ four-at t i → same-text (drop i s) (drop i t) ≡ same-text (drop (i + 4) s) (drop (i + 4) t)
+  four-more = four-on same-text s t bs bt same-on
+
+  pub eight-more : (i : ℕ) → i + 8 ≤ length s → i + 8 ≤ length t → eight-at s i ≡ eight-at t i → same-text (drop i s) (drop i t) ≡ same-text (drop (i + 8) s) (drop (i + 8) t)
+  eight-more = eight-on same-text s t bs bt same-on
 
 pub four-drop : (s : Text) (i j : ℕ) → four-at (drop i s) j ≡ four-at s (i + j)
 unfolding four-at

@@ -1,10 +1,11 @@
-// Texts: comparing and copying.
+// Texts: comparing, their order, copying.
 ghost use mathlib.Core.Path.{_≡_};
 ghost use mathlib.Core.Bool.{true};
 ghost use mathlib.Core.Logic.{_⊎_};
 ghost use Prim.Native.Nat.{_+_, _≤_, _<_};
 ghost use lib.ListN.{length, drop};
 ghost use Rattle.text.specs.Text.{same-text, begins, some-byte};
+ghost use Rattle.text.specs.Order.{smaller};
 ghost use Rattle.text.specs.Slice.{over, laid};
 ghost use Rattle.text.specs.Words.{four-at, eight-at};
 ghost use Rattle.text.specs.Runs.{byte, four, high, free, next-at};
@@ -143,6 +144,42 @@ fn least(a: usize, b: usize) -> usize
         return a;
     }
     b
+}
+
+// Whether a text comes before another in the order of their bytes, from a place on.
+fn smaller_from(s: &[u8], t: &[u8], at: usize) -> bool
+    requires { ⌜ at ≤ length (now s) ⌝ }
+    ensures { λ r. ⌜ r ≡ smaller (drop at (now (s .entry))) (drop at (now (t .entry))) ⌝ }
+{
+    let mut i = at;
+    while i < s.len() {
+        if t.len() <= i {
+            return false;
+        }
+        if s[i] < t[i] {
+            return true;
+        }
+        if t[i] < s[i] {
+            return false;
+        }
+        i += 1;
+    }
+    i < t.len()
+}
+
+// Whether a text comes before another in the order of their bytes: eight at a time, as far as they are the same.
+pub fn smaller(s: &[u8], t: &[u8]) -> bool
+    ensures { λ r. ⌜ r ≡ smaller (now (s .entry)) (now (t .entry)) ⌝ }
+{
+    let n = least(s.len(), t.len());
+    let mut i: usize = 0;
+    while 8 <= n - i {
+        if eight(s, i) != eight(t, i) {
+            return smaller_from(s, t, i);
+        }
+        i += 8;
+    }
+    smaller_from(s, t, i)
 }
 
 // Writes the text over the front of a slice, as far as it goes: eight bytes at a time, the last of them up to the end.

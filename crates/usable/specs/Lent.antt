@@ -1,9 +1,9 @@
 -- Tables as a routine is lent them, and what it asks of them.
 use mathlib.Core.List.{List, []}
 use mathlib.Core.Bool.{Bool, _&&_, _||_}
-use Prim.Native.Nat.{ℕ, _+_, _*_, _≤_}
+use Prim.Native.Nat.{ℕ, pred, _+_, _*_, _≤_}
 use lib.Dec.{eqb}
-use lib.ListN.{length}
+use lib.ListN.{length, getD}
 use Rattle.text.specs.Text.{Text, is-none}
 use Rattle.utf8.specs.Utf8.{first-bad}
 use Rattle.table.specs.Layout.{Slices, row-size, term-size, iri-kind, blank-kind, literal-kind, tagged-kind, row-at}
@@ -23,6 +23,10 @@ Stands terms n = (1 ≤ n) × (term-size * n ≤ length terms)
 
 abbrev pub RowStands : List ℕ → ℕ → Type 0
 RowStands rows i = row-size * (i + 1) ≤ length rows
+
+-- The word k of the term n.
+abbrev pub word-of : List ℕ → ℕ → ℕ → ℕ
+word-of terms n k = getD terms (term-size * pred n + k) 0
 
 -- The two halves of a term's test.
 abbrev pub readable : Slices → ℕ → Bool

@@ -3,7 +3,7 @@ ghost use mathlib.Core.Path.{_≡_};
 ghost use Prim.Native.Nat.{pred, _+_, _*_, _≤_, _<_};
 ghost use lib.ListN.{length, getD};
 ghost use Rattle.table.specs.Layout.{row-size, term-size, span, word-limit};
-ghost use Rattle.usable.specs.Lent.{Stands, RowStands};
+ghost use Rattle.usable.specs.Lent.{Stands, RowStands, word-of};
 use table::Layout;
 
 // The word k of the term n, from 1 on.
@@ -29,4 +29,14 @@ pub fn part(store: &[u8], start: usize, size: usize) -> &[u8]
 {
     let end = start + size;
     &store[start..end]
+}
+
+// The part of the store whose start is the word k of a term, and whose size the word behind it: its text, or its tag.
+pub fn span_of<'a>(terms: &[u32], store: &'a [u8], n: usize, k: usize) -> &'a [u8]
+    requires { ⌜ Stands (now terms) n × ((k + 1 < term-size) × (word-of (now terms) n k + word-of (now terms) n (k + 1) ≤ length (now store))) ⌝ }
+    ensures { λ r. ⌜ now r ≡ span (now (store .entry)) (word-of (now (terms .entry)) n k) (word-of (now (terms .entry)) n (k + 1)) ⌝ }
+{
+    let start = term_word(terms, n, k);
+    let size = term_word(terms, n, k + 1);
+    part(store, start, size)
 }

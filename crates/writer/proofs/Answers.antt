@@ -1,23 +1,21 @@
 -- The answer is that of the definition, by what was found.
-use mathlib.Core.Path.{_≡_, refl}
+use mathlib.Core.Path.{_≡_, refl, _∙_}
 use mathlib.Core.Bool.{true, false}
 use Prim.Native.Nat.{ℕ, zero, suc, _^_, _<_}
 use native.Mathlib.Nat.{zero-add}
 use native.Mathlib.Omega.{arith}
-use borrow.Author.Tests.{leb-true, leb-false, lt-ltb, le-ltb}
+use borrow.Author.Tests.{leb-true}
 use lib.Dec.{leb}
 use lib.ListN.{length}
 use Rattle.text.specs.Text.{Text}
 use Rattle.text.specs.Slice.{over-at}
-use Rattle.text.proofs.Over.{over-fits}
+use Rattle.table.proofs.Written as told
+use Rattle.table.proofs.Written.{answered}
 use Rattle.table.specs.Layout.{Slices, row-at}
 use Rattle.table.specs.Usable.{for-long-form, usable}
-use Rattle.table.specs.LongForm.{Written, term-form, triple-form, line, lines-from, long-form, write}
+use Rattle.table.specs.LongForm.{term-form, triple-form, line, lines-from, long-form, write}
 use Rattle.writer.specs.Writing.{Countable, Wrote}
 use Rattle.writer.specs.Drawn.{drawn}
-
-abbrev written : ℕ → ℕ → Text → Written
-written k n out = record { number = k; position = n; output = out }
 
 module _ (s : Slices) where
   abbrev tables : Slices
@@ -37,22 +35,22 @@ module _ (s : Slices) where
   unfolding long-form
   form = lines-drawn 0 (s .row-count)
 
-  pub not-usable : (x : Text) → usable for-long-form s ≡ false → written 18 0 x ≡ write s x
-  unfolding write
-  not-usable x e = rw e
-
-  module _ (x : Text) (e : usable for-long-form s ≡ true) where
-    pub too-long : leb (length (lines-from tables 0 (s .row-count))) (length x) ≡ false → written 17 0 x ≡ write s x
+  module _ (x : Text) where
+    pub not-usable : usable for-long-form s ≡ false → answered 18 0 x ≡ write s x
     unfolding write
-    too-long f = rw (e, form, lt-ltb (length x) (length (lines-from tables 0 (s .row-count))) (leb-false _ _ f))
+    not-usable e = told.not-usable 17 (usable for-long-form s) (long-form s) x e
 
-    module _ (f : leb (length (lines-from tables 0 (s .row-count))) (length x) ≡ true) where
-      pub lines-room : length x < 2 ^ 64 → Countable 0 (lines-from tables 0 (s .row-count))
-      lines-room l = record { fits = omega (arith, leb-true (length (lines-from tables 0 (s .row-count))) (length x) f) }
+    module _ (e : usable for-long-form s ≡ true) where
+      pub too-long : leb (length (lines-from tables 0 (s .row-count))) (length x) ≡ false → answered 17 0 x ≡ write s x
+      unfolding write
+      too-long f = rw form (told.too-long 17 (usable for-long-form s) (lines-from tables 0 (s .row-count)) x e f)
 
-      pub written-whole : {y : Text} {r : ℕ} → Wrote 0 (lines-from tables 0 (s .row-count)) x y r → written 0 r y ≡ write s x
-      unfolding write over-at
-      written-whole w =
-          let t = lines-from tables 0 (s .row-count) in
-          let l = leb-true (length t) (length x) f in
-          rw (e, form, le-ltb (length x) (length t) l, w .end, w .out, zero-add (length t), over-fits t x l)
+      module _ (f : leb (length (lines-from tables 0 (s .row-count))) (length x) ≡ true) where
+        pub lines-room : length x < 2 ^ 64 → Countable 0 (lines-from tables 0 (s .row-count))
+        lines-room l = record { fits = omega (arith, leb-true (length (lines-from tables 0 (s .row-count))) (length x) f) }
+
+        pub written-whole : {y : Text} {r : ℕ} → Wrote 0 (lines-from tables 0 (s .row-count)) x y r → answered 0 r y ≡ write s x
+        unfolding write over-at
+        written-whole {y} {r} w =
+            let t = lines-from tables 0 (s .row-count) in
+            rw form (told.whole 17 (usable for-long-form s) t x e f r y (w .end ∙ zero-add (length t)) (w .out))

@@ -15,7 +15,8 @@ use Rattle.table.specs.Layout.{Row, Slices, row-at, iri-kind, blank-kind, liter
 use Rattle.table.specs.Usable.{Takes, the, text, inside, has-kind, good-iri, good-datatype, good-tag, tag, good-term, good-row, present, resource, usable}
 use Rattle.table.specs.LongForm.{string-form, type-form, term-form, triple-form, line}
 use Rattle.usable.specs.Lent.{Stands, SpanIn, readable, right-kind}
-use Rattle.usable.proofs.Facts.{usable-fits, usable-term, usable-row}
+use Rattle.usable.proofs.Facts.{usable-fits, usable-row}
+use Rattle.usable.proofs.Standing.{third, fourth, bounds, stands, kind-good, text-within, text-stands, object-in, predicate-in, subject-in, graph-in}
 use Rattle.writer.specs.Drawn.{Writable, Ready, Short, bare, drawn, tag-form, literal-form}
 use Rattle.writer.proofs.Bounds.{span-bound, iri-form-bound, string-form-bound, type-form-bound, digits-bound}
 use Rattle.writer.proofs.Pieces.{term-iri, term-blank, term-literal, literal-typed, literal-tagged}
@@ -24,67 +25,36 @@ use Rattle.writer.proofs.RowForms.{triple-parts, line-default, line-gra
 between-in : (lo hi c : ℕ) → lo ≤ c → c ≤ hi → between lo hi c ≡ true
 between-in lo hi c h k = rw (le-leb lo c h, le-leb c hi k)
 
--- A test by kind holds: what it says of the kinds 3 and 4.
-module _ (k : ℕ) (a b c : Bool) (t : ((eqb k iri-kind && a) || eqb k blank-kind || (eqb k literal-kind && b) || (eqb k tagged-kind && c)) ≡ true) where
-  third : k ≡ literal-kind → b ≡ true
-  third h = by b (λ e. e) (λ e. contrary (sym (rw (h, e) at t)))
-
-  fourth : (k ≡ iri-kind → ⊥) → (k ≡ blank-kind → ⊥) → (k ≡ literal-kind → ⊥) → c ≡ true
-  fourth h i j = and-right (eqb k tagged-kind) c (rw (ne-eqb k iri-kind h, ne-eqb k blank-kind i, ne-eqb k literal-kind j) at t)
-
 module _ (w : Takes) (s : Slices) (e : usable w s ≡ true) where
   -- ---- Terms
 
   module _ (n : ℕ) (p : present s n ≡ true) where
-    bounds : (1 ≤ n) × (n ≤ s .term-count)
-    bounds = between-true 1 (s .term-count) n p
-
-    stands : Stands (s .terms) n
-    stands = let f = usable-fits w s e .terms in let b = bounds .0 in let c = bounds .1 in (b, omega arith)
-
-    good : good-term w s n ≡ true
-    good = usable-term w s e n (bounds .0) (bounds .1)
-
-    text-good : readable s n ≡ true
-    unfolding good-term
-    text-good = and-left (readable s n) (right-kind w s n) good
-
-    kind-good : right-kind w s n ≡ true
-    unfolding good-term
-    kind-good = and-right (readable s n) (right-kind w s n) good
-
-    text-within : the s n .start + the s n .size ≤ s .store-count
-    text-within = leb-true (the s n .start + the s n .size) (s .store-count) (and-left (inside s (the s n .start) (the s n .size)) (is-none (first-bad (text s n))) text-good)
-
-    text-stands : SpanIn s n
-    text-stands = let f = usable-fits w s e .store in let t = text-within in omega arith
-
     text-size : length (text s n) ≤ s .store-count
-    text-size = let t = text-within in let b = span-bound (s .store) (the s n .start) (the s n .size) in omega arith
+    text-size = let t = text-within w s e n p in let b = span-bound (s .store) (the s n .start) (the s n .size) in omega arith
 
     typed : the s n .kind ≡ literal-kind → present s (the s n .fourth) ≡ true
     typed k =
         let d = the s n .fourth in
-        let t = third (the s n .kind) (good-iri w s n) (good-datatype s n) (good-tag w s n) kind-good k in
+        let t = third (the s n .kind) (good-iri w s n) (good-datatype s n) (good-tag w s n) (kind-good w s e n p) k in
         let u = and-left (leb 1 d && ltb d n) (has-kind s iri-kind d) t in
         let l = leb-true 1 d (and-left (leb 1 d) (ltb d n) u) in
         let m = ltb-true d n (and-right (leb 1 d) (ltb d n) u) in
-        let b = bounds .1 in
+        let b = bounds w s e n p .1 in
         between-in 1 (s .term-count) d l (omega arith)
 
     tagged : (the s n .kind ≡ iri-kind → ⊥) → (the s n .kind ≡ blank-kind → ⊥) → (the s n .kind ≡ literal-kind → ⊥) → the s n .fourth + the s n .fifth ≤ s .store-count
     tagged i b l =
         leb-true (the s n .fourth + the s n .fifth) (s .store-count)
         (and-left (inside s (the s n .fourth) (the s n .fifth)) (w .tag (tag s n))
-        (fourth (the s n .kind) (good-iri w s n) (good-datatype s n) (good-tag w s n) kind-good i b l))
+        (fourth (the s n .kind) (good-iri w s n) (good-datatype s n) (good-tag w s n) (kind-good w s e n p) i b l))
 
   module _ (n : ℕ) (p : present s n ≡ true) where
     writable : Writable (bare s) n
     writable = record {
-      stands = stands n p;
-      text-in = text-stands n p;
-      type-stands = λ k. stands (the s n .fourth) (typed n p k);
-      type-in = λ k. text-stands (the s n .fourth) (typed n p k);
+      stands = stands w s e n p;
+      text-in = text-stands w s e n p;
+      type-stands = λ k. stands w s e (the s n .fourth) (typed n p k);
+      type-in = λ k. text-stands w s e (the s n .fourth) (typed n p k);
       tag-in = λ i b l. let f = usable-fits w s e .store in let t = tagged n p i b l in omega arith;
     }
 
@@ -121,39 +91,7 @@ module _ (w : Takes) (s : Slices) (e : usable w s ≡ true) where
 
   -- ---- Rows
 
-  resource-in : (n : ℕ) → resource s n ≡ true → present s n ≡ true
-  resource-in n t = and-left (present s n) (has-kind s iri-kind n || has-kind s blank-kind n) t
-
   module _ (r : Row) (t : good-row s r ≡ true) where
-    labelled : Bool
-    labelled = eqb (r .graph) 0 || resource s (r .graph)
-
-    subjected : Bool
-    subjected = resource s (r .subject)
-
-    predicated : Bool
-    predicated = present s (r .predicate) && has-kind s iri-kind (r .predicate)
-
-    triple-good : (labelled && subjected && predicated) ≡ true
-    unfolding good-row labelled subjected predicated
-    triple-good = and-left (labelled && subjected && predicated) (present s (r .object)) t
-
-    object-in : present s (r .object) ≡ true
-    unfolding good-row labelled subjected predicated
-    object-in = and-right (labelled && subjected && predicated) (present s (r .object)) t
-
-    predicate-in : present s (r .predicate) ≡ true
-    unfolding predicated
-    predicate-in = and-left (present s (r .predicate)) (has-kind s iri-kind (r .predicate)) (and-right (labelled && subjected) predicated triple-good)
-
-    subject-in : present s (r .subject) ≡ true
-    unfolding subjected
-    subject-in = resource-in (r .subject) (and-right labelled subjected (and-left (labelled && subjected) predicated triple-good))
-
-    graph-in : (r .graph ≡ 0 → ⊥) → present s (r .graph) ≡ true
-    unfolding labelled
-    graph-in n = resource-in (r .graph) (rw (ne-eqb (r .graph) 0 n) at (and-left labelled subjected (and-left (labelled && subjected) predicated triple-good)))
-
     abbrev tables : Slices
     tables = drawn (s .rows) (s .terms) (s .store)
 
@@ -162,9 +100,9 @@ module _ (w : Takes) (s : Slices) (e : usable w s ≡ true) where
         let a = term-form (bare s) (r .subject) in
         let b = term-form (bare s) (r .predicate) in
         let c = term-form (bare s) (r .object) in
-        let u = term-bound (r .subject) subject-in in
-        let v = term-bound (r .predicate) predicate-in in
-        let x = term-bound (r .object) object-in in
+        let u = term-bound (r .subject) (subject-in s r t) in
+        let v = term-bound (r .predicate) (predicate-in s r t) in
+        let x = term-bound (r .object) (object-in s r t) in
         let f = length-append a (ascii " ") in
         let g = length-append b (ascii " ") in
         let k = length-append c (ascii " .") in
@@ -183,7 +121,7 @@ module _ (w : Takes) (s : Slices) (e : usable w s ≡ true) where
         let n = eqb-false (r .graph) 0 q in
         let g = term-form (bare s) (r .graph) in
         let x = triple-form tables r ++ ascii " }\n" in
-        let u = term-bound (r .graph) (graph-in n) in
+        let u = term-bound (r .graph) (graph-in s r t n) in
         let b = triple-bound in
         let f = length-append (triple-form tables r) (ascii " }\n") in
         let k = length-append g (ascii " ") in
@@ -196,10 +134,10 @@ module _ (w : Takes) (s : Slices) (e : usable w s ≡ true) where
       let t = usable-row w s e i h in
       record {
         stands = let f = usable-fits w s e .rows in omega arith;
-        graph = λ n. writable (r .graph) (graph-in r t n);
-        subject = writable (r .subject) (subject-in r t);
-        predicate = writable (r .predicate) (predicate-in r t);
-        object = writable (r .object) (object-in r t);
+        graph = λ n. writable (r .graph) (graph-in s r t n);
+        subject = writable (r .subject) (subject-in s r t);
+        predicate = writable (r .predicate) (predicate-in s r t);
+        object = writable (r .object) (object-in s r t);
       }
 
   pub short : s .store-count < 2 ^ 32 → Short (drawn (s .rows) (s .terms) (s .store)) (s .row-count)

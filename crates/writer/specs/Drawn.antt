@@ -1,10 +1,10 @@
 -- The pieces of a line, as the routines write them, and what tables must have for it.
 use mathlib.Core.Path.{_≡_}
 use mathlib.Core.List.{List, _++_}
-use Prim.Native.Nat.{ℕ, _+_, _≤_, _<_, pred, _*_}
-use lib.ListN.{length, getD}
+use Prim.Native.Nat.{ℕ, _+_, _≤_, _<_}
+use lib.ListN.{length}
 use Rattle.text.specs.Text.{Text, ascii, cond}
-use Rattle.table.specs.Layout.{Slices, term-size, iri-kind, blank-kind, literal-kind, row-at}
+use Rattle.table.specs.Layout.{Slices, iri-kind, blank-kind, literal-kind, row-at}
 use Rattle.table.specs.Usable.{the, text, tag, has-kind}
 use Rattle.table.specs.LongForm.{decimal, string-form, type-form, term-form, line}
 use Rattle.writer.specs.Writing.{Countable}
@@ -20,10 +20,6 @@ unfoldable pub literal-form : Slices → ℕ → Text
 literal-form s n =
     string-form (text s n)
     ++ cond (has-kind s literal-kind n) (type-form (text s (the s n .fourth))) (tag-form (tag s n))
-
--- The word k of the term n.
-abbrev pub word-of : List ℕ → ℕ → ℕ → ℕ
-word-of terms n k = getD terms (term-size * pred n + k) 0
 
 -- A term that can be written: its spans, and those of its datatype, lie in the store.
 pub record Writable (s : Slices) (n : ℕ) : Type 0 where

@@ -4,11 +4,10 @@ ghost use Prim.Native.Nat.{_+_, _≤_, _<_};
 ghost use lib.ListN.{length};
 ghost use Rattle.text.specs.Text.{same-text};
 ghost use Rattle.dataset.specs.Terms.{xsd-string};
-ghost use Rattle.table.specs.Layout.{term-size, span};
 ghost use Rattle.table.specs.LongForm.{type-form, term-form};
-ghost use Rattle.usable.specs.Lent.{Stands, lent};
+ghost use Rattle.usable.specs.Lent.{lent};
 ghost use Rattle.writer.specs.Writing.{Countable, Wrote};
-ghost use Rattle.writer.specs.Drawn.{word-of, Writable, NoResource, blank-form, tag-form, literal-form};
+ghost use Rattle.writer.specs.Drawn.{Writable, NoResource, blank-form, tag-form, literal-form};
 use crate::bytes::Rule;
 use crate::bytes::put;
 use crate::bytes::put_digits;
@@ -19,7 +18,7 @@ use crate::bytes::put_three;
 use crate::bytes::put_two;
 use table::TermKind;
 use table::TermWord;
-use usable::fields::part;
+use usable::fields::span_of;
 use usable::fields::term_word;
 
 // Whether the text is the datatype that is not written.
@@ -57,16 +56,6 @@ fn put_blank(number: usize, out: &mut [u8], at: usize) -> usize
 {
     let next = put_three(out, at, b'_', b':', b'b');
     put_digits(10, number, out, next)
-}
-
-// The part of the store whose start is the word k of a term, and whose size the word behind it: its text, or its tag.
-fn span_of<'a>(terms: &[u32], store: &'a [u8], n: usize, k: usize) -> &'a [u8]
-    requires { ⌜ Stands (now terms) n × ((k + 1 < term-size) × (word-of (now terms) n k + word-of (now terms) n (k + 1) ≤ length (now store))) ⌝ }
-    ensures { λ r. ⌜ now r ≡ span (now (store .entry)) (word-of (now (terms .entry)) n k) (word-of (now (terms .entry)) n (k + 1)) ⌝ }
-{
-    let start = term_word(terms, n, k);
-    let size = term_word(terms, n, k + 1);
-    part(store, start, size)
 }
 
 // Writes a literal: its text, and its datatype or its tag.

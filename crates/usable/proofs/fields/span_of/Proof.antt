@@ -1,7 +1,7 @@
 use borrow.Author.Needs.{needs}
 use mathlib.Core.Path.{_∙_}
-use Rattle.writer.proofs.forms.span_of.Statement.{statement}
-use Rattle.writer.proofs.forms.span_of.Tie as tie
+use Rattle.usable.proofs.fields.span_of.Statement.{statement}
+use Rattle.usable.proofs.fields.span_of.Tie as tie
 
 part-requires : tie.Need-part-requires
 part-requires c κs =
