@@ -40,7 +40,7 @@ pub fn examine(subject: &Subject, seed: u64, every_room: bool, tally: &mut Tally
     if every_room {
         examiner.every_room(&answer)?;
     }
-    let given = examiner.given(&answer);
+    let given = given(&answer, &mut examiner.random);
     examiner.long_form(&answer, &given)?;
     examiner.texts(&given, answer.terms.len() as u32)?;
     for _ in 0..3 {
@@ -165,25 +165,6 @@ impl Examiner<'_> {
         Ok(())
     }
 
-    /// The tables as a caller would give them, in slices that may be longer.
-    fn given(&mut self, answer: &Answer) -> Given {
-        let more = |length: usize, random: &mut Random| length + random.below(8);
-        let mut rows = answer.rows.concat();
-        let mut terms = answer.terms.concat();
-        let mut store = answer.store.clone();
-        rows.resize(more(rows.len(), &mut self.random), 7);
-        terms.resize(more(terms.len(), &mut self.random), 7);
-        store.resize(more(store.len(), &mut self.random), b'x');
-        Given {
-            rows,
-            row_count: answer.rows.len() as u32,
-            terms,
-            term_count: answer.terms.len() as u32,
-            store,
-            store_count: answer.store.len() as u32,
-        }
-    }
-
     /// Writes by both into a buffer of some length; both answers and all bytes are equal.
     fn write(&mut self, given: &Given, length: usize) -> Result<(Written, Vec<u8>), Difference> {
         let mut theirs = Guarded::new(length, &self.random.next().to_le_bytes());
@@ -253,7 +234,7 @@ impl Examiner<'_> {
     fn damaged(&mut self, given: &Given) -> Result<(), Difference> {
         let mut damaged = given.clone();
         for _ in 0..=self.random.below(2) {
-            self.damage(&mut damaged);
+            damage(&mut self.random, &mut damaged);
         }
         let length = 2 * (long_form_bound(&damaged) + 16);
         let told = |difference: Difference| Difference { call: format!("{} of damaged tables {:?}", difference.call, Shown(&damaged)), ..difference };
@@ -263,36 +244,48 @@ impl Examiner<'_> {
         let number = self.random.below(given.term_count as usize + 2) as u32;
         self.text(&damaged, number).map_err(told)
     }
+}
 
-    fn damage(&mut self, given: &mut Given) {
-        let random = &mut self.random;
-        let near = |random: &mut Random, value: u32| match random.below(8) {
-            0 => random.next() as u32,
-            1 => u32::MAX - random.below(6) as u32,
-            2 => 0,
-            3 => value.wrapping_add(1),
-            4 => value.wrapping_sub(1),
-            _ => random.below(12) as u32,
-        };
-        match random.below(10) {
-            8 => damage_term(random, given),
-            0 => given.row_count = near(random, given.row_count),
-            1 => given.term_count = near(random, given.term_count),
-            2 => given.store_count = near(random, given.store_count),
-            3 | 4 if !given.terms.is_empty() => {
-                let place = random.below(given.terms.len());
-                given.terms[place] = near(random, given.terms[place]);
-            }
-            5 | 6 if !given.rows.is_empty() => {
-                let place = random.below(given.rows.len());
-                given.rows[place] = near(random, given.rows[place]);
-            }
-            _ if !given.store.is_empty() => {
-                let place = random.below(given.store.len());
-                given.store[place] = *random.pick(b"\xff\x80:@a- 1<\"\\\n\0\xc3\xed");
-            }
-            _ => {}
+/// The tables as a caller would give them, in slices that may be longer.
+pub fn given(answer: &Answer, random: &mut Random) -> Given {
+    let more = |length: usize, random: &mut Random| length + random.below(8);
+    let mut rows = answer.rows.concat();
+    let mut terms = answer.terms.concat();
+    let mut store = answer.store.clone();
+    rows.resize(more(rows.len(), random), 7);
+    terms.resize(more(terms.len(), random), 7);
+    store.resize(more(store.len(), random), b'x');
+    Given { rows, row_count: answer.rows.len() as u32, terms, term_count: answer.terms.len() as u32, store, store_count: answer.store.len() as u32 }
+}
+
+/// Changes a count, a word, a byte of the store, or a term.
+pub fn damage(random: &mut Random, given: &mut Given) {
+    let near = |random: &mut Random, value: u32| match random.below(8) {
+        0 => random.next() as u32,
+        1 => u32::MAX - random.below(6) as u32,
+        2 => 0,
+        3 => value.wrapping_add(1),
+        4 => value.wrapping_sub(1),
+        _ => random.below(12) as u32,
+    };
+    match random.below(10) {
+        8 => damage_term(random, given),
+        0 => given.row_count = near(random, given.row_count),
+        1 => given.term_count = near(random, given.term_count),
+        2 => given.store_count = near(random, given.store_count),
+        3 | 4 if !given.terms.is_empty() => {
+            let place = random.below(given.terms.len());
+            given.terms[place] = near(random, given.terms[place]);
         }
+        5 | 6 if !given.rows.is_empty() => {
+            let place = random.below(given.rows.len());
+            given.rows[place] = near(random, given.rows[place]);
+        }
+        _ if !given.store.is_empty() => {
+            let place = random.below(given.store.len());
+            given.store[place] = *random.pick(b"\xff\x80:@a- 1<\"\\\n\0\xc3\xed");
+        }
+        _ => {}
     }
 }
 
@@ -319,8 +312,8 @@ fn damage_term(random: &mut Random, given: &mut Given) {
     }
 }
 
-/// Damaged tables, as they are printed.
-struct Shown<'a>(&'a Given);
+/// Tables, as they are printed.
+pub struct Shown<'a>(pub &'a Given);
 
 impl std::fmt::Debug for Shown<'_> {
     fn fmt(&self, f: &mut std::fmt::Formatter) -> std::fmt::Result {

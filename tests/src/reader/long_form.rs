@@ -5,6 +5,7 @@ use super::lexer;
 use super::tables::{BLANK, IRI, LITERAL, TAGGED};
 use super::utf8;
 use std::ops::Range;
+use std::slice::ChunksExact;
 
 const XSD_STRING: &[u8] = b"http://www.w3.org/2001/XMLSchema#string";
 
@@ -39,14 +40,9 @@ pub fn term_text(given: &Given, number: u32) -> Option<Range<usize>> {
 
 /// The whole long form, or none for 18.
 fn long_form(given: &Given) -> Option<Vec<u8>> {
-    let rows = used(&given.rows, given.row_count)?;
-    let tables = Checked::counts(given)?;
-    for number in 1..=given.term_count {
-        tables.check_term(number)?;
-    }
+    let (tables, rows) = Checked::usable(given)?;
     let mut out = Vec::new();
-    for row in rows.chunks_exact(5) {
-        tables.check_row(row)?;
+    for row in rows {
         tables.line(row, &mut out);
     }
     Some(out)
@@ -66,6 +62,19 @@ struct Checked<'a> {
 impl<'a> Checked<'a> {
     fn counts(given: &'a Given) -> Option<Self> {
         Some(Checked { terms: used(&given.terms, given.term_count)?, store: given.store.get(..given.store_count as usize)? })
+    }
+
+    /// The tables and their rows, or none for 18.
+    fn usable(given: &'a Given) -> Option<(Self, ChunksExact<'a, u32>)> {
+        let rows = used(&given.rows, given.row_count)?.chunks_exact(5);
+        let tables = Checked::counts(given)?;
+        for number in 1..=given.term_count {
+            tables.check_term(number)?;
+        }
+        for row in rows.clone() {
+            tables.check_row(row)?;
+        }
+        Some((tables, rows))
     }
 
     /// A term by its number, from 1 to the count.
