@@ -25,6 +25,13 @@ pub struct Written {
     pub number: u32,
 }
 
+#[repr(C)]
+#[derive(Clone, Copy, Debug, PartialEq, Eq)]
+pub struct Checked {
+    pub number: u32,
+    pub yes: u32,
+}
+
 extern "C" {
     pub fn sycamoot_read(
         document: *const u8,
@@ -65,4 +72,32 @@ extern "C" {
         out: *mut u8,
         out_length: usize,
     ) -> Written;
+
+    pub fn sycamoot_write_index(
+        rows: *const u32,
+        row_words: usize,
+        row_count: u32,
+        terms: *const u32,
+        term_words: usize,
+        term_count: u32,
+        store: *const u8,
+        store_length: usize,
+        store_count: u32,
+        out: *mut u8,
+        out_length: usize,
+    ) -> Written;
+
+    pub fn sycamoot_check_index(
+        rows: *const u32,
+        row_words: usize,
+        row_count: u32,
+        terms: *const u32,
+        term_words: usize,
+        term_count: u32,
+        store: *const u8,
+        store_length: usize,
+        store_count: u32,
+        index: *const u8,
+        index_length: usize,
+    ) -> Checked;
 }

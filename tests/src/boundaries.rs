@@ -1,6 +1,7 @@
 //! `boundaries`: what document 01 has "run and compared", each call with its known answer.
 
 use crate::call::Difference;
+use crate::indexed;
 use crate::known::{accepted, known, Known};
 use crate::limits;
 use crate::readings;
@@ -135,6 +136,10 @@ pub fn run() -> bool {
         ("writer, every length of output", written::lengths()),
         ("writer, characters", written::shown()),
         ("term texts", written::texts()),
+        ("index, 18 and what passes", indexed::changes()),
+        ("index, records", indexed::records()),
+        ("index, every length", indexed::lengths()),
+        ("index, every bit changed", indexed::bits()),
     ];
     let checked = groups.map(|(group, calls)| (group, calls.iter().map(check).collect()));
     let mut all_good = true;

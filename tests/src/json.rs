@@ -5,6 +5,7 @@ use std::collections::HashMap;
 #[derive(Debug)]
 pub enum Value {
     Number(u64),
+    Boolean(bool),
     String(String),
     Array(Vec<Value>),
     Object(HashMap<String, Value>),
@@ -73,9 +74,20 @@ impl Parser<'_> {
             Ok(Value::Array(items))
         } else if self.text.get(self.place) == Some(&b'"') {
             self.string().map(Value::String)
+        } else if self.word(b"true") {
+            Ok(Value::Boolean(true))
+        } else if self.word(b"false") {
+            Ok(Value::Boolean(false))
         } else {
             self.number()
         }
+    }
+
+    /// Skips a word if it stands there.
+    fn word(&mut self, word: &[u8]) -> bool {
+        let found = self.text[self.place..].starts_with(word);
+        self.place += if found { word.len() } else { 0 };
+        found
     }
 
     /// A string without escapes: names and base64 have none.
@@ -111,6 +123,13 @@ impl Value {
         match self {
             Value::Number(n) => usize::try_from(*n).map_err(|e| e.to_string()),
             _ => Err("no number".into()),
+        }
+    }
+
+    pub fn boolean(&self) -> Result<bool, String> {
+        match self {
+            Value::Boolean(b) => Ok(*b),
+            _ => Err("neither true nor false".into()),
         }
     }
 

@@ -7,17 +7,17 @@
 #[path = "../../rust/src/library.rs"]
 mod interface;
 
-pub use interface::{Answer, Text, Written};
+pub use interface::{Answer, Checked, Text, Written};
 
 #[cfg(feature = "library")]
-pub use compiled::{read, term_text, write};
+pub use compiled::{check_index, read, term_text, write, write_index};
 #[cfg(not(feature = "library"))]
-pub use stand_in::{read, term_text, write};
+pub use stand_in::{check_index, read, term_text, write, write_index};
 
 #[cfg(feature = "library")]
 mod compiled {
-    use super::interface::{sycamoot_read, sycamoot_term_text, sycamoot_write};
-    use super::{Answer, Text, Written};
+    use super::interface::{sycamoot_check_index, sycamoot_read, sycamoot_term_text, sycamoot_write, sycamoot_write_index};
+    use super::{Answer, Checked, Text, Written};
     use crate::reader::long_form::Given;
     use crate::reader::read::Lent;
 
@@ -75,11 +75,50 @@ mod compiled {
             )
         }
     }
+
+    pub fn write_index(given: &Given, out: &mut [u8]) -> Written {
+        // SAFETY: as above.
+        unsafe {
+            sycamoot_write_index(
+                given.rows.as_ptr(),
+                given.rows.len(),
+                given.row_count,
+                given.terms.as_ptr(),
+                given.terms.len(),
+                given.term_count,
+                given.store.as_ptr(),
+                given.store.len(),
+                given.store_count,
+                out.as_mut_ptr(),
+                out.len(),
+            )
+        }
+    }
+
+    pub fn check_index(given: &Given, index: &[u8]) -> Checked {
+        // SAFETY: as above.
+        unsafe {
+            sycamoot_check_index(
+                given.rows.as_ptr(),
+                given.rows.len(),
+                given.row_count,
+                given.terms.as_ptr(),
+                given.terms.len(),
+                given.term_count,
+                given.store.as_ptr(),
+                given.store.len(),
+                given.store_count,
+                index.as_ptr(),
+                index.len(),
+            )
+        }
+    }
 }
 
 #[cfg(not(feature = "library"))]
 mod stand_in {
-    use super::{Answer, Text, Written};
+    use super::{Answer, Checked, Text, Written};
+    use crate::reader::index;
     use crate::reader::long_form::{self, Given};
     use crate::reader::read::{self, Lent, Request};
 
@@ -97,6 +136,14 @@ mod stand_in {
 
     pub fn write(given: &Given, out: &mut [u8]) -> Written {
         Written::of(long_form::write(given, out))
+    }
+
+    pub fn write_index(given: &Given, out: &mut [u8]) -> Written {
+        Written::of(index::write(given, out))
+    }
+
+    pub fn check_index(given: &Given, bytes: &[u8]) -> Checked {
+        Checked::of(index::check(given, bytes))
     }
 }
 
@@ -126,5 +173,11 @@ impl Text {
 impl Written {
     pub fn of((number, position): (u32, usize)) -> Self {
         Written { position: position as u64, number }
+    }
+}
+
+impl Checked {
+    pub fn of((number, yes): (u32, bool)) -> Self {
+        Checked { number, yes: u32::from(yes) }
     }
 }

@@ -8,6 +8,8 @@ mod compare;
 mod examine;
 mod exhaustive;
 mod generate;
+mod index;
+mod indexed;
 mod json;
 mod known;
 mod library;
@@ -24,9 +26,11 @@ const USAGE: &str = "\
 evidence cases PATH                                calls with answers (base.jsonl)
 evidence compare --seed N --count N --seconds S    random documents, and documents at the limits
 evidence exhaustive                                all small documents of several kinds, every character
-evidence boundaries                                limits, room, RFC 3986 5.4, readings, bench table, writer
+evidence boundaries                                limits, room, RFC 3986 5.4, readings, bench table, writer, index
 evidence appended --seed N --count N               random documents with text added behind a line feed (C-22)
 evidence appended PATH                             the pairs of C-22.jsonl
+evidence index --seed N --count N                  random tables, their index and its check (C-16)
+evidence index PATH                                the calls of C-16.jsonl
 evidence w3c PATH                                  the W3C suites (the directory with index.tsv)";
 
 fn main() -> std::process::ExitCode {
@@ -44,6 +48,8 @@ fn main() -> std::process::ExitCode {
         ["boundaries"] => Ok(boundaries::run()),
         ["appended", "--seed", seed, "--count", count] => number(seed).and_then(|seed| Ok(appended::run(seed, number(count)?))),
         ["appended", path] => appended::run_cases(path),
+        ["index", "--seed", seed, "--count", count] => number(seed).and_then(|seed| Ok(index::run(seed, number(count)?))),
+        ["index", path] => index::run_cases(path),
         ["w3c", path] => w3c::run(path),
         _ => Err(USAGE.to_string()),
     };

@@ -5,7 +5,7 @@ use crate::library::{self, Text, Written};
 use crate::reader::long_form::{self, Given};
 
 /// One usable table with every kind of term; term 3 is the datatype of 4, and 5 has the tag `en`.
-fn tables() -> Given {
+pub fn tables() -> Given {
     let terms = [[1, 0, 3, 0, 0], [1, 3, 3, 0, 0], [1, 6, 3, 0, 0], [3, 9, 1, 3, 0], [4, 10, 2, 12, 2], [2, 14, 1, 0, 0]];
     let rows = [[0, 1, 2, 4, 0], [6, 6, 2, 5, 0], [1, 1, 2, 1, 0]];
     Given { rows: rows.concat(), row_count: 3, terms: terms.concat(), term_count: 6, store: b"x:sx:px:t7hienn".to_vec(), store_count: 15 }
@@ -14,10 +14,10 @@ fn tables() -> Given {
 const LONG_FORM: &str = "<x:s> <x:p> \"7\"^^<x:t> .\n_:b0 { _:b0 <x:p> \"hi\"@en . }\n<x:s> { <x:s> <x:p> <x:s> . }\n";
 
 /// A change to the tables, and the writer's number then.
-type Change = (&'static str, fn(&mut Given), u32);
+pub type Change = (&'static str, fn(&mut Given), u32);
 
 /// A term's words are `terms[5 * (number - 1)..]`, a row's `rows[5 * row..]`.
-const CHANGES: &[Change] = &[
+pub const CHANGES: &[Change] = &[
     ("nothing", |_| {}, 0),
     ("no rows", |g| g.row_count = 0, 0),
     ("more rows than the slice", |g| g.row_count = 4, 18),
@@ -119,7 +119,7 @@ const CHANGES: &[Change] = &[
 ];
 
 /// A seventh term.
-fn add_term(given: &mut Given, term: [u32; 5]) {
+pub fn add_term(given: &mut Given, term: [u32; 5]) {
     given.terms.extend(term);
     given.term_count += 1;
 }
@@ -168,7 +168,7 @@ fn write(given: &Given, length: usize) -> Result<(Written, Vec<u8>), Difference>
     Ok((written, theirs.lent()[..written.position as usize].to_vec()))
 }
 
-fn expect(call: &str, got: impl std::fmt::Debug + PartialEq, wanted: impl std::fmt::Debug) -> Result<(), Difference> {
+pub fn expect(call: &str, got: impl std::fmt::Debug + PartialEq, wanted: impl std::fmt::Debug) -> Result<(), Difference> {
     let (library, wanted) = (format!("{got:?}"), format!("{wanted:?}"));
     if library == wanted {
         Ok(())

@@ -54,7 +54,7 @@ fn used(words: &[u32], count: u32) -> Option<&[u32]> {
 }
 
 /// Terms and store whose counts stay in their slices.
-struct Checked<'a> {
+pub struct Checked<'a> {
     terms: &'a [u32],
     store: &'a [u8],
 }
@@ -65,7 +65,7 @@ impl<'a> Checked<'a> {
     }
 
     /// The tables and their rows, or none for 18.
-    fn usable(given: &'a Given) -> Option<(Self, ChunksExact<'a, u32>)> {
+    pub fn usable(given: &'a Given) -> Option<(Self, ChunksExact<'a, u32>)> {
         let rows = used(&given.rows, given.row_count)?.chunks_exact(5);
         let tables = Checked::counts(given)?;
         for number in 1..=given.term_count {
@@ -94,6 +94,11 @@ impl<'a> Checked<'a> {
 
     fn text(&self, start: u32, length: u32) -> Option<&'a [u8]> {
         self.span(start, length).map(|range| &self.store[range])
+    }
+
+    /// An IRI term's text, or none where the term is no IRI.
+    pub fn iri(&self, number: u32) -> Option<&'a [u8]> {
+        self.term(number).filter(|term| term[0] == IRI).and_then(|term| self.text(term[1], term[2]))
     }
 
     /// What 18 asks of a term, used by a row or not.

@@ -3,6 +3,7 @@
 //! Sections named in comments are document 01's unless another paper is named.
 
 pub mod grammar;
+pub mod index;
 pub mod iri;
 pub mod lexer;
 pub mod long_form;
