@@ -1,4 +1,4 @@
-/* Provokes every answer once through the C interface, and compares number and position. */
+/* Provokes every answer once through the C interface, and compares number and position (of a check, number and yes). */
 #include <inttypes.h>
 #include <stdio.h>
 #include <stdlib.h>
@@ -115,6 +115,22 @@ int main(void)
     compare("the text of a term that is not there", t.number, t.start + t.length, SYCAMOOT_TABLES, 0);
     w = sycamoot_write(rows, all.rows, a.rows, terms, all.terms, a.terms - 1, store, sizeof store, a.store, out, sizeof out);
     compare("a term missing", w.number, w.position, SYCAMOOT_TABLES, 0);
+
+    /* The index of its one subject, and the check of it. */
+    const uint8_t index[] = {0x47, 0x58, 3, 0, 1, 0, 0, 0, 0, 0, 0, 0, 'x', ':', 's'};
+    w = sycamoot_write_index(rows, all.rows, a.rows, terms, all.terms, a.terms, store, sizeof store, a.store, out, sizeof index);
+    compare("its index", w.number, w.position, SYCAMOOT_ACCEPTED, sizeof index);
+    wrong |= memcmp(out, index, sizeof index) != 0;
+    w = sycamoot_write_index(rows, all.rows, a.rows, terms, all.terms, a.terms, store, sizeof store, a.store, out, sizeof index - 1);
+    compare("an output of a byte less", w.number, w.position, SYCAMOOT_INDEX_OUTPUT, 0);
+    w = sycamoot_write_index(rows, all.rows, a.rows, terms, all.terms, a.terms - 1, store, sizeof store, a.store, out, 0);
+    compare("a term missing, and no output", w.number, w.position, SYCAMOOT_TABLES, 0);
+    sycamoot_checked c = sycamoot_check_index(rows, all.rows, a.rows, terms, all.terms, a.terms, store, sizeof store, a.store, index, sizeof index);
+    compare("the check of its index", c.number, c.yes, SYCAMOOT_ACCEPTED, 1);
+    c = sycamoot_check_index(rows, all.rows, a.rows, terms, all.terms, a.terms, store, sizeof store, a.store, index, sizeof index - 1);
+    compare("the check of a byte less", c.number, c.yes, SYCAMOOT_ACCEPTED, 0);
+    c = sycamoot_check_index(rows, all.rows, a.rows, terms, all.terms, a.terms - 1, store, sizeof store, a.store, index, sizeof index);
+    compare("the check where a term is missing", c.number, c.yes, SYCAMOOT_TABLES, 0);
 
     puts(wrong ? "some answers are wrong" : "every answer is as it should be");
     return wrong;

@@ -32,7 +32,8 @@ enum sycamoot_number {
     SYCAMOOT_TERMS = 15,            /* too few terms for what this token writes: the token */
     SYCAMOOT_STORE = 16,            /* too small a store for what this token writes: the token */
     SYCAMOOT_OUTPUT = 17,           /* the long form does not fit its buffer: 0 */
-    SYCAMOOT_TABLES = 18            /* the tables, or a term's number, are not usable: 0 */
+    SYCAMOOT_TABLES = 18,           /* the tables, or a term's number, are not usable: 0 */
+    SYCAMOOT_INDEX_OUTPUT = 22      /* the index of subjects does not fit its output: 0 */
 };
 
 /* The languages. */
@@ -68,8 +69,13 @@ typedef struct {
 
 typedef struct {
     uint64_t position;
-    uint32_t number; /* SYCAMOOT_ACCEPTED, SYCAMOOT_OUTPUT or SYCAMOOT_TABLES */
+    uint32_t number; /* SYCAMOOT_ACCEPTED, SYCAMOOT_TABLES, and of the long form SYCAMOOT_OUTPUT, of the index SYCAMOOT_INDEX_OUTPUT */
 } sycamoot_written;
+
+typedef struct {
+    uint32_t number; /* SYCAMOOT_ACCEPTED or SYCAMOOT_TABLES */
+    uint32_t yes;    /* 1 where the bytes are the index, else 0 */
+} sycamoot_checked;
 
 /* Reads a document. 1 to 4 leave all memory as it was. 5 to 16 leave zeros in all four slices. After 0 the rows, terms and
  * bytes that are counted stand in front, what lies past them is as it was, and the work slice is zeros. */
@@ -85,6 +91,19 @@ sycamoot_text sycamoot_term_text(const uint32_t *terms, size_t term_words, uint3
 sycamoot_written sycamoot_write(const uint32_t *rows, size_t row_words, uint32_t row_count, const uint32_t *terms,
                                 size_t term_words, uint32_t term_count, const uint8_t *store, size_t store_length,
                                 uint32_t store_count, uint8_t *out, size_t out_length);
+
+/* Writes the index of the tables' subjects over the front of out: for each IRI that is a subject of a row, in byte order of
+ * its text, the bytes 47 58 hex, the text's length in two bytes, the number of its rows in four and of its first row (from 0) in
+ * four, low byte first, then the text. Terms with one text are one subject. 18 and 22 leave out as it was. The time grows with
+ * the number of rows times the number of records. */
+sycamoot_written sycamoot_write_index(const uint32_t *rows, size_t row_words, uint32_t row_count, const uint32_t *terms,
+                                      size_t term_words, uint32_t term_count, const uint8_t *store, size_t store_length,
+                                      uint32_t store_count, uint8_t *out, size_t out_length);
+
+/* Whether the bytes are the index of the tables' subjects, no byte more or less. Any bytes and any tables may be given. */
+sycamoot_checked sycamoot_check_index(const uint32_t *rows, size_t row_words, uint32_t row_count, const uint32_t *terms,
+                                      size_t term_words, uint32_t term_count, const uint8_t *store, size_t store_length,
+                                      uint32_t store_count, const uint8_t *index, size_t index_length);
 
 #ifdef __cplusplus
 }

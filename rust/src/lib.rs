@@ -4,7 +4,7 @@ use std::fmt;
 
 mod library;
 
-pub use library::{Answer, Text, Written};
+pub use library::{Answer, Checked, Text, Written};
 
 /// The longest document, in bytes.
 pub const DOCUMENT_BYTES: usize = 1_048_576;
@@ -46,7 +46,7 @@ pub fn read_into(document: &[u8], base: &[u8], mode: Mode, work: &mut [u8], rows
     }
 }
 
-/// A refusal: its number (1 to 18) and the byte position that it speaks of.
+/// A refusal: its number (1 to 18, or 22) and the byte position that it speaks of.
 #[derive(Clone, Copy, Debug, PartialEq, Eq)]
 pub struct Refusal {
     pub number: u32,
@@ -73,6 +73,7 @@ impl Refusal {
             15 => "too few terms",
             16 => "too small a store",
             17 => "the long form does not fit its buffer",
+            22 => "the index does not fit its buffer",
             _ => "the tables are not usable",
         }
     }
@@ -190,10 +191,42 @@ impl Dataset {
 
     /// The long form: one statement a line. The buffer has so many bytes.
     pub fn long_form(&self, bytes: usize) -> Result<String, Refusal> {
+        let form = self.write(library::sycamoot_write, bytes)?;
+        Ok(String::from_utf8(form).expect("the long form is UTF-8"))
+    }
+
+    /// The index of subjects: a record for each IRI that is one, in byte order. The buffer has so many bytes.
+    pub fn index(&self, bytes: usize) -> Result<Vec<u8>, Refusal> {
+        self.write(library::sycamoot_write_index, bytes)
+    }
+
+    /// Whether these bytes are the index of subjects.
+    pub fn is_index(&self, index: &[u8]) -> bool {
+        // SAFETY: every pointer comes from a slice of that length.
+        let c = unsafe {
+            library::sycamoot_check_index(
+                self.rows.as_ptr(),
+                self.rows.len(),
+                self.len() as u32,
+                self.terms.as_ptr(),
+                self.terms.len(),
+                (self.terms.len() / TERM_WORDS) as u32,
+                self.store.as_ptr(),
+                self.store.len(),
+                self.store.len() as u32,
+                index.as_ptr(),
+                index.len(),
+            )
+        };
+        c.yes == 1
+    }
+
+    /// What a writer makes of the tables.
+    fn write(&self, writer: library::Writer, bytes: usize) -> Result<Vec<u8>, Refusal> {
         let mut out = vec![0; bytes];
         // SAFETY: every pointer comes from a slice of that length, and out overlaps none.
         let w = unsafe {
-            library::sycamoot_write(
+            writer(
                 self.rows.as_ptr(),
                 self.rows.len(),
                 self.len() as u32,
@@ -211,6 +244,6 @@ impl Dataset {
             return Err(Refusal { number: w.number, position: w.position });
         }
         out.truncate(w.position as usize);
-        Ok(String::from_utf8(out).expect("the long form is UTF-8"))
+        Ok(out)
     }
 }

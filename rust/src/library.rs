@@ -32,6 +32,9 @@ pub struct Checked {
     pub yes: u32,
 }
 
+/// A writer: of rows, terms and store, each with its length and how much of it is used, over the front of an output.
+pub type Writer = unsafe extern "C" fn(*const u32, usize, u32, *const u32, usize, u32, *const u8, usize, u32, *mut u8, usize) -> Written;
+
 extern "C" {
     pub fn sycamoot_read(
         document: *const u8,

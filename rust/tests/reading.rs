@@ -40,3 +40,13 @@ fn the_long_form_is_read_again() {
     assert_eq!(again.long_form(10_000).unwrap(), long);
     assert_eq!(d.long_form(long.len() - 1).err(), Some(Refusal { number: 17, position: 0 }));
 }
+
+#[test]
+fn the_index_has_a_record_for_each_subject() {
+    let d = read("<x:b> <x:p> 1, 1 . <x:a> <x:p> 1 . _:a <x:p> 2 . <x:g> { <x:b> <x:p> 1 }").unwrap();
+    let index = d.index(1000).unwrap();
+    assert_eq!(index, [&b"GX\x03\0\x01\0\0\0\x02\0\0\0x:a"[..], b"GX\x03\0\x03\0\0\0\0\0\0\0x:b"].concat());
+    assert!(d.is_index(&index));
+    assert!(!d.is_index(&index[..index.len() - 1]));
+    assert_eq!(d.index(index.len() - 1).err(), Some(Refusal { number: 22, position: 0 }));
+}

@@ -16,7 +16,7 @@ pub use stand_in::{check_index, read, term_text, write, write_index};
 
 #[cfg(feature = "library")]
 mod compiled {
-    use super::interface::{sycamoot_check_index, sycamoot_read, sycamoot_term_text, sycamoot_write, sycamoot_write_index};
+    use super::interface::{sycamoot_check_index, sycamoot_read, sycamoot_term_text, sycamoot_write, sycamoot_write_index, Writer};
     use super::{Answer, Checked, Text, Written};
     use crate::reader::long_form::Given;
     use crate::reader::read::Lent;
@@ -58,28 +58,17 @@ mod compiled {
     }
 
     pub fn write(given: &Given, out: &mut [u8]) -> Written {
-        // SAFETY: as above.
-        unsafe {
-            sycamoot_write(
-                given.rows.as_ptr(),
-                given.rows.len(),
-                given.row_count,
-                given.terms.as_ptr(),
-                given.terms.len(),
-                given.term_count,
-                given.store.as_ptr(),
-                given.store.len(),
-                given.store_count,
-                out.as_mut_ptr(),
-                out.len(),
-            )
-        }
+        written(sycamoot_write, given, out)
     }
 
     pub fn write_index(given: &Given, out: &mut [u8]) -> Written {
+        written(sycamoot_write_index, given, out)
+    }
+
+    fn written(writer: Writer, given: &Given, out: &mut [u8]) -> Written {
         // SAFETY: as above.
         unsafe {
-            sycamoot_write_index(
+            writer(
                 given.rows.as_ptr(),
                 given.rows.len(),
                 given.row_count,

@@ -66,4 +66,6 @@ impl Answer {
     pub const OUTPUT: u8 = 17;
 
     pub const TABLES: u8 = 18;
+
+    pub const INDEX_OUTPUT: u8 = 22;
 }

@@ -5,12 +5,12 @@ use mathlib.Core.List.{[], _∷_, _++_, append-nil}
 use mathlib.Core.Bool.{Bool, true, false, _&&_}
 use native.Mathlib.Omega.{arith}
 use lib.ListN.{length, take, drop, length-append, length-drop, drop-of-length-le}
-use lib.Seq.{take-all, length-take-le}
+use lib.Seq.{length-take-le}
 use lib.Dec.{eqb}
 use Rattle.text.specs.Text.{Text, is, same-text, begins, some-byte}
 use Rattle.text.specs.Slice.{over, over-at}
 use Rattle.text.proofs.Compare.{by, begins-short, same-append}
-use Rattle.text.proofs.Over.{over-length, over-append}
+use Rattle.text.proofs.Over.{over-length, over-append, rest-all}
 use Rattle.escape.specs.Code.{Written}
 use Rattle.escape.specs.declared.Scan.{Scan}
 use Rattle.escape.proofs.Walk.{text-starts, name-starts, text-start, name-start, plain-good}
@@ -44,10 +44,6 @@ plain-form Escaped s e =
 plain-form Reserved s e =
     let at : Scan = record { left = 10; value = 0; n = 0 } in
     (sym (name-starts at (refl, (refl, refl)) .plain s e) ∙ name-start at (refl, (refl, refl)) s, refl)
-
--- The rest of a slice from a place on.
-pub rest-all : (x : Text) (n : ℕ) → take (length x - n) (drop n x) ≡ drop n x
-rest-all x n = take-all (length x - n) (drop n x) (omega (arith, length-drop n x))
 
 module _ (front : Text) (form : Form) (back t : Text) where
   pub joined-short : length t < length front → false ≡ same-text (joined front form back) t

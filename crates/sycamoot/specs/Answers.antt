@@ -8,7 +8,9 @@ use Rattle.term_text.specs.declared.Span.{Span}
 use Rattle.term_text.specs.declared.Span.the-variants.{Part, Unusable}
 use Rattle.sycamoot.specs.declared.Answer.{Answer}
 use Rattle.sycamoot.specs.declared.Text as text
+use Rattle.subject_index.specs.declared.Checked as index
 use Rattle.sycamoot.specs.declared.Written.{Written}
+use Rattle.sycamoot.specs.declared.Checked.{Checked}
 
 -- A mode in one byte: 0, 1, or 2 for every other, which is refused alike.
 abbrev pub known-mode : ℕ → ℕ
@@ -24,3 +26,7 @@ shown Unusable = record { start = 0; length = 0; number = 18 }
 
 abbrev pub written : Written → Text → long.Written
 written r out = record { number = r .number; position = r .position; output = out }
+
+-- "yes" is 1.
+abbrev pub checked : index.Checked → Checked
+checked c = record { number = c .number; yes = cond (c .yes) 1 0 }

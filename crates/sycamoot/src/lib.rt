@@ -1,12 +1,14 @@
-// The calls that C and Rust link: reading a document, the text of a term, writing the long form. Each hands on to the call
-// that is proved, and gives its answer in types of fixed width.
+// The calls that C and Rust link: reading a document, the text of a term, writing the long form, the index of subjects and its
+// check. Each hands on to the call that is proved, and gives its answer in types of fixed width.
 ghost use mathlib.Core.Path.{_≡_};
 ghost use Prim.Native.Nat.{_≤_};
+ghost use Rattle.text.specs.Text.{cond};
 ghost use Rattle.table.specs.LongForm.{write};
 ghost use Rattle.term_text.specs.Shown.{lent, span-at};
 ghost use Rattle.usable.specs.Lent.{slices};
 ghost use Rattle.reader.specs.Reader.{lent-slices, Contract};
-ghost use Rattle.sycamoot.specs.Answers.{known-mode, reading, written, shown};
+ghost use Rattle.subject_index.specs.Index.{write as index-write, check};
+ghost use Rattle.sycamoot.specs.Answers.{known-mode, reading, written, shown, checked};
 use term_text::Span;
 
 // The reader's answer: its number, the position it speaks of, and the counts of rows, terms and store bytes.
@@ -27,11 +29,18 @@ pub struct Text {
     pub number: u32,
 }
 
-// The writer's answer: 0 and the length written, 17 or 18.
+// A writer's answer: 0 and the length written; 17 or 22, by the writer; or 18.
 #[repr(C)]
 pub struct Written {
     pub position: u64,
     pub number: u32,
+}
+
+// The check's answer: 0 and whether the bytes are the index, 1 or 0; or 18 and 0.
+#[repr(C)]
+pub struct Checked {
+    pub number: u32,
+    pub yes: u32,
 }
 
 fn narrow(n: usize) -> u32
@@ -127,5 +136,70 @@ pub extern "C" fn sycamoot_write(
     Written {
         position: w.position as u64,
         number: w.number as u32,
+    }
+}
+
+// Writes the index of the tables' subjects over the front of out.
+#[no_mangle]
+pub extern "C" fn sycamoot_write_index(
+    rows: &[u32],
+    row_count: u32,
+    terms: &[u32],
+    term_count: u32,
+    store: &[u8],
+    store_count: u32,
+    out: &mut [u8],
+) -> Written
+    ensures { λ r. ⌜ written r (now (out .exit)) ≡ index-write (slices (now (rows .entry)) «row_count» (now (terms .entry)) «term_count» (now (store .entry)) «store_count») (now (out .entry)) ⌝ }
+{
+    let built = subject_index::write_index(
+        rows,
+        row_count,
+        terms,
+        term_count,
+        store,
+        store_count,
+        out,
+    );
+    Written {
+        position: built.position as u64,
+        number: built.number as u32,
+    }
+}
+
+fn one_or_zero(is: bool) -> u32
+    ensures { λ r. ⌜ r ≡ cond is 1 0 ⌝ }
+{
+    if is {
+        return 1;
+    }
+    0
+}
+
+// Whether the bytes are the index of the tables' subjects.
+#[no_mangle]
+pub extern "C" fn sycamoot_check_index(
+    rows: &[u32],
+    row_count: u32,
+    terms: &[u32],
+    term_count: u32,
+    store: &[u8],
+    store_count: u32,
+    index: &[u8],
+) -> Checked
+    ensures { λ r. ⌜ r ≡ checked (check (slices (now (rows .entry)) «row_count» (now (terms .entry)) «term_count» (now (store .entry)) «store_count») (now (index .entry))) ⌝ }
+{
+    let c = subject_index::check_index(
+        rows,
+        row_count,
+        terms,
+        term_count,
+        store,
+        store_count,
+        index,
+    );
+    Checked {
+        number: c.number as u32,
+        yes: one_or_zero(c.yes),
     }
 }

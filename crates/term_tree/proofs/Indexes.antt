@@ -19,7 +19,8 @@ use Rattle.table.specs.Layout.{entry-at}
 use Rattle.table.specs.Tables.{same-term, number-from, number, or-zero, label-of, text-of, tag-of, words-from, terms-words, store-bytes, store-size}
 use Rattle.table.proofs.Numbers.{same-term-eq}
 use Rattle.table.proofs.Finding.{number-step, number-start, number-more}
-use Rattle.spelling.proofs.Forms.{rest-all, given-back}
+use Rattle.text.proofs.Over.{rest-all}
+use Rattle.spelling.proofs.Forms.{given-back}
 use Rattle.zeroing.proofs.Zeros.{zeros, zero-at}
 use Rattle.terms.specs.declared.Counts.{Counts}
 use Rattle.terms.specs.declared.Sort.{Sort}

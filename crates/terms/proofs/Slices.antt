@@ -8,8 +8,8 @@ use lib.ListN.{length, take, drop, length-append, length-drop}
 use lib.Seq.{take-at, drop-at, drop-drop, length-take-le}
 use Rattle.text.specs.Text.{Text}
 use Rattle.text.specs.Slice.{over, over-at}
-use Rattle.text.proofs.Over.{over-fits, over-append, over-nothing}
-use Rattle.spelling.proofs.Forms.{rest-all, given-back}
+use Rattle.text.proofs.Over.{over-fits, over-append, over-nothing, rest-all}
+use Rattle.spelling.proofs.Forms.{given-back}
 
 -- The front of a slice, up to the end of what was written into it.
 pub take-over-at : (at : ℕ) (s x : Text) → at + length s ≤ length x → take (at + length s) (over-at at s x) ≡ take at x ++ s

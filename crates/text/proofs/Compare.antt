@@ -54,6 +54,12 @@ begins-length (a ∷ s) [] e = contrary (sym e)
 begins-length (a ∷ s) (b ∷ t) e = omega (arith, begins-length s t (and-right (eqb a b) (begins s t) e))
 
 -- A text in two parts is compared part by part.
+pub begins-append : (s u t : Text) → begins (s ++ u) t ≡ (begins s t && begins u (drop (length s) t))
+unfolding begins
+begins-append [] u t = refl
+begins-append (a ∷ s) u [] = refl
+begins-append (a ∷ s) u (b ∷ t) = by (eqb a b) (λ e. rw e (begins-append s u t)) (λ e. rw e)
+
 pub same-append : (s u t : Text) → same-text (s ++ u) t ≡ (begins s t && same-text u (drop (length s) t))
 unfolding same-text begins
 same-append [] u t = refl

@@ -142,6 +142,10 @@ over-at-from zero s x = refl
 over-at-from (suc at) s [] = rw (over-nothing s)
 over-at-from (suc at) s (b ∷ x) = over-at-from at s x
 
+-- The rest of a slice from a place on.
+pub rest-all : (x : Text) (n : ℕ) → take (length x - n) (drop n x) ≡ drop n x
+rest-all x n = take-all (length x - n) (drop n x) (omega (arith, length-drop n x))
+
 -- A text written over the front of a part is written over the whole at the part's start.
 pub over-part : (at : ℕ) (s x y : Text) (k : ℕ) → k ≡ length x - at → y ≡ over s (take k (drop at x)) → take at x ++ (y ++ drop k (drop at x)) ≡ over-at at s x
 unfolding over-at
@@ -226,3 +230,10 @@ module _ (s x y : Text) (i : ℕ) where
       let w : laid s (n - 8) 8 y ≡ over (take (n - 8 + 8) s) x = rw e (laid-last s x i (n - 8) 8 (omega arith) (omega arith) (omega arith)) in
       let v : over (take (n - 8 + 8) s) x ≡ over s x = rw k (over-least s x n l) in
       f ∙ (w ∙ v)
+
+-- A text in two parts is written in two.
+pub over-at-append : (at : ℕ) (s t x : Text) → over-at at (s ++ t) x ≡ over-at (at + length s) t (over-at at s x)
+unfolding over-at
+over-at-append zero s t x = rw (zero-add (length s)) (over-append s t x)
+over-at-append (suc at) s t [] = over-nothing (s ++ t) ∙ sym (rw (over-nothing s, suc-add at (length s)) (over-nothing t))
+over-at-append (suc at) s t (b ∷ x) = rw (suc-add at (length s)) (ap (λ (l : Text). b ∷ l) (over-at-append at s t x))

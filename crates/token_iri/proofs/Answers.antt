@@ -16,7 +16,7 @@ use Rattle.escape.specs.Escape.{bad-escape, unescape, unreserve}
 use Rattle.spelling.specs.Form.{undo, bad, joined}
 use Rattle.spelling.specs.declared.Form.{Form}
 use Rattle.spelling.specs.declared.Form.the-variants.{Plain, Escaped, Reserved}
-use Rattle.spelling.proofs.Forms.{rest-all}
+use Rattle.text.proofs.Over.{rest-all}
 use Rattle.iri.specs.Iri.{has-scheme}
 use Rattle.iri.specs.Resolve.{resolved}
 use Rattle.iri.specs.Code.{before}

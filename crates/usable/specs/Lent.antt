@@ -13,6 +13,10 @@ abbrev pub slices : List ℕ → ℕ → List ℕ → ℕ → Text → ℕ → S
 slices rows row-count terms term-count store store-count =
     record { rows = rows; row-count = row-count; terms = terms; term-count = term-count; store = store; store-count = store-count }
 
+-- Tables whose counts do not matter.
+abbrev pub drawn : List ℕ → List ℕ → Text → Slices
+drawn rows terms store = slices rows 0 terms 0 store 0
+
 -- Terms and store without rows.
 abbrev pub lent : List ℕ → ℕ → Text → ℕ → Slices
 lent terms term-count store store-count = slices [] 0 terms term-count store store-count

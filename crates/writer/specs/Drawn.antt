@@ -8,7 +8,8 @@ use Rattle.table.specs.Layout.{Slices, iri-kind, blank-kind, literal-kind, row-
 use Rattle.table.specs.Usable.{the, text, tag, has-kind}
 use Rattle.table.specs.LongForm.{decimal, string-form, type-form, term-form, line}
 use Rattle.writer.specs.Writing.{Countable}
-use Rattle.usable.specs.Lent.{slices, lent, Stands, RowStands, SpanIn}
+use Rattle.usable.specs.Lent.{lent, Stands, RowStands, SpanIn}
+pub use Rattle.usable.specs.Lent.{drawn}
 
 abbrev pub tag-form : Text → Text
 tag-form t = ascii "@" ++ t
@@ -34,10 +35,6 @@ abbrev pub NoResource : Slices → ℕ → Type 0
 NoResource s n = (the s n .kind ≡ iri-kind → ⊥) × (the s n .kind ≡ blank-kind → ⊥)
 
 -- ---- Rows
-
--- Tables whose counts do not matter.
-abbrev pub drawn : List ℕ → List ℕ → Text → Slices
-drawn rows terms store = slices rows 0 terms 0 store 0
 
 abbrev pub part-form : Slices → ℕ → Text
 part-form s n = term-form s n ++ ascii " "

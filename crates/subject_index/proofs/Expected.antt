@@ -1,0 +1,175 @@
+-- What a reader of the request expects of the definitions.
+use mathlib.Core.Path.{_≡_, refl, sym, ap, _∙_}
+use mathlib.Core.List.{List, [], _∷_, _++_}
+use mathlib.Core.Bool.{Bool, true, false, _||_}
+use mathlib.Core.Option.{Option, none, some}
+use Prim.Native.Nat.{ℕ, zero, suc, _+_, _*_, _/_, _%_, _≤_, _<_}
+use native.Mathlib.Omega.{arith}
+use borrow.Author.Tests.{eqb-true, eqb-false, ltb-true, ltb-false}
+use lib.Dec.{eqb, ltb}
+use lib.ListN.{length, getD, take, drop}
+use lib.Seq.{take-append-seam}
+use Rattle.text.specs.Text.{Text, cond, same-text}
+use Rattle.text.specs.Words.{four-at}
+use Rattle.text.specs.Order.{smaller}
+use Rattle.text.proofs.Compare.{by, contrary, same-eq, same-refl}
+use Rattle.table.specs.Layout.{Slices}
+use Rattle.table.specs.Usable.{for-long-form, usable}
+use Rattle.table.specs.Written.{Written}
+use Rattle.subject_index.specs.declared.Checked.{Checked}
+use Rattle.subject_index.specs.Index.{Rows, rows, head-of, record-of, insert, insert-any, is-subject, counted, sorted, walk, index, write, check}
+use Rattle.subject_index.proofs.Above.{some-eq, none-some}
+
+-- ---- "one record for each IRI that is a subject": the texts of the records are just those of subjects. (Each once, in byte order: Rising.rising-sorted.)
+
+-- Is the text among them?
+unfoldable pub has : Text → List Text → Bool
+has t [] = false
+has t (u ∷ us) = same-text u t || has t us
+
+or-swap : (a b c : Bool) → (a || (b || c)) ≡ (b || (a || c))
+or-swap true true c = refl
+or-swap true false c = refl
+or-swap false true c = refl
+or-swap false false c = refl
+
+or-else : (a b : Bool) → (a ≡ false → b ≡ true) → (a || b) ≡ true
+or-else true b f = refl
+or-else false b f = f refl
+
+or-same : (a b : Bool) → (a || b) ≡ (a || (a || b))
+or-same true b = refl
+or-same false b = refl
+
+has-insert : (t u : Text) (us : List Text) → has t (insert u us) ≡ (same-text u t || has t us)
+unfolding insert has
+has-insert t u [] = refl
+has-insert t u (v ∷ vs) =
+    by (smaller u v) (λ e. rw e)
+    (λ e. by (same-text u v) (λ f. rw (e, f, same-eq u v f) (or-same (same-text v t) (has t vs)))
+    (λ f. rw (e, f, has-insert t u vs) (or-swap (same-text v t) (same-text u t) (has t vs))))
+
+module _ (subject : ℕ → Option Text) (t : Text) where
+  -- The row i has the subject t.
+  abbrev pub Row : ℕ → Type 0
+  Row i = subject i ≡ some t
+
+  has-any : (o : Option Text) (us : List Text) → has t (insert-any o us) ≡ (is-subject t o || has t us)
+  has-any none us = refl
+  has-any (some u) us = has-insert t u us
+
+  is-row : (o : Option Text) → is-subject t o ≡ true → o ≡ some t
+  is-row none e = contrary (sym e)
+  is-row (some u) e = ap some (same-eq u t e)
+
+  row-is : (o : Option Text) → o ≡ some t → is-subject t o ≡ true
+  row-is none e = none-some t e
+  row-is (some u) e = ap (λ (x : Text). same-text x t) (some-eq u t e) ∙ same-refl t
+
+  pub listed : (n i : ℕ) → i < n → Row i → has t (sorted subject n) ≡ true
+  unfolding sorted
+  listed zero i h e = absurd (omega arith)
+  listed (suc n) i h e =
+      has-any (subject n) (sorted subject n)
+      ∙ or-else (is-subject t (subject n)) (has t (sorted subject n))
+      (λ q. by (ltb i n) (λ l. listed n i (ltb-true i n l) e) (λ l. let k = ltb-false i n l in let z : n ≡ i = omega arith in contrary (sym (row-is (subject n) (ap subject z ∙ e)) ∙ q)))
+
+  pub only-listed : (n : ℕ) → has t (sorted subject n) ≡ true → (i : ℕ) × ((i < n) × Row i)
+  unfolding sorted has
+  only-listed zero e = contrary (sym e)
+  only-listed (suc n) e =
+      by (is-subject t (subject n)) (λ q. (n, (omega arith, is-row (subject n) q)))
+      (λ q. let f : has t (sorted subject n) ≡ true = rw q at (sym (has-any (subject n) (sorted subject n)) ∙ e) in
+      let (i, (l, r)) = only-listed n f in
+      (i, (omega arith, r)))
+
+  -- ---- "the number of its rows", "the number of its first row (from 0)"
+
+  pub record Walked (n : ℕ) (r : Rows) : Type 0 where
+    pub few : r .count ≤ n
+    pub first : 0 < r .count → (r .first < n) × Row (r .first)
+    pub least : 0 < r .count → (i : ℕ) → i < r .first → Row i → ⊥
+    pub none : r .count ≡ 0 → (i : ℕ) → i < n → Row i → ⊥
+
+  one-more : (n : ℕ) (w : Rows) → Walked n w → (b : Bool) → is-subject t (subject n) ≡ b → Walked (suc n) (counted n b w)
+  unfolding counted
+  one-more n w W false q = record {
+    few = let k = W .few in omega arith;
+    first = λ h. let (l, r) = W .first h in (omega arith, r);
+    least = W .least;
+    none = λ e i h r. by (ltb i n) (λ l. W .none e i (ltb-true i n l) r) (λ l. let k = ltb-false i n l in let z : n ≡ i = omega arith in contrary (sym (row-is (subject n) (ap subject z ∙ r)) ∙ q));
+  }
+  one-more n w W true q =
+      by (eqb (w .count) 0)
+      (λ z. let y = eqb-true (w .count) 0 z in
+      rw z (record {
+        few = let k = W .few in omega arith;
+        first = λ h. (omega arith, is-row (subject n) q);
+        least = λ h i l r. W .none y i l r;
+        none = λ e. absurd (omega arith);
+      }))
+      (λ z. let y = eqb-false (w .count) 0 z in
+      let some-row : 0 < w .count = by (eqb 0 (w .count)) (λ x. absurd (y (sym (eqb-true 0 (w .count) x)))) (λ x. omega (arith, eqb-false 0 (w .count) x)) in
+      rw z (record {
+        few = let k = W .few in omega arith;
+        first = λ h. let (l, r) = W .first some-row in (omega arith, r);
+        least = λ h. W .least some-row;
+        none = λ e. absurd (omega arith);
+      }))
+
+  pub walked : (n : ℕ) → Walked n (walk subject t n)
+  unfolding walk
+  walked zero = record { few = omega arith; first = λ h. absurd (omega arith); least = λ h. absurd (omega arith); none = λ e i h. absurd (omega arith) }
+  walked (suc n) = one-more n (walk subject t n) (walked n) (is-subject t (subject n)) refl
+
+-- ---- A record says its text and its numbers: none is cut, since a text of usable tables has at most 1,024 bytes, and there are fewer than 2^32 rows
+
+four-told : (n : ℕ) → n < 4294967296 → n % 256 + 256 * (n / 256 % 256) + 65536 * (n / 65536 % 256) + 16777216 * (n / 16777216 % 256) ≡ n
+four-told n h =
+    let p : n / 65536 ≡ n / 256 / 256 = omega arith in
+    let q : n / 16777216 ≡ n / 256 / 256 / 256 = omega arith in
+    rw (p, q) (low n h)
+  where
+    low : (n : ℕ) → n < 4294967296 → n % 256 + 256 * (n / 256 % 256) + 65536 * (n / 256 / 256 % 256) + 16777216 * (n / 256 / 256 / 256 % 256) ≡ n
+    low n h = omega arith
+
+module _ (t : Text) (r : Rows) where
+  pub text-told : drop 12 (record-of t r) ≡ t
+  unfolding head-of
+  text-told = refl
+
+  pub size-told : length t < 65536 → getD (record-of t r) 2 0 + 256 * getD (record-of t r) 3 0 ≡ length t
+  unfolding head-of
+  size-told h = omega arith
+
+  pub count-told : r .count < 4294967296 → four-at (record-of t r) 4 ≡ r .count
+  unfolding head-of four-at
+  count-told h = four-told (r .count) h
+
+  pub first-told : r .first < 4294967296 → four-at (record-of t r) 8 ≡ r .first
+  unfolding head-of four-at
+  first-told h = four-told (r .first) h
+
+-- ---- "yes exactly when the bytes are the index of the given tables"
+
+module _ (s : Slices) where
+  pub yes-only : (bytes : Text) → check s bytes .yes ≡ true → (usable for-long-form s ≡ true) × (bytes ≡ index s)
+  unfolding check
+  yes-only bytes e =
+      by (usable for-long-form s) (λ u. (u, sym (same-eq (index s) bytes (rw u at e)))) (λ u. contrary (sym (rw u at e)))
+
+  pub index-yes : usable for-long-form s ≡ true → check s (index s) ≡ record { number = 0; yes = true }
+  unfolding check
+  index-yes u = rw (u, same-refl (index s))
+
+  -- What the builder wrote, the check accepts.
+  pub written-yes : (out : Text) → write s out .number ≡ 0 → check s (take (write s out .position) (write s out .output)) ≡ record { number = 0; yes = true }
+  unfolding write
+  written-yes out e =
+      by (usable for-long-form s)
+      (λ u. by (ltb (length out) (length (index s))) (λ f. none-such (rw (u, f) at e))
+      (λ f. rw (u, f, take-append-seam (index s) (drop (length (index s)) out)) (index-yes u)))
+      (λ u. none-such (rw u at e))
+    where
+      none-such : {X : Type 0} {n : ℕ} → suc n ≡ 0 → X
+      none-such e = absurd (omega arith)
