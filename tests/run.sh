@@ -44,6 +44,7 @@ row program 1 sh -c 'rt check longform > /dev/null && tests/program.py'
 row c 1 c/run.sh
 row rust 2 sh -c 'cd rust && cargo test --offline --test reading'
 row stack 4 bench/stack.sh
+row index-time 6 bench/index.sh
 row growth 60 bench/growth.sh
 figures speed bench/read.sh
 echo "what each of them printed is in $log"

@@ -1,11 +1,18 @@
--- The demands, and C-22, over the contract of the reader's call.
+-- The demands, C-16 and C-22, over the contract of the reader's call.
 use mathlib.Core.Path.{_≡_, sym, ap, subst, _∙_}
+use mathlib.Core.Bool.{true}
 use mathlib.Core.Logic.{_↔_}
 use Prim.Native.Nat.{ℕ, _≤_}
-use lib.ListN.{length}
+use lib.ListN.{length, take}
 use Rattle.text.specs.Text.{Text}
 use Rattle.token.specs.Tokens.{lexemes, place-of}
 use Rattle.table.specs.Layout.{Slices}
+use Rattle.table.specs.Usable.{for-long-form, usable}
+use Rattle.table.proofs.Written.{fits-zero}
+use Rattle.subject_index.specs.declared.Checked.{Checked}
+use Rattle.subject_index.specs.Index.{index, check}
+use Rattle.subject_index.specs.Index.{write as write-index}
+use Rattle.subject_index.proofs.Expected.{written-yes}
 use Rattle.machine.specs.Read.{Answer, read}
 use Rattle.machine.specs.Demand.{Meets}
 use Rattle.machine.proofs.Demands.{accepted-iff-meets}
@@ -61,6 +68,16 @@ module _ (doc : Text) (mode : ℕ) (base : Text) (old new : LentSlices) (r : Rea
   -- "the long form, read again, gives the same statements up to renaming of blank nodes"
   pub read-again : r .number ≡ accepted → RoundTrip doc mode base (handed new r)
   read-again e = subst (RoundTrip doc mode base) same-slices (written-again doc mode base (lengths old) (sym (c .number) ∙ e) (old .rows) (old .terms) (old .store))
+
+  -- "18 for unusable tables": never for what the reader leaves. The builder writes the index of it where the output holds that, and what it wrote the check accepts.
+  pub indexed : r .number ≡ accepted → (out : Text) → length (index (handed new r)) ≤ length out
+      → (write-index (handed new r) out .number ≡ accepted) × (check (handed new r) (take (write-index (handed new r) out .position) (write-index (handed new r) out .output)) .yes ≡ true)
+  unfolding write-index
+  indexed e out l =
+      let s = handed new r in
+      let u = read-again e .usable in
+      let z = fits-zero 22 (usable for-long-form s) (index s) out u l in
+      (z, ap (λ (c : Checked). c .yes) (written-yes s out z))
 
   -- "a grammar refusal stands at the first token with which the tokens so far begin no grammatical text", and only there
   pub refused-there : (i : ℕ) → FailsFirst doc mode base (lengths old) i → (r .number ≡ grammar-refusal) × (r .position ≡ place-of (length doc) (lexemes doc) i)

@@ -1,25 +1,24 @@
 -- The long form of usable tables, if it is no larger than a document may be, is read back.
-use mathlib.Core.Path.{_≡_, refl, subst, sym, ap, _∙_}
+use mathlib.Core.Path.{_≡_, subst, sym, ap, _∙_}
 use mathlib.Core.List.{[]}
 use mathlib.Core.Bool.{true}
 use mathlib.Core.Option.{none}
-use Prim.Native.Nat.{ℕ, suc, _≤_}
+use Prim.Native.Nat.{ℕ, _≤_}
 use native.Mathlib.Omega.{arith}
 use borrow.Author.Tests.{le-ltb}
-use lib.Dec.{T, ltb}
-use lib.ListN.{length, take, drop}
-use lib.Seq.{take-at}
+use lib.Dec.{T}
+use lib.ListN.{length}
 use Rattle.text.specs.Text.{Text}
 use Rattle.limits.specs.Limits.{document-limit, work-size}
 use Rattle.utf8.specs.Utf8.{first-bad}
 use Rattle.utf8.proofs.Decoding.{valid-encodes}
-use Rattle.utf8.proofs.Tests.{by}
 use Rattle.token.specs.Tokens.{lexemes, tokens-of, readable}
 use Rattle.grammar.specs.Ebnf.{leaves}
 use Rattle.grammar.specs.Productions.{trig, production, kind-of}
 use Rattle.table.specs.Layout.{Slices}
 use Rattle.table.specs.Usable.{for-long-form, usable, quads-held}
-use Rattle.table.specs.LongForm.{long-form, Written, write}
+use Rattle.table.specs.LongForm.{long-form, write}
+use Rattle.table.proofs.Written.{Whole, zero-whole}
 use Rattle.machine.specs.Step.{first-refusal}
 use Rattle.machine.specs.Read.{Lent, bad-base, first-checks}
 use Rattle.machine.specs.Construction.{tables}
@@ -90,22 +89,9 @@ read-again s u l =
 -- ---- What the writer wrote
 
 -- Where the writer answers 0, the tables are usable and what it wrote is their long form.
-pub record WrittenForm (s : Slices) (w : Written) : Type 0 where
-  pub usable : usable for-long-form s ≡ true
-  pub size : w .position ≡ length (long-form s)
-  pub text : take (w .position) (w .output) ≡ long-form s
-
-pub written-form : (s : Slices) (out : Text) → write s out .number ≡ 0 → WrittenForm s (write s out)
+pub written-form : (s : Slices) (out : Text) → write s out .number ≡ 0 → Whole (usable for-long-form s) (long-form s) (write s out)
 unfolding write
-written-form s out e =
-    by (usable for-long-form s)
-    (λ u.
-    by (ltb (length out) (length (long-form s))) (λ f. none-such (rw (u, f) at e))
-    (λ f. rw (u, f) (record { usable = u; size = refl; text = take-at (long-form s) (drop (length (long-form s)) out) (length (long-form s)) refl })))
-    (λ u. none-such (rw u at e))
-  where
-    none-such : {X : Type 0} {n : ℕ} → suc n ≡ 0 → X
-    none-such e = absurd (omega arith)
+written-form s out e = zero-whole 17 (usable for-long-form s) (long-form s) out (λ z. omega arith) e
 
 -- What the writer wrote, if it is no larger than a document may be, is read again.
 pub read-written : (s : Slices) (out : Text) → write s out .number ≡ 0 → write s out .position ≤ document-limit → ReadAgain s

@@ -5,14 +5,14 @@ use mathlib.Core.Bool.{Bool, true, false, not, _||_}
 use mathlib.Core.List.{List, [], _∷_, map}
 use Prim.Native.Nat.{ℕ, _*_, _≤_, _<_}
 use native.Mathlib.Omega.{arith}
-use borrow.Author.Tests.{le-ltb, ltb-false}
+use borrow.Author.Tests.{ltb-false}
 use lib.Dec.{ltb}
 use lib.ListN.{length, take}
 use Rattle.text.specs.Text.{Text, is-none, some-byte}
 use Rattle.text.proofs.Compare.{contrary}
 use Rattle.limits.specs.Limits.{document-limit, iri-limit, work-size}
 use Rattle.utf8.specs.Utf8.{first-bad}
-use Rattle.utf8.proofs.Tests.{by, or-false}
+use Rattle.utf8.proofs.Tests.{or-false}
 use Rattle.token.specs.Tokens.{lexemes}
 use Rattle.iri.specs.Iri.{has-scheme, forbidden}
 use Rattle.dataset.specs.Terms.{Quad}
@@ -20,6 +20,7 @@ use Rattle.table.specs.Layout.{row-size, term-size, word-limit, Slices}
 use Rattle.table.specs.Tables.{store-size}
 use Rattle.table.specs.Usable.{for-long-form, usable}
 use Rattle.table.specs.LongForm.{long-form, write}
+use Rattle.table.proofs.Written.{never-eighteen, fits-zero}
 use Rattle.machine.specs.Memory.{Memory, start-memory}
 use Rattle.machine.specs.Frame.{statement}
 use Rattle.machine.specs.Read.{Lent, lends, Answer, bad-base, first-checks, success, mode-of, room-of, start-state, read}
@@ -120,13 +121,14 @@ module _ (doc : Text) (mode : ℕ) (base : Text) (lent : Lent) (x : Meets doc mo
       }
 
 -- The writer's number for usable tables.
-not-eighteen : (s : Slices) (out : Text) → usable for-long-form s ≡ true → write s out .number ≡ 18 → ⊥
-unfolding write
-not-eighteen s out u e = by (ltb (length out) (length (long-form s))) (λ f. let g : _≡_ {A = ℕ} 17 18 = rw (u, f) at e in omega arith) (λ f. let g : _≡_ {A = ℕ} 0 18 = rw (u, f) at e in omega arith)
+module _ (s : Slices) (out : Text) (u : usable for-long-form s ≡ true) where
+  not-eighteen : write s out .number ≡ 18 → ⊥
+  unfolding write
+  not-eighteen = never-eighteen 17 (usable for-long-form s) (long-form s) out u (λ z. omega arith)
 
-zero-written : (s : Slices) (out : Text) → usable for-long-form s ≡ true → length (long-form s) ≤ length out → write s out .number ≡ 0
-unfolding write
-zero-written s out u l = rw (u, le-ltb (length out) (length (long-form s)) l)
+  zero-written : length (long-form s) ≤ length out → write s out .number ≡ 0
+  unfolding write
+  zero-written = fits-zero 17 (usable for-long-form s) (long-form s) out u
 
 module _ (doc : Text) (mode : ℕ) (base : Text) (lent : Lent) (e : read doc mode base lent .number ≡ 0) (rows terms : List ℕ) (store : Text) where
   abbrev meets : Meets doc mode base lent

@@ -1,17 +1,17 @@
 -- The next subject by a scan of all rows is the next of the sorted texts.
 use mathlib.Core.Path.{_≡_, refl, sym, ap, _∙_}
-use mathlib.Core.List.{List, [], _∷_, _++_}
-use mathlib.Core.Bool.{Bool, true, false, _&&_}
+use mathlib.Core.List.{List, [], _∷_}
+use mathlib.Core.Bool.{true}
 use mathlib.Core.Option.{Option, none, some}
 use Prim.Native.Nat.{ℕ, zero, suc}
 use native.Mathlib.Omega.{arith}
 use Rattle.text.specs.Text.{Text, cond, same-text}
-use Rattle.text.proofs.Compare.{by, contrary, same-eq}
+use Rattle.text.proofs.Compare.{by, same-eq}
 use Rattle.text.specs.Order.{smaller}
 use Rattle.subject_index.specs.Code.{rises}
 use Rattle.text.proofs.Order.{smaller-self, smaller-trans, smaller-other, one-of-three}
 use Rattle.subject_index.specs.Index.{insert, insert-any, sorted}
-use Rattle.subject_index.specs.Code.{below, nearer, next}
+use Rattle.subject_index.specs.Code.{nearer, next}
 use Rattle.subject_index.proofs.Rising.{Rising, rising-later, rising-sorted}
 
 -- The texts above one.

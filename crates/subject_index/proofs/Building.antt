@@ -1,5 +1,5 @@
 -- The index is measured and written, one record at a time.
-use mathlib.Core.Path.{_≡_, refl, sym, ap, _∙_}
+use mathlib.Core.Path.{_≡_, sym, ap, _∙_}
 use mathlib.Core.List.{_++_}
 use mathlib.Core.Bool.{true, false}
 use mathlib.Core.Option.{Option}
@@ -17,15 +17,15 @@ use Rattle.table.proofs.Written as told
 use Rattle.usable.specs.Lent.{drawn}
 use Rattle.subject_index.specs.declared.Chosen.{Chosen}
 use Rattle.subject_index.specs.Index.{Rows, head-of, record-of, index-of, subject, index, write}
-use Rattle.subject_index.specs.Code.{named, Chooses}
+use Rattle.subject_index.specs.Code.{head-size, named, Chooses}
 use Rattle.subject_index.proofs.Checking.{head-length, rows-of, record-length, left, all-left, none-left, one-left, index-drawn}
 
 -- A record is written in two parts.
 pub put-law : (t : Text) (r : Rows) (head x y z : Text) (at k k' : ℕ) (mid : Text) → head ≡ head-of (length t) r → k ≡ length x - at → y ≡ over head (take k (drop at x)) → mid ≡ take at x ++ (y ++ drop k (drop at x))
-    → k' ≡ length mid - (at + 12) → z ≡ over t (take k' (drop (at + 12) mid)) → take (at + 12) mid ++ (z ++ drop k' (drop (at + 12) mid)) ≡ over-at at (record-of t r) x
+    → k' ≡ length mid - (at + head-size) → z ≡ over t (take k' (drop (at + head-size) mid)) → take (at + head-size) mid ++ (z ++ drop k' (drop (at + head-size) mid)) ≡ over-at at (record-of t r) x
 put-law t r head x y z at k k' mid e f g h l m =
     let half : mid ≡ over-at at (head-of (length t) r) x = h ∙ (over-part at head x y k f g ∙ ap (λ (p : Text). over-at at p x) e) in
-    over-part (at + 12) t mid z k' l m
+    over-part (at + head-size) t mid z k' l m
     ∙ rw half (sym (over-at-append at (head-of (length t) r) t x ∙ ap (λ (n : ℕ). over-at (at + n) t (over-at at (head-of (length t) r) x)) (head-length (length t) r)))
 
 pub put-length : (at : ℕ) (r x y : Text) → y ≡ over-at at r x → length y ≡ length x
@@ -50,25 +50,25 @@ module _ (s : Slices) (subject : ℕ → Option Text) (n : ℕ) where
     over-end y out z f = f ∙ rw (none-left s subject n p c C z) (over-at-none used out)
 
     module _ (k : c .number ≡ 0 → ⊥) where
-      room-for-one : length (index-of subject n) ≡ used + (12 + length (text s (c .number))) + length (left subject n (named s (c .number)))
+      room-for-one : length (index-of subject n) ≡ used + (head-size + length (text s (c .number))) + length (left subject n (named s (c .number)))
       room-for-one =
           let a = ap length (one-left s subject n p c C k) in
           let b = length-append (record-of (text s (c .number)) (rows-of c)) (left subject n (named s (c .number))) in
           let d = record-length (text s (c .number)) (rows-of c) in
           omega arith
 
-      pub fits-head : (room : ℕ) → room < used + 12 → false ≡ leb (length (index-of subject n)) room
+      pub fits-head : (room : ℕ) → room < used + head-size → false ≡ leb (length (index-of subject n)) room
       fits-head room u = let e = room-for-one in sym (lt-leb (length (index-of subject n)) room (omega arith))
 
       module _ (t : Text) (z : t ≡ text s (c .number)) where
-        pub length-more : length (index-of subject n) ≡ used + (12 + length t) + length (left subject n (named s (c .number)))
+        pub length-more : length (index-of subject n) ≡ used + (head-size + length t) + length (left subject n (named s (c .number)))
         length-more = room-for-one ∙ rw z
 
-        pub fits-not : (room : ℕ) → room < used + (12 + length t) → false ≡ leb (length (index-of subject n)) room
+        pub fits-not : (room : ℕ) → room < used + (head-size + length t) → false ≡ leb (length (index-of subject n)) room
         fits-not room u = let e = length-more in sym (lt-leb (length (index-of subject n)) room (omega arith))
 
         pub over-more : (u : Text) → u ≡ text s (c .number) → (y out out' : Text) → y ≡ over-at used (left subject n p) out → out' ≡ over-at used (record-of u (rows-of c)) out
-            → y ≡ over-at (used + (12 + length t)) (left subject n (named s (c .number))) out'
+            → y ≡ over-at (used + (head-size + length t)) (left subject n (named s (c .number))) out'
         over-more u a y out out' f g =
             f
             ∙ rw (g, a, z, one-left s subject n p c C k)

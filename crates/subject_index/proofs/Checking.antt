@@ -1,6 +1,6 @@
 -- The bytes are the index, one record at a time.
-use mathlib.Core.Path.{_≡_, refl, sym, ap, _∙_, subst}
-use mathlib.Core.List.{List, [], _∷_, _++_}
+use mathlib.Core.Path.{_≡_, refl, sym, ap, _∙_}
+use mathlib.Core.List.{[], _++_}
 use mathlib.Core.Bool.{Bool, true, false, _&&_}
 use mathlib.Core.Option.{Option, none, some}
 use Prim.Native.Nat.{ℕ, _+_, _-_, _≤_, _<_}
@@ -19,30 +19,30 @@ use Rattle.usable.proofs.Standing.{stands, text-stands, subject-in}
 use Rattle.subject_index.specs.declared.Chosen.{Chosen}
 use Rattle.subject_index.specs.declared.Checked.{Checked}
 use Rattle.subject_index.specs.Index.{Rows, rows, head-of, record-of, sorted, walk, records, index-of, subject, index, check}
-use Rattle.subject_index.specs.Code.{named, Ready, next, Chooses}
+use Rattle.subject_index.specs.Code.{head-size, named, Ready, next, Chooses}
 use Rattle.subject_index.proofs.Rising.{rising-sorted}
 use Rattle.subject_index.proofs.Above.{above, above-all, above-next, above-end, next-sorted}
 use Rattle.subject_index.proofs.Choosing.{named-none, named-some}
 
 -- ---- A record at the front
 
-pub head-length : (size : ℕ) (r : Rows) → length (head-of size r) ≡ 12
+pub head-length : (size : ℕ) (r : Rows) → length (head-of size r) ≡ head-size
 unfolding head-of
 head-length size r = refl
 
 module _ (t front : Text) (r : Rows) (head : Text) (e : head ≡ head-of (length t) r) where
-  head-size : length head ≡ 12
-  head-size = ap length e ∙ head-length (length t) r
+  whole-head : length head ≡ head-size
+  whole-head = ap length e ∙ head-length (length t) r
 
   pub no-head : begins head front ≡ false → false ≡ begins (record-of t r) front
   no-head f = rw (begins-append (head-of (length t) r) t front, ← e, f)
 
   module _ (f : begins head front ≡ true) where
-    pub head-fits : 12 ≤ length front
-    head-fits = let l = begins-length head front f in let g = head-size in omega arith
+    pub head-fits : head-size ≤ length front
+    head-fits = let l = begins-length head front f in let g = whole-head in omega arith
 
-    pub then-text : (q : Bool) → q ≡ begins t (take (length front - 12) (drop 12 front)) → q ≡ begins (record-of t r) front
-    then-text q g = g ∙ rw (begins-append (head-of (length t) r) t front, ← e, f, head-size, rest-all front 12)
+    pub then-text : (q : Bool) → q ≡ begins t (take (length front - head-size) (drop head-size front)) → q ≡ begins (record-of t r) front
+    then-text q g = g ∙ rw (begins-append (head-of (length t) r) t front, ← e, f, whole-head, rest-all front head-size)
 
 -- ---- The records that are left behind a text
 
@@ -67,7 +67,7 @@ module _ (subject : ℕ → Option Text) (n : ℕ) where
 abbrev pub rows-of : Chosen → Rows
 rows-of c = rows (c .count) (c .first)
 
-pub record-length : (t : Text) (r : Rows) → length (record-of t r) ≡ 12 + length t
+pub record-length : (t : Text) (r : Rows) → length (record-of t r) ≡ head-size + length t
 record-length t r = let a = length-append (head-of (length t) r) t in let l = head-length (length t) r in omega arith
 
 module _ (s : Slices) (subject : ℕ → Option Text) (n : ℕ) where
@@ -100,15 +100,15 @@ module _ (s : Slices) (subject : ℕ → Option Text) (n : ℕ) where
         other-record q = sym (split ∙ rw q)
 
         module _ (q : r ≡ true) (u : Text) (z : u ≡ text s (c .number)) where
-          pub record-fits : at + (12 + length u) ≤ length bytes
+          pub record-fits : at + (head-size + length u) ≤ length bytes
           record-fits =
               let l = begins-length (record-of (text s (c .number)) (rows-of c)) (drop at bytes) (sym here ∙ q) in
               let d = length-drop at bytes in
               let m = record-length (text s (c .number)) (rows-of c) in
               rw z (omega arith)
 
-          pub record-more : same-text (index-of subject n) bytes ≡ same-text (left subject n (named s (c .number))) (drop (at + (12 + length u)) bytes)
-          record-more = split ∙ rw (q, z, record-length (text s (c .number)) (rows-of c), drop-drop (12 + length (text s (c .number))) at bytes)
+          pub record-more : same-text (index-of subject n) bytes ≡ same-text (left subject n (named s (c .number))) (drop (at + (head-size + length u)) bytes)
+          record-more = split ∙ rw (q, z, record-length (text s (c .number)) (rows-of c), drop-drop (head-size + length (text s (c .number))) at bytes)
 
 -- ---- The answer
 

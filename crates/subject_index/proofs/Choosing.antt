@@ -1,14 +1,14 @@
 -- The subject of a row by its number, and the best of the subjects above one.
 use mathlib.Core.Path.{_≡_, refl, sym, ap, _∙_, subst}
-use mathlib.Core.List.{List, []}
+use mathlib.Core.List.{List}
 use mathlib.Core.Bool.{Bool, true, false, _&&_}
 use mathlib.Core.Option.{Option, none, some}
-use Prim.Native.Nat.{ℕ, zero, suc, _+_, _<_}
+use Prim.Native.Nat.{ℕ, zero, suc, _+_}
 use native.Mathlib.Numerals.{add-one}
 use native.Mathlib.Omega.{arith}
 use borrow.Author.Tests.{eq-eqb, ne-eqb}
 use lib.Dec.{eqb}
-use Rattle.text.specs.Text.{Text, cond, same-text}
+use Rattle.text.specs.Text.{Text, same-text}
 use Rattle.text.specs.Order.{smaller}
 use Rattle.text.proofs.Compare.{by, contrary, and-left, and-right, same-eq, same-refl}
 use Rattle.text.proofs.Order.{smaller-trans, smaller-differs}

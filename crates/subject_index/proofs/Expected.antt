@@ -1,6 +1,6 @@
 -- What a reader of the request expects of the definitions.
 use mathlib.Core.Path.{_≡_, refl, sym, ap, _∙_}
-use mathlib.Core.List.{List, [], _∷_, _++_}
+use mathlib.Core.List.{List, [], _∷_}
 use mathlib.Core.Bool.{Bool, true, false, _||_}
 use mathlib.Core.Option.{Option, none, some}
 use Prim.Native.Nat.{ℕ, zero, suc, _+_, _*_, _/_, _%_, _≤_, _<_}
@@ -8,19 +8,39 @@ use native.Mathlib.Omega.{arith}
 use borrow.Author.Tests.{eqb-true, eqb-false, ltb-true, ltb-false}
 use lib.Dec.{eqb, ltb}
 use lib.ListN.{length, getD, take, drop}
-use lib.Seq.{take-append-seam}
-use Rattle.text.specs.Text.{Text, cond, same-text}
+use Rattle.text.specs.Text.{Text, same-text}
 use Rattle.text.specs.Words.{four-at}
 use Rattle.text.specs.Order.{smaller}
 use Rattle.text.proofs.Compare.{by, contrary, same-eq, same-refl}
 use Rattle.table.specs.Layout.{Slices}
 use Rattle.table.specs.Usable.{for-long-form, usable}
-use Rattle.table.specs.Written.{Written}
-use Rattle.subject_index.specs.declared.Checked.{Checked}
+use Rattle.table.proofs.Written.{zero-whole}
 use Rattle.subject_index.specs.Index.{Rows, rows, head-of, record-of, insert, insert-any, is-subject, counted, sorted, walk, index, write, check}
+use Rattle.subject_index.proofs.Rising.{Rising, rising-sorted}
 use Rattle.subject_index.proofs.Above.{some-eq, none-some}
 
--- ---- "one record for each IRI that is a subject": the texts of the records are just those of subjects. (Each once, in byte order: Rising.rising-sorted.)
+-- ---- "in byte order of its text": the texts of the records, each once
+
+abbrev pub Before : Text → List Text → Type 0
+Before t [] = Unit {0}
+Before t (u ∷ us) = smaller t u ≡ true
+
+abbrev pub Ascends : List Text → Type 0
+Ascends [] = Unit {0}
+Ascends (t ∷ ts) = Before t ts × Ascends ts
+
+rising-before : (t : Text) (ts : List Text) → Rising (some t) ts → Before t ts
+rising-before t [] r = tt
+rising-before t (u ∷ us) (k, r) = k
+
+rising-ascends : (b : Option Text) (ts : List Text) → Rising b ts → Ascends ts
+rising-ascends b [] r = tt
+rising-ascends b (t ∷ ts) (k, r) = (rising-before t ts r, rising-ascends (some t) ts r)
+
+pub ascending : (subject : ℕ → Option Text) (n : ℕ) → Ascends (sorted subject n)
+ascending subject n = rising-ascends none (sorted subject n) (rising-sorted subject n)
+
+-- ---- "one record for each IRI that is a subject": the texts are just those of subjects
 
 -- Is the text among them?
 unfoldable pub has : Text → List Text → Bool
@@ -165,11 +185,4 @@ module _ (s : Slices) where
   -- What the builder wrote, the check accepts.
   pub written-yes : (out : Text) → write s out .number ≡ 0 → check s (take (write s out .position) (write s out .output)) ≡ record { number = 0; yes = true }
   unfolding write
-  written-yes out e =
-      by (usable for-long-form s)
-      (λ u. by (ltb (length out) (length (index s))) (λ f. none-such (rw (u, f) at e))
-      (λ f. rw (u, f, take-append-seam (index s) (drop (length (index s)) out)) (index-yes u)))
-      (λ u. none-such (rw u at e))
-    where
-      none-such : {X : Type 0} {n : ℕ} → suc n ≡ 0 → X
-      none-such e = absurd (omega arith)
+  written-yes out e = let w = zero-whole 22 (usable for-long-form s) (index s) out (λ z. omega arith) e in rw (w .text) (index-yes (w .usable))

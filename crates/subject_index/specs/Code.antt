@@ -9,15 +9,13 @@ use Rattle.text.specs.Text.{Text, cond}
 use Rattle.text.specs.Order.{smaller}
 use Rattle.table.specs.Layout.{Slices, row-at, entry-at, iri-kind}
 use Rattle.table.specs.Usable.{text}
-use Rattle.table.specs.Written as table
 use Rattle.usable.specs.Lent.{Stands, RowStands, SpanIn, lent}
 use Rattle.subject_index.specs.declared.Chosen.{Chosen}
-use Rattle.subject_index.specs.declared.Written.{Written}
 use Rattle.subject_index.specs.Index.{rows, walk}
 
--- The builder's answer, with what the output then holds.
-abbrev pub answer : Written → Text → table.Written
-answer r out = record { number = r .number; position = r .position; output = out }
+-- So many bytes of a record stand before its text.
+abbrev pub head-size : ℕ
+head-size = 12
 
 -- ---- Subjects by the numbers of their terms: 0 is none
 

@@ -9,7 +9,8 @@ ghost use Rattle.table.specs.Layout.{row-at};
 ghost use Rattle.table.specs.Usable.{text};
 ghost use Rattle.usable.specs.Lent.{Stands, RowStands, slices, lent, drawn};
 ghost use Rattle.subject_index.specs.Index.{rows, head-of, record-of, index-of, subject, write, check};
-ghost use Rattle.subject_index.specs.Code.{answer, named, subject-number, Readable, Known, SubjectIn, Ready, rises, below, Chooses};
+ghost use Rattle.subject_index.specs.Answer.{answer};
+ghost use Rattle.subject_index.specs.Code.{head-size, named, subject-number, Readable, Known, SubjectIn, Ready, rises, below, Chooses};
 use limits::Answer;
 use table::RowWord;
 use table::TermKind;
@@ -131,7 +132,7 @@ fn low(n: usize) -> u8
     (n % 256) as u8
 }
 
-// The marks, lengths and numbers of records.
+// What stands before the text of a record: so many bytes, of which the first two are its marks.
 struct Head {}
 
 impl Head {
@@ -253,7 +254,7 @@ fn fits_index(rows: &[u32], count: usize, terms: &[u32], store: &[u8], room: usi
 
 // Writes a record over the output, from a place on.
 fn put_record(text: &[u8], count: usize, first: usize, out: &mut [u8], at: usize)
-    requires { ⌜ at + 12 ≤ length (now out) ⌝ }
+    requires { ⌜ at + head-size ≤ length (now out) ⌝ }
     ensures { λ _. ⌜ now (out .exit) ≡ over-at at (record-of (now (text .entry)) (rows count first)) (now (out .entry)) ⌝ }
 {
     let head = head_of(text.len(), count, first);

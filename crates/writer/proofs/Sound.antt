@@ -1,20 +1,18 @@
 -- Usable tables can be written, and their lines are short.
-use mathlib.Core.Path.{_≡_, sym}
-use mathlib.Core.Bool.{Bool, true, _&&_, _||_}
+use mathlib.Core.Path.{_≡_}
+use mathlib.Core.Bool.{true, _&&_}
 use mathlib.Core.List.{_++_}
 use Prim.Native.Nat.{ℕ, _+_, _*_, _^_, _≤_, _<_}
 use native.Mathlib.Omega.{arith}
-use borrow.Author.Tests.{leb-true, le-leb, ltb-true, eqb-true, eqb-false, ne-eqb}
+use borrow.Author.Tests.{leb-true, le-leb, ltb-true, eqb-true, eqb-false}
 use lib.Dec.{eqb, ltb, leb}
 use lib.ListN.{length, length-append}
-use Rattle.text.specs.Text.{ascii, between, is-none}
-use Rattle.text.proofs.Compare.{and-left, and-right, contrary}
-use Rattle.utf8.specs.Utf8.{first-bad}
-use Rattle.utf8.proofs.Tests.{by, between-true}
-use Rattle.table.specs.Layout.{Row, Slices, row-at, iri-kind, blank-kind, literal-kind, tagged-kind}
-use Rattle.table.specs.Usable.{Takes, the, text, inside, has-kind, good-iri, good-datatype, good-tag, tag, good-term, good-row, present, resource, usable}
+use Rattle.text.specs.Text.{ascii, between}
+use Rattle.text.proofs.Compare.{and-left, and-right}
+use Rattle.utf8.proofs.Tests.{by}
+use Rattle.table.specs.Layout.{Row, Slices, row-at, iri-kind, blank-kind, literal-kind}
+use Rattle.table.specs.Usable.{Takes, the, text, inside, has-kind, good-iri, good-datatype, good-tag, tag, good-row, present, usable}
 use Rattle.table.specs.LongForm.{string-form, type-form, term-form, triple-form, line}
-use Rattle.usable.specs.Lent.{Stands, SpanIn, readable, right-kind}
 use Rattle.usable.proofs.Facts.{usable-fits, usable-row}
 use Rattle.usable.proofs.Standing.{third, fourth, bounds, stands, kind-good, text-within, text-stands, object-in, predicate-in, subject-in, graph-in}
 use Rattle.writer.specs.Drawn.{Writable, Ready, Short, bare, drawn, tag-form, literal-form}

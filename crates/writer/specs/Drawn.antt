@@ -1,6 +1,6 @@
 -- The pieces of a line, as the routines write them, and what tables must have for it.
 use mathlib.Core.Path.{_≡_}
-use mathlib.Core.List.{List, _++_}
+use mathlib.Core.List.{_++_}
 use Prim.Native.Nat.{ℕ, _+_, _≤_, _<_}
 use lib.ListN.{length}
 use Rattle.text.specs.Text.{Text, ascii, cond}

@@ -1,7 +1,5 @@
 // Terms in the long form.
 ghost use mathlib.Core.Path.{_≡_};
-ghost use Prim.Native.Nat.{_+_, _≤_, _<_};
-ghost use lib.ListN.{length};
 ghost use Rattle.text.specs.Text.{same-text};
 ghost use Rattle.dataset.specs.Terms.{xsd-string};
 ghost use Rattle.table.specs.LongForm.{type-form, term-form};

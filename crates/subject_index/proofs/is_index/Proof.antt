@@ -1,5 +1,5 @@
 -- The invariant: the bytes are the index just if, from the place reached on, they are the records behind the subject reached.
-use mathlib.Core.Path.{_≡_, ap, sym, _∙_}
+use mathlib.Core.Path.{_≡_, ap}
 use Prim.Native.Nat.{_≤_, _-_}
 use native.Mathlib.Omega.{arith}
 use borrow.Author.Tests.{not-false, not-true}
