@@ -4,18 +4,23 @@ use mathlib.Core.List.{List, [], _∷_}
 use mathlib.Core.Bool.{Bool, true, false, _||_}
 use mathlib.Core.Option.{Option, none, some}
 use Prim.Native.Nat.{ℕ, zero, suc, _+_, _*_, _/_, _%_, _≤_, _<_}
+use native.Mathlib.Nat.{min-le-left}
 use native.Mathlib.Omega.{arith}
-use borrow.Author.Tests.{eqb-true, eqb-false, ltb-true, ltb-false}
-use lib.Dec.{eqb, ltb}
-use lib.ListN.{length, getD, take, drop}
-use Rattle.text.specs.Text.{Text, same-text}
+use borrow.Author.Tests.{leb-true, eqb-true, eqb-false, ltb-true, ltb-false}
+use lib.Dec.{eqb, leb, ltb}
+use lib.ListN.{length, getD, take, drop, length-take}
+use Rattle.text.specs.Text.{Text, cond, same-text}
 use Rattle.text.specs.Words.{four-at}
 use Rattle.text.specs.Order.{smaller}
-use Rattle.text.proofs.Compare.{by, contrary, same-eq, same-refl}
-use Rattle.table.specs.Layout.{Slices}
-use Rattle.table.specs.Usable.{for-long-form, usable}
+use Rattle.text.proofs.Compare.{by, contrary, and-right, same-eq, same-refl}
+use Rattle.limits.specs.Limits.{iri-limit}
+use Rattle.iri.specs.Iri.{has-scheme}
+use Rattle.table.specs.Layout.{Slices, row-at, iri-kind}
+use Rattle.table.specs.Usable.{for-long-form, the, text, has-kind, good-iri, good-datatype, good-tag, usable}
 use Rattle.table.proofs.Written.{zero-whole}
-use Rattle.subject_index.specs.Index.{Rows, rows, head-of, record-of, insert, insert-any, is-subject, counted, sorted, walk, index, write, check}
+use Rattle.usable.proofs.Facts.{usable-row}
+use Rattle.usable.proofs.Standing.{first, kind-good, subject-in}
+use Rattle.subject_index.specs.Index.{Rows, rows, head-of, record-of, insert, insert-any, is-subject, counted, sorted, walk, subject, index, write, check}
 use Rattle.subject_index.proofs.Rising.{Rising, rising-sorted}
 use Rattle.subject_index.proofs.Above.{some-eq, none-some}
 
@@ -142,7 +147,7 @@ module _ (subject : ℕ → Option Text) (t : Text) where
   walked zero = record { few = omega arith; first = λ h. absurd (omega arith); least = λ h. absurd (omega arith); none = λ e i h. absurd (omega arith) }
   walked (suc n) = one-more n (walk subject t n) (walked n) (is-subject t (subject n)) refl
 
--- ---- A record says its text and its numbers: none is cut, since a text of usable tables has at most 1,024 bytes, and there are fewer than 2^32 rows
+-- ---- A record says its text and its numbers
 
 four-told : (n : ℕ) → n < 4294967296 → n % 256 + 256 * (n / 256 % 256) + 65536 * (n / 65536 % 256) + 16777216 * (n / 16777216 % 256) ≡ n
 four-told n h =
@@ -169,6 +174,37 @@ module _ (t : Text) (r : Rows) where
   pub first-told : r .first < 4294967296 → four-at (record-of t r) 8 ≡ r .first
   unfolding head-of four-at
   first-told h = four-told (r .first) h
+
+some-told : (b : Bool) (t u : Text) → cond b (some t) none ≡ some u → (b ≡ true) × (t ≡ u)
+some-told true t u e = (refl, some-eq t u e)
+some-told false t u e = none-some u e
+
+-- None of them is cut: a subject of usable tables has at most 1,024 bytes, and there are no more rows than 32 bits count.
+module _ (s : Slices) (e : usable for-long-form s ≡ true) where
+  subject-short : (i : ℕ) → i < s .row-count → (t : Text) → subject s i ≡ some t → length t ≤ iri-limit
+  unfolding subject
+  subject-short i h t q =
+      let n = row-at (s .rows) i .subject in
+      let p = subject-in s (row-at (s .rows) i) (usable-row for-long-form s e i h) in
+      let (k, z) = some-told (has-kind s iri-kind n) (text s n) t q in
+      let g = first (the s n .kind) (good-iri for-long-form s n) (good-datatype s n) (good-tag for-long-form s n) (kind-good for-long-form s e n p) (eqb-true (the s n .kind) iri-kind k) in
+      let l = leb-true (the s n .size) iri-limit (and-right (has-scheme (text s n)) (leb (the s n .size) iri-limit) g) in
+      let m : length (text s n) ≤ the s n .size = rw (length-take (the s n .size) (drop (the s n .start) (s .store))) (min-le-left (the s n .size) (length (drop (the s n .start) (s .store)))) in
+      rw (sym z) (omega arith)
+
+  pub uncut : s .row-count < 4294967296 → (t : Text) → has t (sorted (subject s) (s .row-count)) ≡ true
+      → (length t < 65536) × ((walk (subject s) t (s .row-count) .count < 4294967296) × (walk (subject s) t (s .row-count) .first < 4294967296))
+  uncut few t h =
+      let (i, (l, r)) = only-listed (subject s) t (s .row-count) h in
+      let W = walked (subject s) t (s .row-count) in
+      let short = subject-short i l t r in
+      let count = W .few in
+      let some-row : 0 < walk (subject s) t (s .row-count) .count =
+      by (eqb 0 (walk (subject s) t (s .row-count) .count))
+      (λ x. absurd (W .none (sym (eqb-true 0 (walk (subject s) t (s .row-count) .count) x)) i l r))
+      (λ x. omega (arith, eqb-false 0 (walk (subject s) t (s .row-count) .count) x)) in
+      let least = W .first some-row .0 in
+      (omega arith, (omega arith, omega arith))
 
 -- ---- "yes exactly when the bytes are the index of the given tables"
 
