@@ -110,15 +110,22 @@ module _ (subject : ℕ → Option Text) (t : Text) where
 
   -- ---- "the number of its rows", "the number of its first row (from 0)"
 
+  -- Its rows among the first n, the last of them first.
+  unfoldable pub its-rows : ℕ → List ℕ
+  its-rows zero = []
+  its-rows (suc n) = let r = its-rows n in cond (is-subject t (subject n)) (n ∷ r) r
+
   pub record Walked (n : ℕ) (r : Rows) : Type 0 where
+    pub all : r .count ≡ length (its-rows n)
     pub few : r .count ≤ n
     pub first : 0 < r .count → (r .first < n) × Row (r .first)
     pub least : 0 < r .count → (i : ℕ) → i < r .first → Row i → ⊥
     pub none : r .count ≡ 0 → (i : ℕ) → i < n → Row i → ⊥
 
   one-more : (n : ℕ) (w : Rows) → Walked n w → (b : Bool) → is-subject t (subject n) ≡ b → Walked (suc n) (counted n b w)
-  unfolding counted
+  unfolding counted its-rows
   one-more n w W false q = record {
+    all = rw q (W .all);
     few = let k = W .few in omega arith;
     first = λ h. let (l, r) = W .first h in (omega arith, r);
     least = W .least;
@@ -128,6 +135,7 @@ module _ (subject : ℕ → Option Text) (t : Text) where
       by (eqb (w .count) 0)
       (λ z. let y = eqb-true (w .count) 0 z in
       rw z (record {
+        all = rw q (let k = W .all in omega arith);
         few = let k = W .few in omega arith;
         first = λ h. (omega arith, is-row (subject n) q);
         least = λ h i l r. W .none y i l r;
@@ -136,6 +144,7 @@ module _ (subject : ℕ → Option Text) (t : Text) where
       (λ z. let y = eqb-false (w .count) 0 z in
       let some-row : 0 < w .count = by (eqb 0 (w .count)) (λ x. absurd (y (sym (eqb-true 0 (w .count) x)))) (λ x. omega (arith, eqb-false 0 (w .count) x)) in
       rw z (record {
+        all = rw q (let k = W .all in omega arith);
         few = let k = W .few in omega arith;
         first = λ h. let (l, r) = W .first some-row in (omega arith, r);
         least = λ h. W .least some-row;
@@ -143,8 +152,8 @@ module _ (subject : ℕ → Option Text) (t : Text) where
       }))
 
   pub walked : (n : ℕ) → Walked n (walk subject t n)
-  unfolding walk
-  walked zero = record { few = omega arith; first = λ h. absurd (omega arith); least = λ h. absurd (omega arith); none = λ e i h. absurd (omega arith) }
+  unfolding walk its-rows
+  walked zero = record { all = refl; few = omega arith; first = λ h. absurd (omega arith); least = λ h. absurd (omega arith); none = λ e i h. absurd (omega arith) }
   walked (suc n) = one-more n (walk subject t n) (walked n) (is-subject t (subject n)) refl
 
 -- ---- A record says its text and its numbers

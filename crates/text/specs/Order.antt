@@ -1,4 +1,4 @@
--- The order of texts by their bytes, as unsigned numbers: a beginning comes before its continuation.
+-- "in byte order of its text" (C-16): bytes as unsigned numbers, a beginning before its continuation.
 use mathlib.Core.List.{[], _∷_}
 use mathlib.Core.Bool.{Bool, true, false, _&&_, _||_}
 use lib.Dec.{eqb, ltb}

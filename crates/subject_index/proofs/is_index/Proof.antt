@@ -58,33 +58,7 @@ returns-2 c =
 text-of-requires-2 : tie.Need-text-of-requires-2 Inv-loop μ-loop
 text-of-requires-2 c κs = c .before .before .before .before .before .next-subject .ensures .known (c .before .before .before .before .if1 .left)
 
-add-at : tie.Need-add-at Inv-loop μ-loop
-add-at c =
-    let a = c .before .before .before .before .before .before .before .before .before .before .before .before .args in
-    let s = lent (a .terms .now) 0 (a .store .now) 0 in
-    let f = subject (drawn (a .rows .now) (a .terms .now) (a .store .now)) in
-    let p = named s (c .before .before .before .before .before .before .before .loop .before) in
-    let l = record-fits s f (a .count) p (c .before .before .before .before .before .before .next-subject .result) (c .before .before .before .before .before .before .next-subject .ensures) (a .bytes .now) (c .before .before .before .before .before .before .before .loop .at) (c .before .before .before .before .before .before .before .loop .inv .0) (c .before .before .before .before .before .before .before .loop .inv .1 .1) (c .before .before .before .before .before .if1 .left) _ (c .before .before .before .text-of .ensures) _ (c .before .before .has-record .ensures) (not-false _ (c .before .if2 .left)) _ (c .text-of2 .ensures) in
-    omega (arith, l)
-
-add-at-2 : tie.Need-add-at-2 Inv-loop μ-loop
-add-at-2 c =
-    let a = c .before .before .before .before .before .before .before .before .before .before .before .before .args in
-    let s = lent (a .terms .now) 0 (a .store .now) 0 in
-    let f = subject (drawn (a .rows .now) (a .terms .now) (a .store .now)) in
-    let p = named s (c .before .before .before .before .before .before .before .loop .before) in
-    let l = record-fits s f (a .count) p (c .before .before .before .before .before .before .next-subject .result) (c .before .before .before .before .before .before .next-subject .ensures) (a .bytes .now) (c .before .before .before .before .before .before .before .loop .at) (c .before .before .before .before .before .before .before .loop .inv .0) (c .before .before .before .before .before .before .before .loop .inv .1 .1) (c .before .before .before .before .before .if1 .left) _ (c .before .before .before .text-of .ensures) _ (c .before .before .has-record .ensures) (not-false _ (c .before .if2 .left)) _ (c .text-of2 .ensures) in
-    omega (arith, l)
-
-loop-less : tie.Need-loop-less Inv-loop μ-loop
-loop-less c =
-    let a = c .before .before .before .before .before .before .before .before .before .before .before .before .args in
-    let s = lent (a .terms .now) 0 (a .store .now) 0 in
-    let f = subject (drawn (a .rows .now) (a .terms .now) (a .store .now)) in
-    let p = named s (c .before .before .before .before .before .before .before .loop .before) in
-    let l = record-fits s f (a .count) p (c .before .before .before .before .before .before .next-subject .result) (c .before .before .before .before .before .before .next-subject .ensures) (a .bytes .now) (c .before .before .before .before .before .before .before .loop .at) (c .before .before .before .before .before .before .before .loop .inv .0) (c .before .before .before .before .before .before .before .loop .inv .1 .1) (c .before .before .before .before .before .if1 .left) _ (c .before .before .before .text-of .ensures) _ (c .before .before .has-record .ensures) (not-false _ (c .before .if2 .left)) _ (c .text-of2 .ensures) in
-    omega (arith, l)
-
+-- What holds of the next round says where it begins, and so that nothing overflows on the way there.
 loop-again : tie.Need-loop-again Inv-loop μ-loop
 loop-again c =
     let a = c .before .before .before .before .before .before .before .before .before .before .before .before .args in
@@ -93,6 +67,15 @@ loop-again c =
     let p = named s (c .before .before .before .before .before .before .before .loop .before) in
     let l = record-fits s f (a .count) p (c .before .before .before .before .before .before .next-subject .result) (c .before .before .before .before .before .before .next-subject .ensures) (a .bytes .now) (c .before .before .before .before .before .before .before .loop .at) (c .before .before .before .before .before .before .before .loop .inv .0) (c .before .before .before .before .before .before .before .loop .inv .1 .1) (c .before .before .before .before .before .if1 .left) _ (c .before .before .before .text-of .ensures) _ (c .before .before .has-record .ensures) (not-false _ (c .before .if2 .left)) _ (c .text-of2 .ensures) in
     (omega (arith, l), (c .before .before .before .before .before .before .next-subject .ensures .known, record-more s f (a .count) p (c .before .before .before .before .before .before .next-subject .result) (c .before .before .before .before .before .before .next-subject .ensures) (a .bytes .now) (c .before .before .before .before .before .before .before .loop .at) (c .before .before .before .before .before .before .before .loop .inv .0) (c .before .before .before .before .before .before .before .loop .inv .1 .1) (c .before .before .before .before .before .if1 .left) _ (c .before .before .before .text-of .ensures) _ (c .before .before .has-record .ensures) (not-false _ (c .before .if2 .left)) _ (c .text-of2 .ensures)))
+
+add-at : tie.Need-add-at Inv-loop μ-loop
+add-at c = omega (arith, loop-again c .0)
+
+add-at-2 : tie.Need-add-at-2 Inv-loop μ-loop
+add-at-2 c = omega (arith, loop-again c .0)
+
+loop-less : tie.Need-loop-less Inv-loop μ-loop
+loop-less c = omega (arith, loop-again c .0)
 
 pub is-index-spec : {M : Type 1} → statement M
 is-index-spec =

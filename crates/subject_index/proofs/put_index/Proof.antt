@@ -53,36 +53,7 @@ put-record-requires c κs =
 text-of-requires-2 : tie.Need-text-of-requires-2 Inv-loop μ-loop
 text-of-requires-2 c κs = c .before .before .before .before .before .before .next-subject .ensures .known (c .before .before .before .before .before .if1 .left)
 
-add-at : tie.Need-add-at Inv-loop μ-loop
-add-at c =
-    let a = c .before .before .before .before .before .before .before .before .before .before .before .before .before .args in
-    let s = lent (a .terms .now) 0 (a .store .now) 0 in
-    let f = subject (drawn (a .rows .now) (a .terms .now) (a .store .now)) in
-    let p = named s (c .before .before .before .before .before .before .before .before .loop .before) in
-    let l = length-more s f (a .count) p (c .before .before .before .before .before .before .before .next-subject .result) (c .before .before .before .before .before .before .before .next-subject .ensures) (c .before .before .before .before .before .before .before .before .loop .at) (c .before .before .before .before .before .before .before .before .loop .inv .1 .1 .0) (c .before .before .before .before .before .before .if1 .left) _ (c .text-of2 .ensures) in
-    let m = put-length _ _ _ _ (c .before .before .before .put-record .ensures) in
-    omega (arith, l, m, c .before .before .before .before .before .before .before .before .loop .inv .0, c .before .before .before .before .before .before .before .before .before .before .before .before .before .pre .0 .1, c .before .before .before .before .before .before .before .before .before .before .before .before .before .pre .1)
-
-add-at-2 : tie.Need-add-at-2 Inv-loop μ-loop
-add-at-2 c =
-    let a = c .before .before .before .before .before .before .before .before .before .before .before .before .before .args in
-    let s = lent (a .terms .now) 0 (a .store .now) 0 in
-    let f = subject (drawn (a .rows .now) (a .terms .now) (a .store .now)) in
-    let p = named s (c .before .before .before .before .before .before .before .before .loop .before) in
-    let l = length-more s f (a .count) p (c .before .before .before .before .before .before .before .next-subject .result) (c .before .before .before .before .before .before .before .next-subject .ensures) (c .before .before .before .before .before .before .before .before .loop .at) (c .before .before .before .before .before .before .before .before .loop .inv .1 .1 .0) (c .before .before .before .before .before .before .if1 .left) _ (c .text-of2 .ensures) in
-    let m = put-length _ _ _ _ (c .before .before .before .put-record .ensures) in
-    omega (arith, l, m, c .before .before .before .before .before .before .before .before .loop .inv .0, c .before .before .before .before .before .before .before .before .before .before .before .before .before .pre .0 .1, c .before .before .before .before .before .before .before .before .before .before .before .before .before .pre .1)
-
-loop-less : tie.Need-loop-less Inv-loop μ-loop
-loop-less c =
-    let a = c .before .before .before .before .before .before .before .before .before .before .before .before .before .args in
-    let s = lent (a .terms .now) 0 (a .store .now) 0 in
-    let f = subject (drawn (a .rows .now) (a .terms .now) (a .store .now)) in
-    let p = named s (c .before .before .before .before .before .before .before .before .loop .before) in
-    let l = length-more s f (a .count) p (c .before .before .before .before .before .before .before .next-subject .result) (c .before .before .before .before .before .before .before .next-subject .ensures) (c .before .before .before .before .before .before .before .before .loop .at) (c .before .before .before .before .before .before .before .before .loop .inv .1 .1 .0) (c .before .before .before .before .before .before .if1 .left) _ (c .text-of2 .ensures) in
-    let m = put-length _ _ _ _ (c .before .before .before .put-record .ensures) in
-    omega (arith, l, m, c .before .before .before .before .before .before .before .before .loop .inv .0, c .before .before .before .before .before .before .before .before .before .before .before .before .before .pre .0 .1, c .before .before .before .before .before .before .before .before .before .before .before .before .before .pre .1)
-
+-- What holds of the next round says where it begins, and so that nothing overflows on the way there.
 loop-again : tie.Need-loop-again Inv-loop μ-loop
 loop-again c =
     let a = c .before .before .before .before .before .before .before .before .before .before .before .before .before .args in
@@ -92,6 +63,15 @@ loop-again c =
     let l = length-more s f (a .count) p (c .before .before .before .before .before .before .before .next-subject .result) (c .before .before .before .before .before .before .before .next-subject .ensures) (c .before .before .before .before .before .before .before .before .loop .at) (c .before .before .before .before .before .before .before .before .loop .inv .1 .1 .0) (c .before .before .before .before .before .before .if1 .left) _ (c .text-of2 .ensures) in
     let m = put-length _ _ _ _ (c .before .before .before .put-record .ensures) in
     (m ∙ c .before .before .before .before .before .before .before .before .loop .inv .0, (c .before .before .before .before .before .before .before .next-subject .ensures .known, (l, over-more s f (a .count) p (c .before .before .before .before .before .before .before .next-subject .result) (c .before .before .before .before .before .before .before .next-subject .ensures) (c .before .before .before .before .before .before .before .before .loop .at) (c .before .before .before .before .before .before .before .before .loop .inv .1 .1 .0) (c .before .before .before .before .before .before .if1 .left) _ (c .text-of2 .ensures) _ (c .before .before .before .before .before .text-of .ensures) _ (c .before .before .before .before .before .before .before .before .loop .out) _ (c .before .before .before .before .before .before .before .before .loop .inv .1 .1 .1) (c .before .before .before .put-record .ensures))))
+
+add-at : tie.Need-add-at Inv-loop μ-loop
+add-at c = let i = loop-again c in omega (arith, i .0, i .1 .1 .0, c .before .before .before .before .before .before .before .before .before .before .before .before .before .pre)
+
+add-at-2 : tie.Need-add-at-2 Inv-loop μ-loop
+add-at-2 c = let i = loop-again c in omega (arith, i .0, i .1 .1 .0, c .before .before .before .before .before .before .before .before .before .before .before .before .before .pre)
+
+loop-less : tie.Need-loop-less Inv-loop μ-loop
+loop-less c = let i = loop-again c in omega (arith, i .0, i .1 .1 .0, c .before .before .before .before .before .before .before .before .loop .inv .0, c .before .before .before .before .before .before .before .before .before .before .before .before .before .pre)
 
 pub put-index-spec : {M : Type 1} → statement M
 put-index-spec =
