@@ -12,7 +12,7 @@ use crate::reader::read::{self, Answer, Request, LEAST_WORK};
 use crate::reader::tables::{Group, BLANK, IRI, LITERAL, TAGGED};
 
 /// After so many differences the rest is not looked for.
-const MOST_DIFFERENCES: u64 = 10;
+pub const MOST_DIFFERENCES: u64 = 10;
 /// What stands in an output before the call, and around it.
 const PATTERN: &[u8] = b"pattern";
 
@@ -74,7 +74,7 @@ fn short_text(random: &mut Random) -> String {
 }
 
 /// Now and then one whose length takes both bytes.
-fn iri_text(random: &mut Random) -> String {
+pub fn iri_text(random: &mut Random) -> String {
     let text = format!("{}{}", random.pick(SCHEMES), short_text(random));
     let more = if random.once_in(30) { random.below(1000) } else { 0 };
     text + &"a".repeat(more)
@@ -131,8 +131,17 @@ fn made_at_random(random: &mut Random) -> Given {
     examine::given(&Answer { rows, terms, store, ..Answer::default() }, random)
 }
 
+/// The tables of a document, or others.
+pub fn usable_at_random(random: &mut Random) -> Given {
+    if random.once_in(4) {
+        read_at_random(random)
+    } else {
+        made_at_random(random)
+    }
+}
+
 /// The records of an index: twelve bytes each, and the text.
-fn records(mut index: &[u8]) -> Vec<&[u8]> {
+pub fn records(mut index: &[u8]) -> Vec<&[u8]> {
     let mut records = Vec::new();
     while let [_, _, low, high, ..] = *index {
         let (record, rest) = index.split_at(12 + usize::from(u16::from_le_bytes([low, high])));
@@ -142,22 +151,39 @@ fn records(mut index: &[u8]) -> Vec<&[u8]> {
     records
 }
 
+pub fn any_bytes(random: &mut Random) -> Vec<u8> {
+    (0..random.below(40)).map(|_| random.next() as u8).collect()
+}
+
+/// The index with one bit changed, or none where it is empty.
+pub fn with_bit_changed(index: &[u8], random: &mut Random) -> Option<Vec<u8>> {
+    if index.is_empty() {
+        return None;
+    }
+    let mut changed = index.to_vec();
+    changed[random.below(index.len())] ^= 1 << random.below(8);
+    Some(changed)
+}
+
+/// The index with two records in each other's place, or none where it has fewer.
+pub fn with_two_swapped(records: &[&[u8]], random: &mut Random) -> Option<Vec<u8>> {
+    if records.len() < 2 {
+        return None;
+    }
+    let first = random.below(records.len() - 1);
+    let second = first + 1 + random.below(records.len() - 1 - first);
+    let mut swapped = records.to_vec();
+    swapped.swap(first, second);
+    Some(swapped.concat())
+}
+
 /// Bytes that are not the index, unless it is empty: some of it, more than it, some of it changed or in another order, and any bytes.
 fn others(index: &[u8], random: &mut Random) -> Vec<Vec<u8>> {
-    let any: Vec<u8> = (0..random.below(40)).map(|_| random.next() as u8).collect();
+    let any = any_bytes(random);
     let mut others = vec![Vec::new(), [index, &[random.next() as u8]].concat(), [b"GX", &any[..]].concat(), any];
-    if let [less @ .., _] = index {
-        let mut changed = index.to_vec();
-        changed[random.below(index.len())] ^= 1 << random.below(8);
-        others.extend([less.to_vec(), changed]);
-    }
-    let mut records = records(index);
-    if records.len() > 1 {
-        let first = random.below(records.len() - 1);
-        let second = first + 1 + random.below(records.len() - 1 - first);
-        records.swap(first, second);
-        others.push(records.concat());
-    }
+    others.extend(index.split_last().map(|(_, less)| less.to_vec()));
+    others.extend(with_bit_changed(index, random));
+    others.extend(with_two_swapped(&records(index), random));
     others
 }
 
@@ -220,7 +246,7 @@ pub fn run(seed: u64, count: u64) -> bool {
     println!("seed {seed}, {count} tables");
     let (mut random, mut tally, mut differences) = (Random(seed), Tally::default(), 0);
     while tally.tables < count && differences < MOST_DIFFERENCES {
-        let mut given = if random.once_in(4) { read_at_random(&mut random) } else { made_at_random(&mut random) };
+        let mut given = usable_at_random(&mut random);
         let before = index::index(&given).expect("tables read, or made here, are usable");
         if random.once_in(3) {
             examine::damage(&mut random, &mut given);
@@ -250,7 +276,7 @@ struct Case {
     call: Call,
 }
 
-fn word(value: &Value) -> Result<u32, String> {
+pub fn word(value: &Value) -> Result<u32, String> {
     u32::try_from(value.number()?).map_err(|e| e.to_string())
 }
 

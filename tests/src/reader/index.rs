@@ -17,9 +17,9 @@ pub fn check(given: &Given, bytes: &[u8]) -> (u32, bool) {
 }
 
 /// How many rows a subject has, and the number of the first.
-struct Rows {
-    count: u32,
-    first: u32,
+pub struct Rows {
+    pub count: u32,
+    pub first: u32,
 }
 
 /// The whole index, or none for 18. Subjects are told apart by their texts: two IRI terms may have the same one.
@@ -35,7 +35,7 @@ pub fn index(given: &Given) -> Option<Vec<u8>> {
 }
 
 /// "the two bytes 47 58 hex, the text length in two bytes, the number of its rows in four, the number of its first row (from 0) in four"
-fn record(text: &[u8], rows: &Rows) -> Vec<u8> {
+pub fn record(text: &[u8], rows: &Rows) -> Vec<u8> {
     let length = u16::try_from(text.len()).expect("18 was given for an IRI that is longer");
     [&[0x47, 0x58][..], &length.to_le_bytes(), &rows.count.to_le_bytes(), &rows.first.to_le_bytes(), text].concat()
 }
