@@ -40,6 +40,8 @@ row appended 4 $evidence appended --seed 42 --count 100000
 if [ -n "$shared" ] && [ -f "$shared/cases/requests/C-22.jsonl" ]; then row pairs 4 $evidence appended "$shared/cases/requests/C-22.jsonl"; else echo "pairs: skipped, there are none"; fi
 row index 3 $evidence index --seed 42 --count 100000
 if [ -n "$shared" ] && [ -f "$shared/cases/requests/C-16.jsonl" ]; then row index-cases 4 $evidence index "$shared/cases/requests/C-16.jsonl"; else echo "index-cases: skipped, there are none"; fi
+row look-up 17 $evidence look-up --seed 42 --count 100000
+if [ -n "$shared" ] && [ -f "$shared/cases/requests/C-17.jsonl" ]; then row look-up-cases 3 $evidence look-up "$shared/cases/requests/C-17.jsonl"; else echo "look-up-cases: skipped, there are none"; fi
 row program 1 sh -c 'rt check longform > /dev/null && tests/program.py'
 row c 1 c/run.sh
 row rust 2 sh -c 'cd rust && cargo test --offline --test reading'

@@ -32,6 +32,14 @@ pub struct Checked {
     pub yes: u32,
 }
 
+#[repr(C)]
+#[derive(Clone, Copy, Debug, PartialEq, Eq)]
+pub struct Found {
+    pub number: u32,
+    pub rows: u32,
+    pub first: u32,
+}
+
 /// A writer: of rows, terms and store, each with its length and how much of it is used, over the front of an output.
 pub type Writer = unsafe extern "C" fn(*const u32, usize, u32, *const u32, usize, u32, *const u8, usize, u32, *mut u8, usize) -> Written;
 
@@ -103,4 +111,6 @@ extern "C" {
         index: *const u8,
         index_length: usize,
     ) -> Checked;
+
+    pub fn sycamoot_look_up(address: *const u8, address_length: usize, index: *const u8, index_length: usize) -> Found;
 }

@@ -7,17 +7,17 @@
 #[path = "../../rust/src/library.rs"]
 mod interface;
 
-pub use interface::{Answer, Checked, Text, Written};
+pub use interface::{Answer, Checked, Found, Text, Written};
 
 #[cfg(feature = "library")]
-pub use compiled::{check_index, read, term_text, write, write_index};
+pub use compiled::{check_index, look_up, read, term_text, write, write_index};
 #[cfg(not(feature = "library"))]
-pub use stand_in::{check_index, read, term_text, write, write_index};
+pub use stand_in::{check_index, look_up, read, term_text, write, write_index};
 
 #[cfg(feature = "library")]
 mod compiled {
-    use super::interface::{sycamoot_check_index, sycamoot_read, sycamoot_term_text, sycamoot_write, sycamoot_write_index, Writer};
-    use super::{Answer, Checked, Text, Written};
+    use super::interface::{sycamoot_check_index, sycamoot_look_up, sycamoot_read, sycamoot_term_text, sycamoot_write, sycamoot_write_index, Writer};
+    use super::{Answer, Checked, Found, Text, Written};
     use crate::reader::long_form::Given;
     use crate::reader::read::Lent;
 
@@ -102,13 +102,19 @@ mod compiled {
             )
         }
     }
+
+    pub fn look_up(address: &[u8], index: &[u8]) -> Found {
+        // SAFETY: as above.
+        unsafe { sycamoot_look_up(address.as_ptr(), address.len(), index.as_ptr(), index.len()) }
+    }
 }
 
 #[cfg(not(feature = "library"))]
 mod stand_in {
-    use super::{Answer, Checked, Text, Written};
+    use super::{Answer, Checked, Found, Text, Written};
     use crate::reader::index;
     use crate::reader::long_form::{self, Given};
+    use crate::reader::look_up;
     use crate::reader::read::{self, Lent, Request};
 
     pub fn read(document: &[u8], base: &[u8], mode: u32, lent: Lent) -> Answer {
@@ -133,6 +139,10 @@ mod stand_in {
 
     pub fn check_index(given: &Given, bytes: &[u8]) -> Checked {
         Checked::of(index::check(given, bytes))
+    }
+
+    pub fn look_up(address: &[u8], index: &[u8]) -> Found {
+        Found::of(look_up::look_up(address, index))
     }
 }
 
@@ -168,5 +178,11 @@ impl Written {
 impl Checked {
     pub fn of((number, yes): (u32, bool)) -> Self {
         Checked { number, yes: u32::from(yes) }
+    }
+}
+
+impl Found {
+    pub fn of((number, rows, first): (u32, u32, u32)) -> Self {
+        Found { number, rows, first }
     }
 }

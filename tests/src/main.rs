@@ -14,6 +14,7 @@ mod json;
 mod known;
 mod library;
 mod limits;
+mod look_up;
 mod random;
 mod reader;
 mod readings;
@@ -31,6 +32,8 @@ evidence appended --seed N --count N               random documents with text ad
 evidence appended PATH                             the pairs of C-22.jsonl
 evidence index --seed N --count N                  random tables, their index and its check (C-16)
 evidence index PATH                                the calls of C-16.jsonl
+evidence look-up --seed N --count N                random indexes, whole and damaged, and look-ups in them (C-17)
+evidence look-up PATH                              the calls of C-17.jsonl
 evidence w3c PATH                                  the W3C suites (the directory with index.tsv)";
 
 fn main() -> std::process::ExitCode {
@@ -50,6 +53,8 @@ fn main() -> std::process::ExitCode {
         ["appended", path] => appended::run_cases(path),
         ["index", "--seed", seed, "--count", count] => number(seed).and_then(|seed| Ok(index::run(seed, number(count)?))),
         ["index", path] => index::run_cases(path),
+        ["look-up", "--seed", seed, "--count", count] => number(seed).and_then(|seed| Ok(look_up::run(seed, number(count)?))),
+        ["look-up", path] => look_up::run_cases(path),
         ["w3c", path] => w3c::run(path),
         _ => Err(USAGE.to_string()),
     };

@@ -7,6 +7,7 @@ pub mod index;
 pub mod iri;
 pub mod lexer;
 pub mod long_form;
+pub mod look_up;
 mod machine;
 pub mod read;
 pub mod tables;
