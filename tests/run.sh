@@ -33,7 +33,7 @@ figures() {
 evidence=tests/target/release/evidence
 if [ -n "$shared" ] && [ -d "$shared/cases" ]; then row cases 3 $evidence cases "$shared/cases/base.jsonl"; else echo "cases: skipped, there is no directory of cases"; fi
 if [ -n "$shared" ] && [ -d "$shared/w3c" ]; then row w3c 9 $evidence w3c "$shared/w3c"; else echo "w3c: skipped, the suites are not there"; fi
-row boundaries 17 $evidence boundaries
+row boundaries 23 $evidence boundaries
 row compare 12 $evidence compare --seed 42 --count 250000 --seconds 900
 row exhaustive 14 $evidence exhaustive
 row appended 4 $evidence appended --seed 42 --count 100000

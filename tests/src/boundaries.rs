@@ -4,6 +4,7 @@ use crate::call::Difference;
 use crate::indexed;
 use crate::known::{accepted, known, Known};
 use crate::limits;
+use crate::looked_up;
 use crate::readings;
 use crate::room;
 use crate::statements::Node;
@@ -140,6 +141,12 @@ pub fn run() -> bool {
         ("index, records", indexed::records()),
         ("index, every length", indexed::lengths()),
         ("index, every bit changed", indexed::bits()),
+        ("look-up, the readings' examples", looked_up::examples()),
+        ("look-up, every cut", looked_up::cuts()),
+        ("look-up, each reason for 23", looked_up::refused()),
+        ("look-up, order of texts", looked_up::order()),
+        ("look-up, lengths of texts", looked_up::lengths()),
+        ("look-up, numbers of a record", looked_up::numbers()),
     ];
     let checked = groups.map(|(group, calls)| (group, calls.iter().map(check).collect()));
     let mut all_good = true;

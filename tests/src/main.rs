@@ -15,6 +15,7 @@ mod known;
 mod library;
 mod limits;
 mod look_up;
+mod looked_up;
 mod random;
 mod reader;
 mod readings;
@@ -27,7 +28,7 @@ const USAGE: &str = "\
 evidence cases PATH                                calls with answers (base.jsonl)
 evidence compare --seed N --count N --seconds S    random documents, and documents at the limits
 evidence exhaustive                                all small documents of several kinds, every character
-evidence boundaries                                limits, room, RFC 3986 5.4, readings, bench table, writer, index
+evidence boundaries                                limits, room, RFC 3986 5.4, readings, bench table, writer, index, look-up
 evidence appended --seed N --count N               random documents with text added behind a line feed (C-22)
 evidence appended PATH                             the pairs of C-22.jsonl
 evidence index --seed N --count N                  random tables, their index and its check (C-16)
