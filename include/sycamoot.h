@@ -33,7 +33,8 @@ enum sycamoot_number {
     SYCAMOOT_STORE = 16,            /* too small a store for what this token writes: the token */
     SYCAMOOT_OUTPUT = 17,           /* the long form does not fit its buffer: 0 */
     SYCAMOOT_TABLES = 18,           /* the tables, or a term's number, are not usable: 0 */
-    SYCAMOOT_INDEX_OUTPUT = 22      /* the index of subjects does not fit its output: 0 */
+    SYCAMOOT_INDEX_OUTPUT = 22,     /* the index of subjects does not fit its output: 0 */
+    SYCAMOOT_INDEX = 23             /* a record up to the stopping one has no mark, is cut short, over 1,024 bytes or does not rise: none */
 };
 
 /* The languages. */
@@ -77,6 +78,12 @@ typedef struct {
     uint32_t yes;    /* 1 where the bytes are the index, else 0 */
 } sycamoot_checked;
 
+typedef struct {
+    uint32_t number; /* SYCAMOOT_ACCEPTED or SYCAMOOT_INDEX */
+    uint32_t rows;   /* how many rows the subject has, */
+    uint32_t first;  /* and the number of the first, from 0; both 0 for a subject that is not there, and after a refusal */
+} sycamoot_found;
+
 /* Reads a document. 1 to 4 leave all memory as it was. 5 to 16 leave zeros in all four slices. After 0 the rows, terms and
  * bytes that are counted stand in front, what lies past them is as it was, and the work slice is zeros. */
 sycamoot_answer sycamoot_read(const uint8_t *document, size_t document_length, const uint8_t *base, size_t base_length,
@@ -104,6 +111,16 @@ sycamoot_written sycamoot_write_index(const uint32_t *rows, size_t row_words, ui
 sycamoot_checked sycamoot_check_index(const uint32_t *rows, size_t row_words, uint32_t row_count, const uint32_t *terms,
                                       size_t term_words, uint32_t term_count, const uint8_t *store, size_t store_length,
                                       uint32_t store_count, const uint8_t *index, size_t index_length);
+
+/* Looks a subject up by its address, in an index of subjects: how many rows it has, and the number of the first. Any bytes may
+ * be given as either. The records are read from the front, and no further than the stopping one: the first whose text is not
+ * smaller than the address, byte by byte, a beginning being smaller than what goes on. Where that text is the address, the
+ * record's two numbers are given as they stand; else, and where the bytes end before it, the subject is not there. 23 where a
+ * record that was read, the stopping one too, lacks its mark 47 58 hex, is cut short by the end of the bytes, has a length over
+ * 1,024, or a text that is not greater than the one before. What is behind the stopping record is not looked at, so that 0 does
+ * not say that the bytes are an index; in those that sycamoot_check_index accepts, the answer is that of a walk over all rows.
+ * The time grows with the bytes before the stopping record. No memory is needed but the index's bytes: there need be no tables. */
+sycamoot_found sycamoot_look_up(const uint8_t *address, size_t address_length, const uint8_t *index, size_t index_length);
 
 #ifdef __cplusplus
 }

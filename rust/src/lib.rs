@@ -4,7 +4,7 @@ use std::fmt;
 
 mod library;
 
-pub use library::{Answer, Checked, Text, Written};
+pub use library::{Answer, Checked, Found, Text, Written};
 
 /// The longest document, in bytes.
 pub const DOCUMENT_BYTES: usize = 1_048_576;
@@ -46,7 +46,7 @@ pub fn read_into(document: &[u8], base: &[u8], mode: Mode, work: &mut [u8], rows
     }
 }
 
-/// A refusal: its number (1 to 18, or 22) and the byte position that it speaks of.
+/// A refusal: its number (1 to 18, 22 or 23) and the byte position that it speaks of, 0 where it speaks of none.
 #[derive(Clone, Copy, Debug, PartialEq, Eq)]
 pub struct Refusal {
     pub number: u32,
@@ -74,6 +74,7 @@ impl Refusal {
             16 => "too small a store",
             17 => "the long form does not fit its buffer",
             22 => "the index does not fit its buffer",
+            23 => "a record of the index lacks its mark, is cut short, has a length over 1,024 or does not rise",
             _ => "the tables are not usable",
         }
     }
@@ -246,4 +247,22 @@ impl Dataset {
         out.truncate(w.position as usize);
         Ok(out)
     }
+}
+
+/// The rows of a subject: how many there are, and the number of the first, from 0. Both are 0 for a subject that is not there.
+#[derive(Clone, Copy, Debug, PartialEq, Eq)]
+pub struct Rows {
+    pub count: u32,
+    pub first: u32,
+}
+
+/// Looks a subject up by its address, in an index of subjects; the dataset need not be there. The records are read up to the first whose
+/// text is not smaller, and what is behind that one is not looked at.
+pub fn look_up(address: &[u8], index: &[u8]) -> Result<Rows, Refusal> {
+    // SAFETY: both pointers come from slices of those lengths.
+    let f = unsafe { library::sycamoot_look_up(address.as_ptr(), address.len(), index.as_ptr(), index.len()) };
+    if f.number != 0 {
+        return Err(Refusal { number: f.number, position: 0 });
+    }
+    Ok(Rows { count: f.rows, first: f.first })
 }

@@ -1,4 +1,4 @@
-use sycamoot::{Dataset, Mode, Refusal, Room, Term};
+use sycamoot::{look_up, Dataset, Mode, Refusal, Room, Rows, Term};
 
 const ROOM: Room = Room { rows: 100, terms: 100, store: 10_000 };
 
@@ -49,4 +49,17 @@ fn the_index_has_a_record_for_each_subject() {
     assert!(d.is_index(&index));
     assert!(!d.is_index(&index[..index.len() - 1]));
     assert_eq!(d.index(index.len() - 1).err(), Some(Refusal { number: 22, position: 0 }));
+}
+
+#[test]
+fn a_subject_is_looked_up_in_the_index_alone() {
+    let index = read("<x:b> <x:p> 1, 1 . <x:a> <x:p> 1 . _:a <x:p> 2 . <x:g> { <x:b> <x:p> 1 }").unwrap().index(1000).unwrap();
+    assert_eq!(look_up(b"x:a", &index), Ok(Rows { count: 1, first: 2 }));
+    assert_eq!(look_up(b"x:b", &index), Ok(Rows { count: 3, first: 0 }));
+    assert_eq!(look_up(b"x:g", &index), Ok(Rows { count: 0, first: 0 }));
+    let cut = &index[..index.len() - 1];
+    assert_eq!(look_up(b"x:a", cut), Ok(Rows { count: 1, first: 2 }));
+    let r = look_up(b"x:b", cut).err().unwrap();
+    assert_eq!(r, Refusal { number: 23, position: 0 });
+    assert_eq!(r.to_string(), "refused 23 at 0: a record of the index lacks its mark, is cut short, has a length over 1,024 or does not rise");
 }
