@@ -1,4 +1,5 @@
-/* Provokes every answer once through the C interface, and compares number and position (of a check, number and yes). */
+/* Provokes every answer once through the C interface, and compares number and position (of a check, number and yes; of a look-up,
+ * number and rows). */
 #include <inttypes.h>
 #include <stdio.h>
 #include <stdlib.h>
@@ -131,6 +132,18 @@ int main(void)
     compare("the check of a byte less", c.number, c.yes, SYCAMOOT_ACCEPTED, 0);
     c = sycamoot_check_index(rows, all.rows, a.rows, terms, all.terms, a.terms - 1, store, sizeof store, a.store, index, sizeof index);
     compare("the check where a term is missing", c.number, c.yes, SYCAMOOT_TABLES, 0);
+
+    /* Its subject in that index, one that is not there, and a record that is cut short. */
+    const uint8_t subject[] = {'x', ':', 's'};
+    sycamoot_found f = sycamoot_look_up(subject, sizeof subject, index, sizeof index);
+    compare("the look-up of its subject", f.number, f.rows, SYCAMOOT_ACCEPTED, 1);
+    wrong |= f.first != 0;
+    f = sycamoot_look_up(subject, sizeof subject - 1, index, sizeof index);
+    compare("the look-up of a byte less", f.number, f.rows, SYCAMOOT_ACCEPTED, 0);
+    wrong |= f.first != 0;
+    f = sycamoot_look_up(subject, sizeof subject, index, sizeof index - 1);
+    compare("the look-up in a byte less", f.number, f.rows, SYCAMOOT_INDEX, 0);
+    wrong |= f.first != 0;
 
     puts(wrong ? "some answers are wrong" : "every answer is as it should be");
     return wrong;
