@@ -2,10 +2,10 @@
 #define _GNU_SOURCE
 #include <stdio.h>
 #include <stdlib.h>
-#include <time.h>
 
 #include "painted.h"
 #include "sycamoot.h"
+#include "timed.h"
 
 enum { ROWS = 30000, SUBJECTS = 3000, TERMS = SUBJECTS + 1, STORE = 64 * TERMS, OUT = 128 * SUBJECTS };
 
@@ -49,22 +49,6 @@ static void check(void)
 }
 
 static void nothing(void) {}
-
-// The best of three.
-static double seconds_of(void (*call)(void))
-{
-    double best = 1e9;
-    for (int i = 0; i < 3; i++) {
-        struct timespec a, b;
-        clock_gettime(CLOCK_THREAD_CPUTIME_ID, &a);
-        call();
-        clock_gettime(CLOCK_THREAD_CPUTIME_ID, &b);
-        double took = (b.tv_sec - a.tv_sec) + (b.tv_nsec - a.tv_nsec) * 1e-9;
-        if (took < best)
-            best = took;
-    }
-    return best;
-}
 
 int main(void)
 {
