@@ -1,24 +1,34 @@
--- The demands, C-16 and C-22, over the contract of the reader's call.
-use mathlib.Core.Path.{_≡_, sym, ap, subst, _∙_}
+-- The demands, C-16, C-17 and C-22, over the contract of the reader's call.
+use mathlib.Core.Path.{_≡_, refl, sym, ap, subst, _∙_}
+use mathlib.Core.List.{List, [], _∷_, map}
 use mathlib.Core.Bool.{true}
 use mathlib.Core.Logic.{_↔_}
-use Prim.Native.Nat.{ℕ, _≤_}
-use lib.ListN.{length, take}
+use Prim.Native.Nat.{ℕ, zero, suc, _≤_}
+use native.Mathlib.Omega.{arith}
+use lib.ListN.{length, take, length-map}
 use Rattle.text.specs.Text.{Text}
+use Rattle.limits.specs.Limits.{iri-limit}
 use Rattle.token.specs.Tokens.{lexemes, place-of}
+use Rattle.dataset.specs.Terms.{Blank, Term, iri, blank, literal, tagged, Quad}
+use Rattle.dataset.specs.Statements.{statements}
 use Rattle.table.specs.Layout.{Slices}
 use Rattle.table.specs.Usable.{for-long-form, usable}
 use Rattle.table.proofs.Written.{fits-zero}
+use Rattle.look_up.specs.Look.{found, look}
 use Rattle.subject_index.specs.declared.Checked.{Checked}
 use Rattle.subject_index.specs.Index.{index, check}
 use Rattle.subject_index.specs.Index.{write as write-index}
+use Rattle.subject_index.specs.About.{iri-text, subject-of, about}
 use Rattle.subject_index.proofs.Expected.{written-yes}
-use Rattle.machine.specs.Read.{Answer, read}
+use Rattle.subject_index.proofs.Looked.{look-tables}
+use Rattle.subject_index.proofs.About.{walk-same, walk-held}
+use Rattle.machine.specs.Read.{Answer, mode-of, read}
 use Rattle.machine.specs.Demand.{Meets}
 use Rattle.machine.proofs.Demands.{accepted-iff-meets}
 use Rattle.reader.specs.Reader.{LentSlices, lengths, Gives, Contract}
 use Rattle.reader.specs.declared.Reading.{Reading}
-use Rattle.readback.specs.ReadBack.{slices-after, RoundTrip}
+use Rattle.reader.proofs.Counts.{rows-small}
+use Rattle.readback.specs.ReadBack.{with-blanks-term, with-blanks, slices-after, RoundTrip}
 use Rattle.readback.specs.HandedOver.{HandedOver}
 use Rattle.readback.proofs.RoundTrip.{written-again}
 use Rattle.readback.proofs.HandedOver.{handed-over}
@@ -32,6 +42,22 @@ use Rattle.appended.specs.Parts.{MeetsBehind}
 use Rattle.appended.proofs.Appended.{appended}
 use Rattle.appended.proofs.Parts.{told-from-parts}
 use Rattle.calls.specs.Calls.{accepted, handed}
+
+-- Other names for blank nodes change nothing of what statements say about an IRI.
+module _ (f : Blank → Blank) where
+  same-text : (t : Term) → iri-text (with-blanks-term f t) ≡ iri-text t
+  same-text (iri t) = refl
+  same-text (blank b) = refl
+  same-text (literal t d) = refl
+  same-text (tagged t g) = refl
+
+  same-subject : (qs : List Quad) (i : ℕ) → subject-of (map (with-blanks f) qs) i ≡ subject-of qs i
+  same-subject [] i = refl
+  same-subject (q ∷ qs) zero = same-text (q .triple .subject)
+  same-subject (q ∷ qs) (suc i) = same-subject qs i
+
+  about-renamed : (qs : List Quad) (t : Text) → about (map (with-blanks f) qs) t ≡ about qs t
+  about-renamed qs t = rw (length-map qs (with-blanks f)) (walk-same (subject-of (map (with-blanks f) qs)) (subject-of qs) t (length qs) (λ i h. same-subject qs i))
 
 -- One call.
 module _ (doc : Text) (mode : ℕ) (base : Text) (old new : LentSlices) (r : Reading) (c : Contract doc mode base old new r) where
@@ -78,6 +104,16 @@ module _ (doc : Text) (mode : ℕ) (base : Text) (old new : LentSlices) (r : Rea
       let u = read-again e .usable in
       let z = fits-zero 22 (usable for-long-form s) (index s) out u l in
       (z, ap (λ (c : Checked). c .yes) (written-yes s out z))
+
+  -- C-17: for bytes that the check accepts, the look-up says how many of the document's statements have the address as their subject, and which is the first.
+  pub looked-up : (e : r .number ≡ accepted) (bytes : Text) → check (handed new r) bytes .yes ≡ true → (address : Text)
+      → look iri-limit address bytes ≡ found 0 (about (statements (mode-of mode) (handed-statements e .derivation) base) address)
+  looked-up e bytes said address =
+      let s = handed new r in
+      let h = handed-statements e in
+      let few = rows-small doc mode base old new r c in
+      look-tables s (omega arith) bytes said iri-limit (omega arith) (omega arith) address
+      ∙ ap (found 0) (walk-held s address ∙ (ap (λ (qs : List Quad). about qs address) (h .same) ∙ about-renamed (h .rename) (statements (mode-of mode) (h .derivation) base) address))
 
   -- "a grammar refusal stands at the first token with which the tokens so far begin no grammatical text", and only there
   pub refused-there : (i : ℕ) → FailsFirst doc mode base (lengths old) i → (r .number ≡ grammar-refusal) × (r .position ≡ place-of (length doc) (lexemes doc) i)

@@ -68,4 +68,6 @@ impl Answer {
     pub const TABLES: u8 = 18;
 
     pub const INDEX_OUTPUT: u8 = 22;
+
+    pub const INDEX: u8 = 23;
 }

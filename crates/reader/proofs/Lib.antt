@@ -2,3 +2,4 @@ pub mod Lending
 pub mod Start
 pub mod End
 pub mod Checks
+pub mod Counts

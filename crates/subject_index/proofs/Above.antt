@@ -8,8 +8,8 @@ use native.Mathlib.Omega.{arith}
 use Rattle.text.specs.Text.{Text, cond, same-text}
 use Rattle.text.proofs.Compare.{by, same-eq}
 use Rattle.text.specs.Order.{smaller}
-use Rattle.subject_index.specs.Code.{rises}
 use Rattle.text.proofs.Order.{smaller-self, smaller-trans, smaller-other, one-of-three}
+use Rattle.look_up.specs.Look.{rises}
 use Rattle.subject_index.specs.Index.{insert, insert-any, sorted}
 use Rattle.subject_index.specs.Code.{nearer, next}
 use Rattle.subject_index.proofs.Rising.{Rising, rising-later, rising-sorted}

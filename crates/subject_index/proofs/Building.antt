@@ -15,9 +15,10 @@ use Rattle.table.specs.Layout.{Slices}
 use Rattle.table.specs.Usable.{for-long-form, text, usable}
 use Rattle.table.proofs.Written as told
 use Rattle.usable.specs.Lent.{drawn}
+use Rattle.look_up.specs.Record.{Rows, head-of, record-of, head-size}
 use Rattle.subject_index.specs.declared.Chosen.{Chosen}
-use Rattle.subject_index.specs.Index.{Rows, head-of, record-of, index-of, subject, index, write}
-use Rattle.subject_index.specs.Code.{head-size, named, Chooses}
+use Rattle.subject_index.specs.Index.{index-of, subject, index, write}
+use Rattle.subject_index.specs.Code.{named, Chooses}
 use Rattle.subject_index.proofs.Checking.{head-length, rows-of, record-length, left, all-left, none-left, one-left, index-drawn}
 
 -- A record is written in two parts.

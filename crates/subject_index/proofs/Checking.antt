@@ -16,10 +16,11 @@ use Rattle.table.specs.Usable.{for-long-form, text, usable}
 use Rattle.usable.specs.Lent.{drawn}
 use Rattle.usable.proofs.Facts.{usable-fits, usable-row}
 use Rattle.usable.proofs.Standing.{stands, text-stands, subject-in}
+use Rattle.look_up.specs.Record.{Rows, rows, head-of, record-of, head-size}
 use Rattle.subject_index.specs.declared.Chosen.{Chosen}
 use Rattle.subject_index.specs.declared.Checked.{Checked}
-use Rattle.subject_index.specs.Index.{Rows, rows, head-of, record-of, sorted, walk, records, index-of, subject, index, check}
-use Rattle.subject_index.specs.Code.{head-size, named, Ready, next, Chooses}
+use Rattle.subject_index.specs.Index.{sorted, walk, records, index-of, subject, index, check}
+use Rattle.subject_index.specs.Code.{named, Ready, next, Chooses}
 use Rattle.subject_index.proofs.Rising.{rising-sorted}
 use Rattle.subject_index.proofs.Above.{above, above-all, above-next, above-end, next-sorted}
 use Rattle.subject_index.proofs.Choosing.{named-none, named-some}

@@ -15,9 +15,11 @@ use Rattle.text.proofs.Order.{smaller-trans, smaller-differs}
 use Rattle.table.specs.Layout.{Slices, row-at, entry-at, iri-kind}
 use Rattle.table.specs.Usable.{text}
 use Rattle.usable.specs.Lent.{lent, drawn}
+use Rattle.look_up.specs.Record.{Rows, rows}
+use Rattle.look_up.specs.Look.{rises}
 use Rattle.subject_index.specs.declared.Chosen.{Chosen}
-use Rattle.subject_index.specs.Index.{Rows, rows, is-subject, counted, walk, subject}
-use Rattle.subject_index.specs.Code.{named, subject-number, Readable, Known, SubjectIn, rises, below, nearer, next, Chooses}
+use Rattle.subject_index.specs.Index.{is-subject, counted, walk, subject}
+use Rattle.subject_index.specs.Code.{named, subject-number, Readable, Known, SubjectIn, below, nearer, next, Chooses}
 use Rattle.subject_index.proofs.Above.{some-eq, none-some}
 
 -- ---- A term by its number, 0 for none

@@ -9,12 +9,17 @@ use Rattle.text.specs.Text.{Text, ascii}
 use Rattle.text.specs.Order.{smaller}
 use Rattle.text.proofs.Table.{_⇒_, Gives}
 use Rattle.dataset.specs.Terms.{label, Term, iri, blank, literal}
+use Rattle.limits.specs.Limits.{iri-limit}
 use Rattle.table.specs.Layout.{Row, Slices}
 use Rattle.table.specs.Tables.{terms-words, store-bytes, store-size, rows-words}
+use Rattle.table.specs.Usable.{quads-held}
 use Rattle.table.specs.Written.{Written}
 use Rattle.usable.specs.Lent.{slices}
+use Rattle.look_up.specs.Record.{rows, record-of}
+use Rattle.look_up.specs.Look.{found, absent, look, computing as look-computing}
 use Rattle.subject_index.specs.declared.Checked.{Checked}
-use Rattle.subject_index.specs.Index.{rows, record-of, index, write, check, computing}
+use Rattle.subject_index.specs.Index.{index, write, check, computing}
+use Rattle.subject_index.specs.About.{about}
 
 -- ---- The order of texts: by unsigned bytes, a beginning before its continuation
 
@@ -71,6 +76,16 @@ one-text = refl
 no-subjects : index (tables (row 0 2 1 1 ∷ []) (iri (ascii "x:p") ∷ blank (label (ascii "a")) ∷ [])) ≡ []
 unfolding computing
 no-subjects = refl
+
+-- ---- The look-up in it, and the walk over all statements that it spares
+
+pallet-looked : Gives (λ t. look iri-limit t (index pallet)) (ascii "x:b" ⇒ found 0 (rows 3 0) ∷ ascii "x:a" ⇒ found 0 (rows 1 2) ∷ ascii "x:g" ⇒ absent ∷ [])
+unfolding computing look-computing
+pallet-looked = refl
+
+pallet-about : Gives (about (quads-held pallet)) (ascii "x:b" ⇒ rows 3 0 ∷ ascii "x:a" ⇒ rows 1 2 ∷ ascii "x:g" ⇒ rows 0 0 ∷ [])
+unfolding computing
+pallet-about = refl
 
 -- ---- The builder: 18, then 22, with the output as it was; what lies past the index stays
 

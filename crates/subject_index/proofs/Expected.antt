@@ -3,14 +3,13 @@ use mathlib.Core.Path.{_≡_, refl, sym, ap, _∙_}
 use mathlib.Core.List.{List, [], _∷_}
 use mathlib.Core.Bool.{Bool, true, false, _||_}
 use mathlib.Core.Option.{Option, none, some}
-use Prim.Native.Nat.{ℕ, zero, suc, _+_, _*_, _/_, _%_, _≤_, _<_}
+use Prim.Native.Nat.{ℕ, zero, suc, _≤_, _<_}
 use native.Mathlib.Nat.{min-le-left}
 use native.Mathlib.Omega.{arith}
 use borrow.Author.Tests.{leb-true, eqb-true, eqb-false, ltb-true, ltb-false}
 use lib.Dec.{eqb, leb, ltb}
-use lib.ListN.{length, getD, take, drop, length-take}
+use lib.ListN.{length, take, drop, length-take}
 use Rattle.text.specs.Text.{Text, cond, same-text}
-use Rattle.text.specs.Words.{four-at}
 use Rattle.text.specs.Order.{smaller}
 use Rattle.text.proofs.Compare.{by, contrary, and-right, same-eq, same-refl}
 use Rattle.limits.specs.Limits.{iri-limit}
@@ -20,7 +19,9 @@ use Rattle.table.specs.Usable.{for-long-form, the, text, has-kind, good-iri, go
 use Rattle.table.proofs.Written.{zero-whole}
 use Rattle.usable.proofs.Facts.{usable-row}
 use Rattle.usable.proofs.Standing.{first, kind-good, subject-in}
-use Rattle.subject_index.specs.Index.{Rows, rows, head-of, record-of, insert, insert-any, is-subject, counted, sorted, walk, subject, index, write, check}
+use Rattle.look_up.specs.Record.{Rows}
+use Rattle.look_up.proofs.Records.{Holds}
+use Rattle.subject_index.specs.Index.{insert, insert-any, is-subject, counted, sorted, walk, subject, index, write, check}
 use Rattle.subject_index.proofs.Rising.{Rising, rising-sorted}
 use Rattle.subject_index.proofs.Above.{some-eq, none-some}
 
@@ -79,7 +80,7 @@ module _ (subject : ℕ → Option Text) (t : Text) where
   abbrev pub Row : ℕ → Type 0
   Row i = subject i ≡ some t
 
-  has-any : (o : Option Text) (us : List Text) → has t (insert-any o us) ≡ (is-subject t o || has t us)
+  pub has-any : (o : Option Text) (us : List Text) → has t (insert-any o us) ≡ (is-subject t o || has t us)
   has-any none us = refl
   has-any (some u) us = has-insert t u us
 
@@ -156,41 +157,27 @@ module _ (subject : ℕ → Option Text) (t : Text) where
   walked zero = record { all = refl; few = omega arith; first = λ h. absurd (omega arith); least = λ h. absurd (omega arith); none = λ e i h. absurd (omega arith) }
   walked (suc n) = one-more n (walk subject t n) (walked n) (is-subject t (subject n)) refl
 
--- ---- A record says its text and its numbers
+-- ---- A record says its text and its numbers (`look_up: Records.read-again`), and none of them is cut
 
-four-told : (n : ℕ) → n < 4294967296 → n % 256 + 256 * (n / 256 % 256) + 65536 * (n / 65536 % 256) + 16777216 * (n / 16777216 % 256) ≡ n
-four-told n h =
-    let p : n / 65536 ≡ n / 256 / 256 = omega arith in
-    let q : n / 16777216 ≡ n / 256 / 256 / 256 = omega arith in
-    rw (p, q) (low n h)
-  where
-    low : (n : ℕ) → n < 4294967296 → n % 256 + 256 * (n / 256 % 256) + 65536 * (n / 256 / 256 % 256) + 16777216 * (n / 256 / 256 / 256 % 256) ≡ n
-    low n h = omega arith
-
-module _ (t : Text) (r : Rows) where
-  pub text-told : drop 12 (record-of t r) ≡ t
-  unfolding head-of
-  text-told = refl
-
-  pub size-told : length t < 65536 → getD (record-of t r) 2 0 + 256 * getD (record-of t r) 3 0 ≡ length t
-  unfolding head-of
-  size-told h = omega arith
-
-  pub count-told : r .count < 4294967296 → four-at (record-of t r) 4 ≡ r .count
-  unfolding head-of four-at
-  count-told h = four-told (r .count) h
-
-  pub first-told : r .first < 4294967296 → four-at (record-of t r) 8 ≡ r .first
-  unfolding head-of four-at
-  first-told h = four-told (r .first) h
+module _ (subject : ℕ → Option Text) (n : ℕ) (few : n < 4294967296) (limit : ℕ) (small : limit < 65536) (short : (i : ℕ) → i < n → (t : Text) → subject i ≡ some t → length t ≤ limit) where
+  pub uncut-of : (t : Text) → has t (sorted subject n) ≡ true → Holds limit t (walk subject t n)
+  uncut-of t h =
+      let (i, (l, r)) = only-listed subject t n h in
+      let W = walked subject t n in
+      let size = short i l t r in
+      let count = W .few in
+      let some-row : 0 < walk subject t n .count =
+      by (eqb 0 (walk subject t n .count)) (λ x. absurd (W .none (sym (eqb-true 0 (walk subject t n .count) x)) i l r)) (λ x. omega (arith, eqb-false 0 (walk subject t n .count) x)) in
+      let least = W .first some-row .0 in
+      record { size = size; two = omega arith; count = omega arith; first = omega arith }
 
 some-told : (b : Bool) (t u : Text) → cond b (some t) none ≡ some u → (b ≡ true) × (t ≡ u)
 some-told true t u e = (refl, some-eq t u e)
 some-told false t u e = none-some u e
 
--- None of them is cut: a subject of usable tables has at most 1,024 bytes, and there are no more rows than 32 bits count.
+-- A subject of usable tables has at most 1,024 bytes, and there are no more rows than 32 bits count.
 module _ (s : Slices) (e : usable for-long-form s ≡ true) where
-  subject-short : (i : ℕ) → i < s .row-count → (t : Text) → subject s i ≡ some t → length t ≤ iri-limit
+  pub subject-short : (i : ℕ) → i < s .row-count → (t : Text) → subject s i ≡ some t → length t ≤ iri-limit
   unfolding subject
   subject-short i h t q =
       let n = row-at (s .rows) i .subject in
@@ -201,19 +188,8 @@ module _ (s : Slices) (e : usable for-long-form s ≡ true) where
       let m : length (text s n) ≤ the s n .size = rw (length-take (the s n .size) (drop (the s n .start) (s .store))) (min-le-left (the s n .size) (length (drop (the s n .start) (s .store)))) in
       rw (sym z) (omega arith)
 
-  pub uncut : s .row-count < 4294967296 → (t : Text) → has t (sorted (subject s) (s .row-count)) ≡ true
-      → (length t < 65536) × ((walk (subject s) t (s .row-count) .count < 4294967296) × (walk (subject s) t (s .row-count) .first < 4294967296))
-  uncut few t h =
-      let (i, (l, r)) = only-listed (subject s) t (s .row-count) h in
-      let W = walked (subject s) t (s .row-count) in
-      let short = subject-short i l t r in
-      let count = W .few in
-      let some-row : 0 < walk (subject s) t (s .row-count) .count =
-      by (eqb 0 (walk (subject s) t (s .row-count) .count))
-      (λ x. absurd (W .none (sym (eqb-true 0 (walk (subject s) t (s .row-count) .count) x)) i l r))
-      (λ x. omega (arith, eqb-false 0 (walk (subject s) t (s .row-count) .count) x)) in
-      let least = W .first some-row .0 in
-      (omega arith, (omega arith, omega arith))
+  pub uncut : s .row-count < 4294967296 → (t : Text) → has t (sorted (subject s) (s .row-count)) ≡ true → Holds iri-limit t (walk (subject s) t (s .row-count))
+  uncut few = uncut-of (subject s) (s .row-count) few iri-limit (omega arith) subject-short
 
 -- ---- "yes exactly when the bytes are the index of the given tables"
 

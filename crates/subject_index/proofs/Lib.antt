@@ -4,4 +4,6 @@ pub mod Choosing
 pub mod Checking
 pub mod Building
 pub mod Expected
+pub mod Looked
+pub mod About
 pub mod Examples

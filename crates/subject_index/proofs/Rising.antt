@@ -7,8 +7,8 @@ use Prim.Native.Nat.{ℕ, zero, suc}
 use Rattle.text.specs.Text.{Text, same-text}
 use Rattle.text.proofs.Compare.{by}
 use Rattle.text.specs.Order.{smaller}
-use Rattle.subject_index.specs.Code.{rises}
 use Rattle.text.proofs.Order.{smaller-trans, one-of-three}
+use Rattle.look_up.specs.Look.{rises}
 use Rattle.subject_index.specs.Index.{insert, insert-any, sorted}
 
 abbrev pub Rising : Option Text → List Text → Type 0

@@ -10,12 +10,10 @@ use Rattle.text.specs.Order.{smaller}
 use Rattle.table.specs.Layout.{Slices, row-at, entry-at, iri-kind}
 use Rattle.table.specs.Usable.{text}
 use Rattle.usable.specs.Lent.{Stands, RowStands, SpanIn, lent}
+use Rattle.look_up.specs.Record.{rows}
+use Rattle.look_up.specs.Look.{rises}
 use Rattle.subject_index.specs.declared.Chosen.{Chosen}
-use Rattle.subject_index.specs.Index.{rows, walk}
-
--- So many bytes of a record stand before its text.
-abbrev pub head-size : ℕ
-head-size = 12
+use Rattle.subject_index.specs.Index.{walk}
 
 -- ---- Subjects by the numbers of their terms: 0 is none
 
@@ -42,11 +40,7 @@ Ready s count = (i : ℕ) → i < count → SubjectIn s i
 
 -- ---- The least text above one
 
--- A text comes after one, and before one, where there is one.
-abbrev pub rises : Option Text → Text → Bool
-rises none t = true
-rises (some b) t = smaller b t
-
+-- A text comes before one, where there is one.
 abbrev pub below : Text → Option Text → Bool
 below t none = true
 below t (some u) = smaller t u

@@ -2,40 +2,16 @@
 use mathlib.Core.List.{List, [], _∷_, _++_}
 use mathlib.Core.Bool.{Bool, true, false}
 use mathlib.Core.Option.{Option, none, some}
-use Prim.Native.Nat.{ℕ, zero, suc, _+_, _/_, _%_}
+use Prim.Native.Nat.{ℕ, zero, suc, _+_}
 use lib.Dec.{eqb}
-use lib.ListN.{length}
 use Rattle.text.specs.Text.{Text, cond, same-text}
 use Rattle.text.specs.Order.{smaller}
 use Rattle.table.specs.Layout.{Slices, iri-kind, row-at}
 use Rattle.table.specs.Usable.{for-long-form, text, has-kind, usable}
 use Rattle.table.specs.Written.{Written, written}
 use Rattle.table.specs.LongForm.{computing as table-computing}
+use Rattle.look_up.specs.Record.{Rows, rows, head-of, record-of}
 use Rattle.subject_index.specs.declared.Checked.{Checked}
-
--- ---- A record
-
--- The rows of a subject: how many, and the number of the first, from 0.
-pub record Rows : Type 0 where
-  pub count : ℕ
-  pub first : ℕ
-
-abbrev pub rows : ℕ → ℕ → Rows
-rows count first = record { count = count; first = first }
-
--- "all low byte first"
-abbrev pub two-bytes : ℕ → Text
-two-bytes n = n % 256 ∷ n / 256 % 256 ∷ []
-
-abbrev pub four-bytes : ℕ → Text
-four-bytes n = n % 256 ∷ n / 256 % 256 ∷ n / 65536 % 256 ∷ n / 16777216 % 256 ∷ []
-
--- "the two bytes 47 58 hex, the text length in two bytes, the number of its rows in four, the number of its first row (from 0) in four, .. then the text"
-unfoldable pub head-of : ℕ → Rows → Text
-head-of size r = 0x47 ∷ 0x58 ∷ two-bytes size ++ four-bytes (r .count) ++ four-bytes (r .first)
-
-abbrev pub record-of : Text → Rows → Text
-record-of t r = head-of (length t) r ++ t
 
 -- ---- The records of so many rows, whose subjects are given: the text of an IRI, none for a blank node
 

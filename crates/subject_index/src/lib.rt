@@ -8,10 +8,13 @@ ghost use Rattle.text.specs.Slice.{over, over-at};
 ghost use Rattle.table.specs.Layout.{row-at};
 ghost use Rattle.table.specs.Usable.{text};
 ghost use Rattle.usable.specs.Lent.{Stands, RowStands, slices, lent, drawn};
-ghost use Rattle.subject_index.specs.Index.{rows, head-of, record-of, index-of, subject, write, check};
+ghost use Rattle.look_up.specs.Record.{rows, head-of, record-of, head-size};
+ghost use Rattle.look_up.specs.Look.{rises};
+ghost use Rattle.subject_index.specs.Index.{index-of, subject, write, check};
 ghost use Rattle.subject_index.specs.Answer.{answer};
-ghost use Rattle.subject_index.specs.Code.{head-size, named, subject-number, Readable, Known, SubjectIn, Ready, rises, below, Chooses};
+ghost use Rattle.subject_index.specs.Code.{named, subject-number, Readable, Known, SubjectIn, Ready, below, Chooses};
 use limits::Answer;
+use look_up::Head;
 use table::RowWord;
 use table::TermKind;
 use table::TermWord;
@@ -130,17 +133,6 @@ fn low(n: usize) -> u8
     ensures { λ r. ⌜ r ≡ n % 256 ⌝ }
 {
     (n % 256) as u8
-}
-
-// What stands before the text of a record: so many bytes, of which the first two are its marks.
-struct Head {}
-
-impl Head {
-    const SIZE: usize = 12;
-
-    const FIRST_MARK: u8 = 0x47;
-
-    const SECOND_MARK: u8 = 0x58;
 }
 
 // A record without its text.

@@ -8,9 +8,11 @@ use Rattle.term_text.specs.declared.Span.{Span}
 use Rattle.term_text.specs.declared.Span.the-variants.{Part, Unusable}
 use Rattle.sycamoot.specs.declared.Answer.{Answer}
 use Rattle.sycamoot.specs.declared.Text as text
+use Rattle.look_up.specs.declared.Found as look
 use Rattle.subject_index.specs.declared.Checked as index
 use Rattle.sycamoot.specs.declared.Written.{Written}
 use Rattle.sycamoot.specs.declared.Checked.{Checked}
+use Rattle.sycamoot.specs.declared.Found.{Found}
 
 -- A mode in one byte: 0, 1, or 2 for every other, which is refused alike.
 abbrev pub known-mode : ℕ → ℕ
@@ -30,3 +32,6 @@ written r out = record { number = r .number; position = r .position; output = ou
 -- "yes" is 1.
 abbrev pub checked : index.Checked → Checked
 checked c = record { number = c .number; yes = cond (c .yes) 1 0 }
+
+abbrev pub looked-up : look.Found → Found
+looked-up f = record { number = f .number; rows = f .rows; first = f .first }

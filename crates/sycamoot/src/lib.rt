@@ -1,14 +1,16 @@
-// The calls that C and Rust link: reading a document, the text of a term, writing the long form, the index of subjects and its
-// check. Each hands on to the call that is proved, and gives its answer in types of fixed width.
+// The calls that C and Rust link: reading a document, the text of a term, writing the long form, the index of subjects, its check
+// and the look-up in it. Each hands on to the call that is proved, and gives its answer in types of fixed width.
 ghost use mathlib.Core.Path.{_≡_};
 ghost use Prim.Native.Nat.{_≤_};
 ghost use Rattle.text.specs.Text.{cond};
+ghost use Rattle.limits.specs.Limits.{iri-limit};
 ghost use Rattle.table.specs.LongForm.{write};
 ghost use Rattle.term_text.specs.Shown.{lent, span-at};
 ghost use Rattle.usable.specs.Lent.{slices};
 ghost use Rattle.reader.specs.Reader.{lent-slices, Contract};
+ghost use Rattle.look_up.specs.Look.{look};
 ghost use Rattle.subject_index.specs.Index.{write as index-write, check};
-ghost use Rattle.sycamoot.specs.Answers.{known-mode, reading, written, shown, checked};
+ghost use Rattle.sycamoot.specs.Answers.{known-mode, reading, written, shown, checked, looked-up};
 use term_text::Span;
 
 // The reader's answer: its number, the position it speaks of, and the counts of rows, terms and store bytes.
@@ -41,6 +43,14 @@ pub struct Written {
 pub struct Checked {
     pub number: u32,
     pub yes: u32,
+}
+
+// The look-up's answer: 0, how many rows the subject has and the first of them; or 23 and zeros.
+#[repr(C)]
+pub struct Found {
+    pub number: u32,
+    pub rows: u32,
+    pub first: u32,
 }
 
 fn narrow(n: usize) -> u32
@@ -201,5 +211,18 @@ pub extern "C" fn sycamoot_check_index(
     Checked {
         number: c.number as u32,
         yes: one_or_zero(c.yes),
+    }
+}
+
+// How many rows the subject with this address has, and the first of them, by an index; any bytes may be given.
+#[no_mangle]
+pub extern "C" fn sycamoot_look_up(address: &[u8], index: &[u8]) -> Found
+    ensures { λ r. ⌜ r ≡ looked-up (look iri-limit (now (address .entry)) (now (index .entry))) ⌝ }
+{
+    let f = look_up::look_up(address, index);
+    Found {
+        number: f.number as u32,
+        rows: f.rows,
+        first: f.first,
     }
 }

@@ -1,6 +1,6 @@
 use mathlib.Core.Path.{sym, _∙_}
 use borrow.Author.Tests.{not-false, not-true}
-use Rattle.subject_index.specs.Index.{rows}
+use Rattle.look_up.specs.Record.{rows}
 use Rattle.subject_index.proofs.Checking.{no-head, head-fits, then-text}
 use borrow.Author.Needs.{needs}
 use Rattle.subject_index.proofs.has_record.Statement.{statement}

@@ -1,5 +1,5 @@
-use Rattle.subject_index.specs.Index.{head-of}
 use borrow.Author.Needs.{needs}
+use Rattle.look_up.specs.Record.{head-of}
 use Rattle.subject_index.proofs.head_of.Statement.{statement}
 use Rattle.subject_index.proofs.head_of.Tie as tie
 

@@ -1,5 +1,5 @@
 use mathlib.Core.Path.{refl}
-use Rattle.subject_index.specs.Index.{rows}
+use Rattle.look_up.specs.Record.{rows}
 use Rattle.subject_index.proofs.Building.{put-law}
 use borrow.Author.Needs.{needs}
 use Rattle.subject_index.proofs.put_record.Statement.{statement}

@@ -1,6 +1,6 @@
 use mathlib.Core.Path.{_∙_}
 use borrow.Author.Needs.{needs}
-use Rattle.sycamoot.proofs.Counts.{rows-small, terms-small, store-small}
+use Rattle.reader.proofs.Counts.{rows-small, terms-small, store-small}
 use Rattle.sycamoot.proofs.Modes.{same-mode}
 use Rattle.sycamoot.proofs.sycamoot_read.Statement.{statement}
 use Rattle.sycamoot.proofs.sycamoot_read.Tie as tie

@@ -1,0 +1,4 @@
+pub mod Records
+pub mod Stops
+pub mod OldLimit
+pub mod Examples
