@@ -1,10 +1,11 @@
-// Look-ups at the front, in the middle and at the end of indexes with so many records, and of a subject that is behind them all.
+// Look-ups at the front, in the middle and at the end of indexes with so many records, and of a subject that is behind them all; the
+// stack of a look-up, and of the scanner's program.
 #define _GNU_SOURCE
-#include <stdio.h>
-#include <stdlib.h>
+#define main scan
+#include "../c/look_up.c"
+#undef main
 
 #include "painted.h"
-#include "sycamoot.h"
 #include "timed.h"
 
 enum { HEAD = 12, MOST = 50000 * 64, SIZES = 4, PLACES = 4, READ_AT_LEAST = 1 << 24, MOST_STACK = 512 };
@@ -63,6 +64,22 @@ static void look(void)
         found = sycamoot_look_up(address, address_length, bytes, length);
 }
 
+static char SCANNED[] = "target/look-up.index";
+
+static void run_scanner(void)
+{
+    char *arguments[] = {"scan", SCANNED, (char *)address};
+    if (scan(3, arguments))
+        exit(2);
+}
+
+static void save(const char *name)
+{
+    FILE *file = fopen(name, "wb");
+    if (!file || fwrite(bytes, 1, length, file) != length || fclose(file))
+        fail(name);
+}
+
 static void nothing(void) {}
 
 // The nanoseconds of a look-up of this number, of which so many bytes are before the stopping place.
@@ -100,8 +117,12 @@ int main(void)
             puts("");
         }
     }
+    fill(all, 1000);
+    address_length = put_motor(address, 999);
     times = 1;
-    size_t used = stack_of(look) - stack_of(nothing);
-    printf("stack: %zu bytes\n", used);
-    return over || used > MOST_STACK;
+    save(SCANNED);
+    fflush(stdout);
+    size_t own = stack_of(nothing), used = stack_of(look) - own, scanner = stack_of(run_scanner) - own;
+    printf("stack: %zu bytes; of the scanner's program, which has printed the line above, %zu\n", used, scanner);
+    return over || used > MOST_STACK || scanner > MOST_STACK;
 }
