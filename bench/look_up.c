@@ -1,5 +1,6 @@
 // Look-ups at the front, in the middle and at the end of indexes with so many records, and of a subject that is behind them all; the
-// stack of a look-up, and of the scanner's program.
+// stack of a look-up, and of the scanner's program. With two numbers it is one look-up of the second in an index of so many motors,
+// whose instructions can be counted; it prints how many bytes are before the stopping record.
 #define _GNU_SOURCE
 #define main scan
 #include "../c/look_up.c"
@@ -94,8 +95,17 @@ static double measure(const struct texts *t, uint32_t count, uint32_t number, si
     return took;
 }
 
-int main(void)
+int main(int argc, char **argv)
 {
+    if (argc == 3) {
+        uint32_t number = (uint32_t)atoi(argv[2]);
+        size_t size = fill(all, (uint32_t)atoi(argv[1]));
+        address_length = put_motor(address, number);
+        times = 1;
+        look();
+        printf("%zu\n", number * size);
+        return found.number != SYCAMOOT_ACCEPTED;
+    }
     const char *names[PLACES] = {"front", "middle", "end", "absent"};
     int over = 0;
     for (size_t k = 0; k < sizeof all / sizeof *all; k++) {

@@ -47,7 +47,7 @@ row c 1 c/run.sh
 row rust 2 sh -c 'cd rust && cargo test --offline --test reading'
 row stack 4 bench/stack.sh
 row index-time 6 bench/index.sh
-row look-up-time 10 bench/look_up.sh
+row look-up-time 13 bench/look_up.sh
 row growth 60 bench/growth.sh
 figures speed bench/read.sh
 echo "what each of them printed is in $log"
