@@ -8,9 +8,9 @@ use native.Mathlib.Omega.{arith}
 use lib.Dec.{eqb}
 use lib.ListN.{length, length-append}
 use Rattle.text.specs.Text.{cond, member}
-use Rattle.text.proofs.Compare.{contrary}
+use Rattle.text.proofs.Compare.{contrary, and-false}
 use Rattle.utf8.specs.Utf8.{width}
-use Rattle.utf8.proofs.Tests.{split, and-false, or-false}
+use Rattle.utf8.proofs.Tests.{split, or-false}
 use Rattle.token.specs.Regular.{Item, Some, Match, nothing, hit, Hit, Longest, size}
 use Rattle.token.specs.Terminals.{terminals, long-terminals, tripled, terminals-at, token-at}
 use Rattle.token.proofs.Longest.{token-longest}

@@ -10,8 +10,9 @@ use borrow.Author.Tests.{lt-ltb, ne-eqb}
 use lib.Dec.{eqb}
 use lib.ListN.{length, getD, drop, length-append, length-drop}
 use Rattle.text.specs.Text.{Text, cond}
+use Rattle.text.proofs.Compare.{and-false}
 use Rattle.utf8.specs.Utf8.{encode, encodes, width, sequence-size}
-use Rattle.utf8.proofs.Tests.{by, split, and-false}
+use Rattle.utf8.proofs.Tests.{by, split}
 use Rattle.utf8.proofs.Encoding.{head, length-encode, width-pos, size-one}
 use Rattle.token.specs.Regular.{item, Match, nothing, hit, nullable, step, least-of, now-at, later, best}
 use Rattle.token.specs.Terminals.{terminals, long-terminals, tripled, token-at}

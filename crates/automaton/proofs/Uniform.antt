@@ -8,8 +8,9 @@ use native.Mathlib.Omega.{arith}
 use borrow.Author.Tests.{leb-true, leb-false, lt-leb, le-leb}
 use lib.Dec.{T, eqb, ltb, leb, leb→le, ltb→lt, eqb→eq}
 use Rattle.text.specs.Text.{cond, between}
+use Rattle.text.proofs.Compare.{and-false}
 use Rattle.utf8.specs.Utf8.{Range, _–_}
-use Rattle.utf8.proofs.Tests.{by, and-true, and-false}
+use Rattle.utf8.proofs.Tests.{by, and-true}
 use Rattle.token.specs.Regular.{Re, eps, set, seq, alt, star, in-ranges, in-set, Item, item, nullable, cats, after, of-kind, step}
 use Rattle.automaton.specs.Levels.{Interval, interval, intervals, find, level-in, level}
 

@@ -45,15 +45,15 @@ use Rattle.calls.specs.Calls.{accepted, handed}
 
 -- Other names for blank nodes change nothing of what statements say about an IRI.
 module _ (f : Blank → Blank) where
-  same-text : (t : Term) → iri-text (with-blanks-term f t) ≡ iri-text t
-  same-text (iri t) = refl
-  same-text (blank b) = refl
-  same-text (literal t d) = refl
-  same-text (tagged t g) = refl
+  same-iri : (t : Term) → iri-text (with-blanks-term f t) ≡ iri-text t
+  same-iri (iri t) = refl
+  same-iri (blank b) = refl
+  same-iri (literal t d) = refl
+  same-iri (tagged t g) = refl
 
   same-subject : (qs : List Quad) (i : ℕ) → subject-of (map (with-blanks f) qs) i ≡ subject-of qs i
   same-subject [] i = refl
-  same-subject (q ∷ qs) zero = same-text (q .triple .subject)
+  same-subject (q ∷ qs) zero = same-iri (q .triple .subject)
   same-subject (q ∷ qs) (suc i) = same-subject qs i
 
   about-renamed : (qs : List Quad) (t : Text) → about (map (with-blanks f) qs) t ≡ about qs t

@@ -9,7 +9,7 @@ use lib.Seq.{drop-drop, take-add, take-take, length-take-le}
 use lib.Dec.{eqb, ltb}
 use borrow.Author.Tests.{eq-eqb, ne-eqb, eqb-true, eqb-false, ltb-true, ltb-false}
 use Rattle.text.specs.Text.{Text, ascii, cond, empty, begins}
-use Rattle.text.proofs.Compare.{by, contrary}
+use Rattle.text.proofs.Compare.{by, contrary, and-false}
 use Rattle.iri.specs.Iri.{scheme}
 use Rattle.iri.specs.Dots.{remove-dot-segments, turns}
 use Rattle.iri.specs.Resolve.{Parts, defined, up-to-last-slash, merge, transform, recompose, resolve-by, resolve, resolve-with-dots}
@@ -19,7 +19,7 @@ use Rattle.iri.specs.declared.Ends.{Ends}
 use Rattle.iri.specs.declared.Plan.{Plan}
 use Rattle.iri.proofs.Places.{slash-end-most, up-to-last-is}
 use Rattle.iri.proofs.Schemes.{scheme-fits, scheme-front, scheme-rest}
-use Rattle.iri.proofs.Turns.{eqb-sym, and-true, and-false}
+use Rattle.iri.proofs.Turns.{eqb-sym, and-true}
 use Rattle.iri.proofs.Parts.{split, parts-split, authority-most, path-most, path-least, query-most, query-least}
 
 -- The parts of a text, put together again

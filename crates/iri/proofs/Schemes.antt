@@ -10,12 +10,11 @@ use lib.Seq.{take-suc, drop-drop}
 use lib.Dec.{eqb, leb, ltb}
 use borrow.Author.Tests.{ne-eqb, eqb-true, le-leb, lt-leb, ltb-true, ltb-false}
 use Rattle.text.specs.Text.{Text, is}
-use Rattle.text.proofs.Compare.{by, contrary, and-right}
+use Rattle.text.proofs.Compare.{by, contrary, and-right, and-false}
 use Rattle.iri.specs.Iri.{letter, scheme-byte, first-is, has-scheme, scheme, after-scheme, forbidden}
 use Rattle.iri.specs.Code.{before, stop, scheme-end}
 use Rattle.iri.specs.declared.Part.{Part}
 use Rattle.iri.specs.declared.Part.the-variants.{Scheme, Colon}
-use Rattle.iri.proofs.Turns.{and-false}
 use Rattle.iri.proofs.Places.{until-take, from-drop}
 
 or-right : (a b : Bool) → b ≡ true → true ≡ (a || b)

@@ -8,7 +8,7 @@ use lib.ListN.{length, getD, take, drop, length-drop}
 use lib.Dec.{eqb}
 use borrow.Author.Tests.{eq-eqb, ne-eqb, eqb-true, eqb-false}
 use Rattle.text.specs.Text.{Text, ascii, cond, is, begins, same-text}
-use Rattle.text.proofs.Compare.{by, begins-length, same-eq}
+use Rattle.text.proofs.Compare.{by, begins-length, same-eq, and-false}
 use Rattle.iri.specs.Dots.{Buffers, buffers, without-last-segment, first-segment, after-first-segment, turn, turns}
 use Rattle.iri.specs.Code.{before, rule, rule-by, segment, clean}
 use Rattle.iri.specs.declared.Rule.{Rule}
@@ -21,10 +21,6 @@ eqb-sym a b = by (eqb a b) (λ e. e ∙ sym (eq-eqb b a (sym (eqb-true a b e))))
 pub and-true : (b : Bool) → (b && true) ≡ b
 and-true true = refl
 and-true false = refl
-
-pub and-false : (b : Bool) → (b && false) ≡ false
-and-false true = refl
-and-false false = refl
 
 pub rule-bytes : (s : Text) → rule s ≡ rule-by (length s) (getD s 0 0) (getD s 1 0) (getD s 2 0) (getD s 3 0)
 unfolding rule rule-by begins same-text

@@ -1,6 +1,6 @@
 -- Look-ups, by computing.
 use mathlib.Core.Path.{_≡_, refl}
-use mathlib.Core.List.{[], _∷_, _++_}
+use mathlib.Core.List.{List, [], _∷_, _++_, map}
 use Prim.Native.Nat.{ℕ}
 use Prim.Native.String.{String}
 use lib.ListN.{take, drop, replicate}
@@ -20,19 +20,25 @@ a = of "x:a" 3 7
 abbrev looked : Text → Text → Found
 looked index address = look iri-limit address index
 
--- What stands behind the stopping record is not looked at; what stands before it is.
-junk-behind : Gives (looked (a ++ ascii "junk")) (ascii "x:a" ⇒ found 0 (rows 3 7) ∷ ascii "x:0" ⇒ absent ∷ ascii "x:b" ⇒ refused ∷ [])
-unfolding computing
-junk-behind = refl
+-- Each reason for 23, behind a record of the text x:b: no mark, another one, a head or a text cut short, a length over the limit, an equal text, a smaller one. The look-up of x:a and of x:b has stopped before it,
+-- that of x:c stops there, that of x:e would go on.
+abbrev reasons : List Text
+reasons =
+    ascii "junk" ∷ (0x47 ∷ 0x59 ∷ drop 2 (of "x:d" 2 1)) ∷ take 11 (of "x:d" 2 1) ∷ take 14 (of "x:d" 2 1) ∷ record-of (ascii "x:d" ++ replicate 1022 97) (rows 2 1) ∷ of "x:b" 2 1 ∷ of "x:a" 2 1 ∷ []
 
--- Equal texts do not rise, nor does a smaller one behind a greater.
-not-rising : Gives (looked (a ++ of "x:a" 1 1)) (ascii "x:0" ⇒ absent ∷ ascii "x:a" ⇒ found 0 (rows 3 7) ∷ ascii "x:b" ⇒ refused ∷ [])
+each-reason : Gives (λ t. map (λ bad. looked (of "x:b" 3 7 ++ bad) t) reasons) (
+    ascii "x:a" ⇒ replicate 7 absent
+    ∷ ascii "x:b" ⇒ replicate 7 (found 0 (rows 3 7))
+    ∷ ascii "x:c" ⇒ replicate 7 refused
+    ∷ ascii "x:e" ⇒ replicate 7 refused
+    ∷ [])
 unfolding computing
-not-rising = refl
+each-reason = refl
 
-falling : Gives (looked (of "x:c" 1 1 ++ a)) (ascii "x:a" ⇒ absent ∷ ascii "x:c" ⇒ found 0 (rows 1 1) ∷ ascii "x:d" ⇒ refused ∷ [])
+-- Without any of them.
+no-reason : Gives (looked (of "x:b" 3 7 ++ of "x:d" 2 1)) (ascii "x:a" ⇒ absent ∷ ascii "x:b" ⇒ found 0 (rows 3 7) ∷ ascii "x:c" ⇒ absent ∷ ascii "x:d" ⇒ found 0 (rows 2 1) ∷ ascii "x:e" ⇒ absent ∷ [])
 unfolding computing
-falling = refl
+no-reason = refl
 
 -- Cut in its text, behind its head, in its head; the end of the bytes is no refusal.
 cut-short : Gives (λ n. looked (take n a) (ascii "x:a")) (0 ⇒ absent ∷ 1 ⇒ refused ∷ 11 ⇒ refused ∷ 12 ⇒ refused ∷ 14 ⇒ refused ∷ 15 ⇒ found 0 (rows 3 7) ∷ [])

@@ -1,7 +1,7 @@
 -- Laws of records: what stands at the front of some bytes; a record that was written is read again.
 use mathlib.Core.Path.{_≡_, refl, sym, ap, _∙_}
 use mathlib.Core.List.{[], _∷_, _++_}
-use mathlib.Core.Bool.{Bool, true, false, _&&_}
+use mathlib.Core.Bool.{true, false, _&&_}
 use mathlib.Core.Option.{none, some}
 use Prim.Native.Nat.{ℕ, zero, suc, _+_, _*_, _-_, _/_, _%_, _≤_, _<_}
 use native.Mathlib.Omega.{arith}
@@ -11,7 +11,7 @@ use lib.Seq.{drop-drop, take-append-seam, drop-append-seam}
 use borrow.Author.Tests.{leb-true, le-leb, lt-leb, ne-eqb}
 use Rattle.text.specs.Text.{Text, cond, begins}
 use Rattle.text.specs.Words.{four-at}
-use Rattle.text.proofs.Compare.{and-right}
+use Rattle.text.proofs.Compare.{and-right, and-false}
 use Rattle.look_up.specs.Record.{Rows, mark, head-of, record-of, head-size, size-of, text-of, is-record, entry-of, entries-from, entries}
 
 -- ---- Whether a record stands at the front
@@ -20,10 +20,6 @@ no-first : (r : Text) → (getD r 0 0 ≡ 0x47 → ⊥) → begins mark r ≡ fa
 unfolding begins
 no-first [] n = refl
 no-first (a ∷ r) n = rw (ne-eqb 0x47 a (λ e. n (sym e)))
-
-and-false : (a : Bool) → (a && false) ≡ false
-and-false true = refl
-and-false false = refl
 
 no-second : (r : Text) → (getD r 1 0 ≡ 0x58 → ⊥) → begins mark r ≡ false
 unfolding begins

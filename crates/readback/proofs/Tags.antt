@@ -11,8 +11,9 @@ use lib.Dec.{T, eqb, leb, eqb→eq, leb→le}
 use lib.ListN.{length}
 use Rattle.text.specs.Text.{Text, cond}
 use Rattle.text.proofs.Booleans.{and-in}
+use Rattle.text.proofs.Compare.{and-false}
 use Rattle.utf8.specs.Utf8.{width, Range, _–_}
-use Rattle.utf8.proofs.Tests.{split, and-true, and-false}
+use Rattle.utf8.proofs.Tests.{split, and-true}
 use Rattle.token.specs.Kind.{kind-code, LANGTAG}
 use Rattle.token.specs.Regular.{Re, eps, set, seq, alt, star, in-ranges, in-set, item, Match, nothing, hit, size, Longest, nullable, cat, cats, after, of-kind, step, now-at, later, best}
 use Rattle.token.specs.Terminals.{terminals, long-terminals, token-at}

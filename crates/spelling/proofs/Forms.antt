@@ -9,7 +9,7 @@ use lib.Seq.{length-take-le}
 use lib.Dec.{eqb}
 use Rattle.text.specs.Text.{Text, is, same-text, begins, some-byte}
 use Rattle.text.specs.Slice.{over, over-at}
-use Rattle.text.proofs.Compare.{by, begins-short, same-append}
+use Rattle.text.proofs.Compare.{by, begins-short, same-append, and-false}
 use Rattle.text.proofs.Over.{over-length, over-append, rest-all}
 use Rattle.escape.specs.Code.{Written}
 use Rattle.escape.specs.declared.Scan.{Scan}
@@ -25,10 +25,6 @@ begins-take [] [] = refl
 begins-take [] (b ∷ t) = refl
 begins-take (a ∷ s) [] = refl
 begins-take (a ∷ s) (b ∷ t) = by (eqb a b) (λ e. rw e (begins-take s t)) (λ e. rw e)
-
-and-false : (b : Bool) → (b && false) ≡ false
-and-false true = refl
-and-false false = refl
 
 and-true : (b : Bool) → (b && true) ≡ b
 and-true true = refl

@@ -59,7 +59,7 @@ or-swap true false c = refl
 or-swap false true c = refl
 or-swap false false c = refl
 
-or-else : (a b : Bool) → (a ≡ false → b ≡ true) → (a || b) ≡ true
+pub or-else : (a b : Bool) → (a ≡ false → b ≡ true) → (a || b) ≡ true
 or-else true b f = refl
 or-else false b f = f refl
 

@@ -1,7 +1,7 @@
 -- The look-up in an index gives what a walk over all rows gives.
 use mathlib.Core.Path.{_≡_, refl, sym, ap, _∙_}
 use mathlib.Core.List.{List, [], _∷_}
-use mathlib.Core.Bool.{Bool, true, false, _||_}
+use mathlib.Core.Bool.{Bool, true, false}
 use mathlib.Core.Option.{Option, none, some}
 use Prim.Native.Nat.{ℕ, zero, suc, _≤_, _<_}
 use native.Mathlib.Omega.{arith}
@@ -17,11 +17,7 @@ use Rattle.look_up.specs.Look.{found, absent, search, look}
 use Rattle.look_up.proofs.Records.{Holds, read-again}
 use Rattle.subject_index.specs.Index.{insert-any, is-subject, counted, sorted, walk, records, index-of, subject, index, check}
 use Rattle.subject_index.proofs.Rising.{Rising, rising-sorted}
-use Rattle.subject_index.proofs.Expected.{has, has-any, uncut-of, subject-short, yes-only}
-
-or-true : (a : Bool) → (a || true) ≡ true
-or-true true = refl
-or-true false = refl
+use Rattle.subject_index.proofs.Expected.{has, or-else, has-any, uncut-of, subject-short, yes-only}
 
 -- What is smaller than the first of rising texts is not among them.
 has-not : (a t : Text) (ts : List Text) → smaller a t ≡ true → Rising (some t) ts → has a ts ≡ false
@@ -44,7 +40,7 @@ module _ (subject : ℕ → Option Text) (n : ℕ) where
   read-records limit [] h = refl
   read-records limit (t ∷ ts) h =
       read-again limit t (walk subject t n) (h t (rw (same-refl t))) (records subject ts n)
-      ∙ ap (λ (es : List (Option Entry)). some (its-entry t) ∷ es) (read-records limit ts (λ u e. h u (rw e (or-true (same-text t u)))))
+      ∙ ap (λ (es : List (Option Entry)). some (its-entry t) ∷ es) (read-records limit ts (λ u e. h u (or-else (same-text t u) (has u ts) (λ q. e))))
 
   module _ (address : Text) where
     -- ---- The look-up in rising texts finds the address just where it is among them

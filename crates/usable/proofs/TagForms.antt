@@ -12,8 +12,9 @@ use lib.Dec.{T, eqb, ltb, leb, ltb→lt, eqb·suc-suc, eqb·zero-suc}
 use lib.ListN.{length, getD, drop}
 use lib.Seq.{drop-cons}
 use Rattle.text.specs.Text.{Text, ascii, cond, same-text}
+use Rattle.text.proofs.Compare.{and-false}
 use Rattle.utf8.specs.Utf8.{Range, _–_, width}
-use Rattle.utf8.proofs.Tests.{by, split, below, below-at, and-true, and-false}
+use Rattle.utf8.proofs.Tests.{by, split, below, below-at, and-true}
 use Rattle.token.specs.Regular.{Re, eps, set, seq, alt, star, in-ranges, item, Match, nothing, hit, nullable, after, step, least-of, now-at, later, best}
 use Rattle.token.specs.Terminals.{terminals, tripled, token-at}
 use Rattle.automaton.specs.States.{State, open-states, after-at, in-tag, tag-dash, in-subtag}

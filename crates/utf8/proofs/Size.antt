@@ -9,9 +9,10 @@ use lib.Dec.{T, eqb, ltb, eqb→eq, ltb→lt}
 use lib.ListN.{length, getD}
 use lib.Count.{leadingZeros}
 use Rattle.text.specs.Text.{Text, cond, between}
+use Rattle.text.proofs.Compare.{and-false}
 use Rattle.utf8.specs.Utf8.{Range, _–_, tail, sequences, fits, first-fit, sequence-size}
 use Rattle.utf8.specs.Code.{lead-size, second-low, second-high, sized}
-use Rattle.utf8.proofs.Tests.{by, below, below-at, and-true, and-false}
+use Rattle.utf8.proofs.Tests.{by, below, below-at, and-true}
 
 -- ---- Equality of ranges, by computing
 

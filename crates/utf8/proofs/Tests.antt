@@ -32,10 +32,6 @@ and-right false b t = absurd t
 pub and-true : (a b : Bool) → T (a && b) → T a × T b
 and-true a b t = (and-left a b t, and-right a b t)
 
-pub and-false : (b : Bool) → (b && false) ≡ false
-and-false true = refl
-and-false false = refl
-
 pub or-true : (a b : Bool) → (a || b) ≡ true → (a ≡ true) ⊎ (b ≡ true)
 or-true true b e = inl refl
 or-true false b e = inr e

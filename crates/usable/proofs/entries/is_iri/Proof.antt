@@ -1,4 +1,4 @@
-use Rattle.utf8.proofs.Tests.{and-false}
+use Rattle.text.proofs.Compare.{and-false}
 use Rattle.usable.proofs.Words.{start-word, size-word, and-true}
 use borrow.Author.Needs.{needs}
 use borrow.Author.Tests.{le-leb, lt-leb}
