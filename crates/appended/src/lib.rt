@@ -1,4 +1,6 @@
 // The byte behind which a text may be added to a document.
+#![tactic(auto)]
+
 ghost use Rattle.std.specs.Prelude.{◌≡◌};
 ghost use Rattle.appended.specs.Appended.{line_feed};
 

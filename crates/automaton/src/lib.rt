@@ -1,17 +1,19 @@
 // The token that a routine finds.
+#![tactic(auto)]
+
 ghost use Rattle.std.specs.Prelude.{◌≡◌};
 
 use token::Kind;
 
 // A kind of token, NONE where there is no token, and its length in bytes.
-#[derive(Drop)]
+#[derive(Clone, Copy)]
 pub struct Token {
     pub kind: usize,
     pub len: usize,
 }
 
 // A token, and how many bytes after it are known to begin no prefixed name.
-#[derive(Drop)]
+#[derive(Clone, Copy)]
 pub struct Next {
     pub kind: usize,
     pub len: usize,

@@ -1,4 +1,6 @@
 // The number of an accepted call.
+#![tactic(auto)]
+
 ghost use Rattle.std.specs.Prelude.{◌≡◌};
 ghost use Rattle.calls.specs.Calls.{accepted};
 

@@ -1,6 +1,8 @@
 // An index in lent words: the numbers below a count, each with a key, in chains by remainders of the keys, from the greatest down.
 // In front stand the heads, one for each remainder, behind them a link for each number, at the end the keys. Words that do not
 // suffice have no heads: then all numbers are one chain, and what is found there is the same.
+#![tactic(auto)]
+
 ghost use Rattle.std.specs.Prelude.{◌≡◌, ◌+◌, ◌*◌, ◌≤◌, ◌<◌, length, get_or, set};
 ghost use Rattle.chains.specs.Chains.{heads, latest, key_at, word_at, has_word, Chained, OnChain, First, Before, KeyOf, MayHave, WordsIn, Cleared, linked_one};
 

@@ -1,4 +1,6 @@
 // What is checked of a call before its document is read: answers 1 to 4.
+#![tactic(auto)]
+
 ghost use Rattle.std.specs.Prelude.{◌≡◌, length};
 ghost use Rattle.table.specs.Tables.{or_zero};
 ghost use Rattle.machine.specs.Read.{bad_base, first_checks};

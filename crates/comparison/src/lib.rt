@@ -1,5 +1,7 @@
 // What two editions of one file differ in. An index makes it quick: rows and pairs are found along chains in words that are lent, and
 // without them by walks over all rows.
+#![tactic(auto)]
+
 pub mod keys;
 pub mod pairs;
 pub mod sides;
@@ -17,7 +19,7 @@ use limits::Answer;
 use table::wide;
 
 // The answer's number; after 0 how many statements are only in the left and only in the right, and whether there are none.
-#[derive(Drop)]
+#[derive(Clone, Copy)]
 pub struct Compared {
     pub number: u8,
     pub left: usize,
@@ -26,7 +28,7 @@ pub struct Compared {
 }
 
 // Where the parts of the index end: those of the pairs, of the left's rows and of the right's. All are 0 where it does not suffice.
-#[derive(Drop)]
+#[derive(Clone, Copy)]
 struct Parts {
     pairs: usize,
     left: usize,

@@ -11,7 +11,7 @@ use table::{RowWord, TermKind, TermWord};
 use usable::fields::{row_word, span_of, term_word};
 
 // Which rows are compared with which: within an edition, or across them.
-#[derive(Drop)]
+#[derive(Clone, Copy)]
 pub enum Way {
     InLeft,
     InRight,

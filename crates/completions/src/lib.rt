@@ -1,4 +1,6 @@
 // The number of the refusal where the grammar fails.
+#![tactic(auto)]
+
 ghost use Rattle.std.specs.Prelude.{◌≡◌};
 ghost use Rattle.completions.specs.FailsFirst.{grammar_refusal};
 

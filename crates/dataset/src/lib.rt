@@ -1,4 +1,6 @@
 // The byte that ends the prefix of a name.
+#![tactic(auto)]
+
 ghost use Rattle.std.specs.Prelude.{◌≡◌, true};
 ghost use Rattle.text.specs.Text.{is};
 

@@ -2,6 +2,8 @@
 // with line, column, place, number and meaning, the line with a mark under the token, and what the grammar expects there.
 // The words trig, turtle and auto say how the files after them are read; auto, by the ending of the name, is the default.
 // Where no file is named, and for the name -, standard input is read.
+#![tactic(auto)]
+
 mod marks;
 mod phrases;
 
@@ -13,7 +15,7 @@ use reader::Reading;
 use token::Kind;
 
 // What the arguments said so far: a mode, or 2 for the name's ending; whether a file was named.
-#[derive(Drop)]
+#[derive(Clone, Copy)]
 struct Said {
     mode: u8,
     named: bool,

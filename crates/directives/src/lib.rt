@@ -1,5 +1,7 @@
 // Directives: @prefix, @base, PREFIX and BASE, from the keyword to the end. They change what is in force and write neither
 // rows nor terms.
+#![tactic(auto)]
+
 ghost use Rattle.std.specs.Prelude.{◌≡◌, true, ◌-◌, length, get_or, take, drop};
 ghost use Rattle.token.specs.Kind.{kind_code, IRIREF};
 ghost use Rattle.machine.specs.Frame.{prefix_name, namespace_of, new_base, last_dot, directive};

@@ -1,4 +1,6 @@
 // Documents as people speak of them: the line and the column of a place, and the mode by a file's name or by a word.
+#![tactic(auto)]
+
 mod choice;
 mod places;
 

@@ -1,4 +1,6 @@
 // The prefixes and the base in force. Their texts stand in the lent work slice, their lengths in a small array.
+#![tactic(auto)]
+
 ghost use Rattle.std.specs.Prelude.{◌≡◌, ◌+◌, ◌≤◌, ◌<◌, length, replicate};
 ghost use Rattle.limits.specs.Limits.{prefixes_limit, work_size};
 ghost use Rattle.environment.specs.Code.{words_size, at_most, binding, count, listed, place, environment_in, Usable, FoundIn, WroteBinding, Declares, SetsBase};
@@ -35,14 +37,14 @@ impl Layout {
 }
 
 // Where a prefix's namespace stands: so many bytes from a place of the work slice on.
-#[derive(Drop)]
+#[derive(Clone, Copy)]
 pub enum Found {
     At(usize, usize),
     Missing,
 }
 
 // What a declaration comes to: it is in force; its prefix or namespace is too long; it would be one prefix too many.
-#[derive(Drop)]
+#[derive(Clone, Copy)]
 pub enum Declared {
     Done,
     TooLong,

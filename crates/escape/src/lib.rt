@@ -1,4 +1,6 @@
 // Escapes: numeric and string escapes in references and strings, reserved character escapes in local names.
+#![tactic(auto)]
+
 ghost use Rattle.std.specs.Prelude.{◌≡◌, true, false, [], ◌∷◌, ◌+◌, ◌-◌, ◌≤◌, ◌<◌, length, take, drop};
 ghost use Rattle.text.specs.Text.{is, same_text, begins, some_byte};
 ghost use Rattle.text.specs.Slice.{over, over_at};
@@ -11,7 +13,7 @@ use text::wide;
 // A place in an escaped text. left: 0 outside an escape, 9 behind a backslash, 1 to 8 where so many hex digits
 // are to come, 10 in a local name. n: how many bytes the piece that has just ended stands for; value: its
 // character or byte, or the number so far.
-#[derive(Drop)]
+#[derive(Clone, Copy)]
 pub struct Scan {
     pub left: usize,
     pub value: usize,

@@ -1,4 +1,6 @@
 // The words of rows and of terms that the examples lend where they lend enough.
+#![tactic(auto)]
+
 ghost use Rattle.std.specs.Prelude.{◌≡◌};
 ghost use Rattle.examples.specs.Call.{ample_words};
 

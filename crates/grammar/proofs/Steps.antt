@@ -27,6 +27,7 @@ module _
     back_tok : (j k : K) {S : Stack K N} {us : List K} → Any G (S ∷ []) us → T (same j k) → Before G (tok j) S (k ∷ us)
     unfolding yield
     back_tok j k (here w p) t = (leaf j, w, ap₂ ◌∷◌ (same_eq j k t) p)
+    back_tok j k {S = S} {us = us} (there x5) t = elim x5 [ ]
 
     backE :
         (h : N → K → Stack K N → List (Stack K N))
@@ -219,6 +220,7 @@ module _
     unfolding step
     step_fwd {L = S ∷ L} k us ks p (here w q) = any_left G (step same G depth L k) (after_fwd w k us (q ∙ p))
     step_fwd {L = S ∷ L} k us ks p (there a) = any_right G (after same G depth S k) (step_fwd k us ks p a)
+    step_fwd {L = []} k us _ p x6 = elim x6 [ ]
 
     null_start : {e : Expr K N} {S : Stack K N} {r ks : List K} → ks ≡ [] → Start same G depth depth e S r ks → T (null same G depth e) × (r ≡ [])
     null_start p (none t q) = (t, sym q ∙ p)
@@ -243,6 +245,7 @@ module _
     unfolding someNull
     someNull_fwd {L = S ∷ L} p (here w q) = or_0 (nullS same G depth S) (someNull same G depth L) (nullS_fwd w (q ∙ p))
     someNull_fwd {L = S ∷ L} p (there a) = or_1 (nullS same G depth S) (someNull same G depth L) (someNull_fwd p a)
+    someNull_fwd {L = []} p x6 = elim x6 [ ]
 
     pub someNull_back : (L : List (Stack K N)) → T (someNull same G depth L) → Any G L []
     unfolding someNull

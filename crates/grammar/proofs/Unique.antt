@@ -132,6 +132,7 @@ module _
     unfolding all
     any_all p {L = S ∷ L} t (here w q) = (S, w, q, and_0 (p S) (all p L) t)
     any_all p {L = S ∷ L} t (there a) = any_all p (and_1 (p S) (all p L) t) a
+    any_all p {L = []} t x6 = elim x6 [ ]
 
     -- What is left of two separate stacks does not begin alike.
     sep_not :

@@ -1,4 +1,6 @@
 // The modes: TriG and Turtle.
+#![tactic(auto)]
+
 ghost use Rattle.std.specs.Prelude.{◌≡◌, leb};
 
 #[derive(Drop)]

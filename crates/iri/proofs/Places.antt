@@ -33,7 +33,7 @@ window_drop l at end n = drop-drop n at (take end l)
 pub window_one : (l : Text) (at : ℕ) → at < length l → window l at (at + 1) ≡ get_or l at 0 ∷ []
 window_one l at h =
     let e : length (take (at + 1) l) ≡ at + 1 = length-take-le (at + 1) l (omega arith) in
-    let n : drop (suc at) (take (at + 1) l) ≡ [] = subst (λ (k : ℕ). drop k (take (at + 1) l) ≡ []) (e ∙ add-one at) (lib.Seq.drop_length (take (at + 1) l)) in
+    let n : drop (suc at) (take (at + 1) l) ≡ [] = subst (λ (k : ℕ). drop k (take (at + 1) l) ≡ []) (e ∙ add-one at) (lib.Seq.drop-length (take (at + 1) l)) in
     drop-cons (take (at + 1) l) at 0 (omega arith) ∙ rw (n, get_or-take (at + 1) l at 0 (omega arith))
 
 -- what stands up to a slash
@@ -63,7 +63,7 @@ before_here f s i h e = rw (drop-cons s i 0 h, e)
 
 pub before_end : (f : ℕ → Bool) (s : Text) (i : ℕ) → length s ≤ i → before f (drop i s) ≡ 0
 unfolding before
-before_end f s i h = rw (lib.ListN.drop_of_length_le s h)
+before_end f s i h = rw (lib.ListN.drop_of_length-le s h)
 
 -- nothing moved yet
 pub moved_none : (x : MutBor (Text)) (at w : ℕ) → at ≤ length x.now → Moved x x at w 0

@@ -1,4 +1,6 @@
 // IRIs: which references have a scheme, and their resolution against a base (RFC 3986, section 5.2).
+#![tactic(auto)]
+
 ghost use Rattle.std.specs.Prelude.{◌≡◌, ◌++◌, true, false, not, ◌&&◌, ◌+◌, ◌-◌, ◌≤◌, ◌<◌, length, get_or, take, drop, replicate};
 ghost use Rattle.text.specs.Text.{one_of, some_byte};
 ghost use Rattle.text.specs.Slice.{over, over_at};
@@ -10,7 +12,7 @@ ghost use Rattle.iri.specs.Code.{authority_length, ends_of, plan_by, plan_of, Ho
 use escape::Scan;
 
 // The steps of RFC 3986, section 5.2.4, by what the rest of the path begins with.
-#[derive(Drop)]
+#[derive(Clone, Copy)]
 pub enum Rule {
     UpSlash, // 2A: "../"
     HereSlash, // 2A: "./"
@@ -23,7 +25,7 @@ pub enum Rule {
 }
 
 // What a text is cut into, each up to the first byte that it cannot hold; Colon stands behind a scheme.
-#[derive(Drop)]
+#[derive(Clone, Copy)]
 pub enum Part {
     Authority,
     Path,
@@ -33,7 +35,7 @@ pub enum Part {
 }
 
 // What a byte says of a scheme: it may go on, it has ended in a colon, there is none.
-#[derive(Drop)]
+#[derive(Clone, Copy)]
 pub enum Verdict {
     More,
     Yes,
@@ -41,7 +43,7 @@ pub enum Verdict {
 }
 
 // Where the authority, the path and the query of a text end.
-#[derive(Drop)]
+#[derive(Clone, Copy)]
 pub struct Ends {
     pub authority: usize,
     pub path: usize,
@@ -50,7 +52,7 @@ pub struct Ends {
 
 // What an IRI is made of before its dot segments go: so many bytes of the base, so many slashes, the reference. Its
 // path starts at from; the reference's ends at path.
-#[derive(Drop)]
+#[derive(Clone, Copy)]
 pub struct Plan {
     pub keep: usize,
     pub slash: usize,
@@ -59,7 +61,7 @@ pub struct Plan {
 }
 
 // A reference, resolved: written, and so long; too long for the buffer before its dot segments go; relative, and no base.
-#[derive(Drop)]
+#[derive(Clone, Copy)]
 pub enum Resolution {
     Written(usize),
     Long,
@@ -67,7 +69,7 @@ pub enum Resolution {
 }
 
 // What is left of the path, from at to end, and how long the output is, after a turn of 5.2.4's loop.
-#[derive(Drop)]
+#[derive(Clone, Copy)]
 pub struct Turn {
     pub at: usize,
     pub end: usize,

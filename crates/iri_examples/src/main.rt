@@ -1,3 +1,5 @@
+#![tactic(auto)]
+
 ghost use Rattle.std.specs.Prelude.{◌≤◌, length};
 // Resolves each line of standard input against the base of RFC 3986, section 5.4.
 use iri::Resolution;

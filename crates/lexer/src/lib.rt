@@ -1,5 +1,7 @@
 // Cutting a document into tokens: what stands between two tokens, and the token at a place.
 // The routines take the part of the document that starts at the cursor.
+#![tactic(auto)]
+
 ghost use Rattle.std.specs.Prelude.{◌≡◌, true, ◌-◌, ◌≤◌, ◌<◌, length, get_or};
 ghost use Rattle.token.specs.Regular.{in_ranges};
 ghost use Rattle.automaton.specs.Run.{TokenAt};

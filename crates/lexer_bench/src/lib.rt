@@ -1,4 +1,6 @@
 // What the measuring program in bench/ calls.
+#![tactic(auto)]
+
 ghost use Rattle.std.specs.Prelude.{◌≡◌, ◌≤◌, length};
 ghost use Rattle.lexer_bench.specs.Front.{valid_size};
 

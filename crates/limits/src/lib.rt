@@ -1,4 +1,6 @@
 // The reader's limits and the numbers of the answers, named once. Sizes are in bytes.
+#![tactic(auto)]
+
 ghost use Rattle.std.specs.Prelude.{◌≡◌};
 ghost use Rattle.limits.specs.Limits.{work_size};
 

@@ -1,4 +1,6 @@
 // The look-up of a subject in an index, which reads the index's bytes and needs no other memory; how the head of a record is laid out.
+#![tactic(auto)]
+
 ghost use Rattle.std.specs.Prelude.{◌≡◌, true, ◌+◌, ◌≤◌, ◌<◌, length};
 ghost use Rattle.limits.specs.Limits.{iri_limit};
 ghost use Rattle.text.specs.Words.{four_at};
@@ -27,7 +29,7 @@ impl Head {
 }
 
 // The answer: its number, 0 or 23, how many rows the subject has, and the first of them.
-#[derive(Drop)]
+#[derive(Clone, Copy)]
 pub struct Found {
     pub number: u8,
     pub rows: u32,

@@ -1,4 +1,6 @@
 // Which numbers are answers of the reader and the writer.
+#![tactic(auto)]
+
 ghost use Rattle.std.specs.Prelude.{◌≡◌, leb};
 
 use limits::Answer;

@@ -1,5 +1,7 @@
 // Brackets in lists and lists in brackets. Properties, objects and elements of a subject are read in loops, each node with
 // its brackets by readers that call each other. What a token writes is done outside this cycle.
+#![tactic(auto)]
+
 ghost use Rattle.std.specs.Prelude.{◌≡◌, ◌∷◌, true, false, ◌||◌, ◌≤◌, ◌<◌, length, get_or};
 ghost use Rattle.limits.specs.Limits.{depth_limit};
 ghost use Rattle.dataset.specs.Terms.{blank, bracket};

@@ -1,5 +1,7 @@
 // Nodes at their places: what one token writes there, with its refusals. These routines take the reader's thin references
 // and are called from its recursion; they hold no nesting themselves.
+#![tactic(auto)]
+
 ghost use Rattle.std.specs.Prelude.{◌≡◌, ◌∷◌, [], true, ℕ, ◌+◌, ◌-◌, ◌≤◌, ◌<◌, length, get_or};
 ghost use Rattle.std.proofs.Math.Option.{some};
 ghost use Rattle.environment.specs.Code.{words_size};

@@ -1,4 +1,6 @@
 // A node at its place: whether there is room for all that one token writes is decided first, then it is written.
+#![tactic(auto)]
+
 ghost use Rattle.std.specs.Prelude.{◌≡◌};
 ghost use Rattle.state.specs.Represents.{lent_tables, Represented, Puts};
 ghost use Rattle.state.specs.Writes.{node_write, placed, opened_at, closed, SpotFits, NodeFits};

@@ -1,5 +1,7 @@
 // What the program longform does: reads up to 65,536 bytes of TriG from standard input, and prints its statements line by
 // line, or the refusal with its number and place. It is a library so that two programs hold it to two stored outputs.
+#![tactic(auto)]
+
 use libc::STDOUT_FILENO;
 
 fn refused(number: u8, position: usize) {

@@ -1,5 +1,7 @@
 // String literals with their tag or datatype. A string is complete at its own token where no tag and no ^^ follows: the
 // cursor goes on first, and what the string's token was is kept in numbers.
+#![tactic(auto)]
+
 ghost use Rattle.std.specs.Prelude.{◌≡◌, [], ◌∷◌, true, ◌+◌, ◌≤◌, ◌<◌, length, get_or, take, drop};
 ghost use Rattle.limits.specs.Limits.{iri_limit};
 ghost use Rattle.token.specs.Kind.{kind_code, strings, iris, LANGTAG};

@@ -1,4 +1,6 @@
 // The mode in which the long form is read again.
+#![tactic(auto)]
+
 ghost use Rattle.std.specs.Prelude.{◌≡◌};
 ghost use Rattle.readback.specs.ReadBack.{long_form_mode};
 

@@ -1,5 +1,7 @@
 // The reader's public call: what is lent is checked, everything is made ready, all statements are read, and what is left
 // over is cleared.
+#![tactic(auto)]
+
 ghost use Rattle.std.specs.Prelude.{◌≡◌, ◌≤◌, length, replicate};
 ghost use Rattle.environment.specs.Code.{words_size};
 ghost use Rattle.machine.specs.Read.{mode_of, read_tokens};
@@ -14,7 +16,7 @@ use state::Words;
 use utf8::Validity;
 
 // The answer: 0 or the number of a refusal, the position it speaks of, and how many rows, terms and store bytes there are.
-#[derive(Drop)]
+#[derive(Clone, Copy)]
 pub struct Reading {
     pub number: u8,
     pub position: usize,

@@ -1,6 +1,8 @@
 // Whether the lent tables have room for all that one token writes, decided before anything is written: 14 where rows are
 // missing, 15 terms, 16 bytes of the store, else 0. Nothing is changed. Terms are looked for only where a safe bound
 // of what is new does not fit.
+#![tactic(auto)]
+
 ghost use Rattle.std.specs.Prelude.{◌≡◌, ◌+◌, ◌-◌, ◌≤◌, ◌<◌, length, take, drop};
 ghost use Rattle.limits.specs.Limits.{document_limit, work_size};
 ghost use Rattle.spelling.specs.Form.{undo, joined};
@@ -19,7 +21,7 @@ use table::TermKind;
 use terms::{Counts, Sort};
 
 // How many terms there would be, and how many bytes of the store they would use.
-#[derive(Drop)]
+#[derive(Clone, Copy)]
 struct Tally {
     terms: usize,
     bytes: usize,

@@ -1,5 +1,7 @@
 // The leaves of the reader's recursion: what one token writes, and the cursor behind it. They take the reader's thin
 // references; what they call takes plain slices.
+#![tactic(auto)]
+
 ghost use Rattle.std.specs.Prelude.{◌≡◌, ◌∷◌, true, ◌+◌, ◌≤◌, ◌<◌, length, get_or, take, drop};
 ghost use Rattle.limits.specs.Limits.{document_limit, iri_limit, depth_limit};
 ghost use Rattle.token.specs.Kind.{kind_code, IRIREF, PNAME_LN, kw_a, open_bracket, open_paren, close_paren};

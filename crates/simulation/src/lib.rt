@@ -1,5 +1,7 @@
 // How the reader's routines compose: what each says of the machine's run. The code here is the refusal of a token that no
 // rule takes.
+#![tactic(auto)]
+
 ghost use Rattle.std.specs.Prelude.{◌≡◌, ◌+◌, ◌≤◌, length, get_or};
 ghost use Rattle.environment.specs.Code.{words_size};
 ghost use Rattle.token.specs.Kind.{kind_of_code, among, IRIREF, strings};

@@ -1,4 +1,6 @@
 // The text of a term as a document gives it: a plain front, as a namespace, and a back that may hold escapes.
+#![tactic(auto)]
+
 ghost use Rattle.std.specs.Prelude.{◌≡◌, false, ◌≤◌, ◌<◌, length, drop};
 ghost use Rattle.text.specs.Text.{same_text};
 ghost use Rattle.text.specs.Slice.{over};
@@ -11,7 +13,7 @@ use escape::Scan;
 use text::wide;
 
 // How the back is written: as it is, with the escapes of strings and references, or with those of local names.
-#[derive(Drop)]
+#[derive(Clone, Copy)]
 pub enum Form {
     Plain,
     Escaped,

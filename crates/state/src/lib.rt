@@ -1,5 +1,7 @@
 // The reader's state: one array of numbers beside the lent slices. Its first words are the environment's, the rest
 // say how far the tables are filled, which token stands at the cursor, and where the next node belongs.
+#![tactic(auto)]
+
 ghost use Rattle.std.specs.Prelude.{◌≡◌};
 ghost use Rattle.state.specs.Words.{counts_of};
 
@@ -68,7 +70,7 @@ pub fn counts(st: &[usize; Layout::WORDS]) -> Counts
 // Where a node belongs. In a list it gets a new cell behind `last` (0: it is the first) of the list that was opened at
 // `opened` and itself belongs to x and y. To x and y: x is 0 for a node that is no object; y is 0 for the element of
 // the cell x; else it is the object of the subject x and the predicate y.
-#[derive(Drop)]
+#[derive(Clone, Copy)]
 pub struct Spot {
     pub list: bool,
     pub x: usize,
@@ -79,7 +81,7 @@ pub struct Spot {
 }
 
 // A node, by its kind. The IRI, of the node or its datatype, is a part of the work slice before a back of this form.
-#[derive(Drop)]
+#[derive(Clone, Copy)]
 pub struct Node {
     pub kind: usize,
     pub start: usize,

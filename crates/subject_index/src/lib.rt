@@ -1,4 +1,6 @@
 // The index of subjects that lies beside a file, built and checked without work memory: each record is found by a scan of all rows.
+#![tactic(auto)]
+
 ghost use Rattle.std.specs.Prelude.{◌≡◌, ◌+◌, ◌%◌, ◌^◌, ◌≤◌, ◌<◌, leb, length};
 ghost use Rattle.text.specs.Text.{begins, same_text};
 ghost use Rattle.text.specs.Slice.{over, over_at};
@@ -17,7 +19,7 @@ use table::{RowWord, TermKind, TermWord, wide};
 use usable::fields::{row_word, span_of, term_word};
 
 // A subject by the number of a term with its text, 0 for none; how many rows it has, and the first of them.
-#[derive(Drop)]
+#[derive(Clone, Copy)]
 struct Chosen {
     number: usize,
     count: usize,
@@ -182,7 +184,7 @@ fn is_index(rows: &[u32], count: usize, terms: &[u32], store: &[u8], bytes: &[u8
 }
 
 // The check's answer: its number, 0 or 18, and after 0 whether the bytes are the index.
-#[derive(Drop)]
+#[derive(Clone, Copy)]
 pub struct Checked {
     pub number: u8,
     pub yes: bool,
@@ -270,7 +272,7 @@ fn put_index(rows: &[u32], count: usize, terms: &[u32], store: &[u8], out: &mut 
 }
 
 // The builder's answer: its number, 0, 18 or 22, and after 0 the length written.
-#[derive(Drop)]
+#[derive(Clone, Copy)]
 pub struct Written {
     pub number: u8,
     pub position: usize,

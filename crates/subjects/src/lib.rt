@@ -1,4 +1,6 @@
 // Subjects: terms, brackets and lists; and what comes behind them.
+#![tactic(auto)]
+
 ghost use Rattle.std.specs.Prelude.{◌≡◌, ◌∷◌, true, ◌≤◌, ◌<◌, length, get_or};
 ghost use Rattle.dataset.specs.Terms.{blank, bracket};
 ghost use Rattle.machine.specs.Memory.{new_term};

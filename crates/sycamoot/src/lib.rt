@@ -1,5 +1,7 @@
 // The calls that C and Rust link: reading a document, the text of a term, writing the long form, the index of subjects, its check
 // and the look-up in it, the comparison of two editions. Each hands on to the call that is proved, and gives its answer in types of fixed width.
+#![tactic(auto)]
+
 ghost use Rattle.std.specs.Prelude.{◌≡◌, ◌≤◌, length, replicate};
 ghost use Rattle.text.specs.Text.{cond};
 ghost use Rattle.limits.specs.Limits.{iri_limit};
@@ -16,7 +18,7 @@ use term_text::Span;
 
 // The reader's answer: its number, the position it speaks of, and the counts of rows, terms and store bytes.
 #[repr(C)]
-#[derive(Drop)]
+#[derive(Clone, Copy)]
 pub struct Answer {
     pub position: u64,
     pub number: u32,
@@ -27,7 +29,7 @@ pub struct Answer {
 
 // 0 and where the term's text lies in the store; or 18 and an empty part.
 #[repr(C)]
-#[derive(Drop)]
+#[derive(Clone, Copy)]
 pub struct Text {
     pub start: u64,
     pub length: u64,
@@ -36,7 +38,7 @@ pub struct Text {
 
 // A writer's answer: 0 and the length written; 17 or 22, by the writer; or 18.
 #[repr(C)]
-#[derive(Drop)]
+#[derive(Clone, Copy)]
 pub struct Written {
     pub position: u64,
     pub number: u32,
@@ -44,7 +46,7 @@ pub struct Written {
 
 // The check's answer: 0 and whether the bytes are the index, 1 or 0; or 18 and 0.
 #[repr(C)]
-#[derive(Drop)]
+#[derive(Clone, Copy)]
 pub struct Checked {
     pub number: u32,
     pub yes: u32,
@@ -52,7 +54,7 @@ pub struct Checked {
 
 // The look-up's answer: 0, how many rows the subject has and the first of them; or 23 and zeros.
 #[repr(C)]
-#[derive(Drop)]
+#[derive(Clone, Copy)]
 pub struct Found {
     pub number: u32,
     pub rows: u32,
@@ -62,7 +64,7 @@ pub struct Found {
 // The comparison's answer: 0, whether the editions hold the same statements, 1 or 0, and how many are only in the left and only in the
 // right; or 18, 25 or 26 and zeros.
 #[repr(C)]
-#[derive(Drop)]
+#[derive(Clone, Copy)]
 pub struct Compared {
     pub number: u32,
     pub same: u32,

@@ -1,4 +1,6 @@
 // How rows and terms lie in lent slices of 32-bit words.
+#![tactic(auto)]
+
 ghost use Rattle.std.specs.Prelude.{◌≡◌};
 
 // How many words a row and a term have.

@@ -1,4 +1,6 @@
 // The text of a term, asked for by its number, in tables that may hold anything.
+#![tactic(auto)]
+
 ghost use Rattle.std.specs.Prelude.{◌≡◌};
 ghost use Rattle.table.specs.TermText.{term_text};
 ghost use Rattle.term_text.specs.Shown.{lent, span_at, answer, text_of};
@@ -7,7 +9,7 @@ use limits::Answer;
 use table::{Layout, TermKind, TermWord, wide};
 
 // A part of the store; or the tables or the number are not usable.
-#[derive(Drop)]
+#[derive(Clone, Copy)]
 pub enum Span {
     Part { start: usize, size: usize },
     Unusable,

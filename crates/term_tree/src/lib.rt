@@ -1,5 +1,7 @@
 // An index of the terms in the part of the work slice that nothing else uses: trees by hashes of what a term is known by.
 // Without it, and for terms that it has no room for, the search is linear; the answer is the same.
+#![tactic(auto)]
+
 ghost use Rattle.std.specs.Prelude.{◌≡◌, true, suc, ◌+◌, ◌*◌, ◌-◌, ◌/◌, ◌%◌, ◌≤◌, ◌<◌, [], length, take, drop};
 ghost use Rattle.limits.specs.Limits.{work_size};
 ghost use Rattle.spelling.specs.Form.{joined};
@@ -17,7 +19,7 @@ use table::TermKind;
 use terms::{Counts, Sort};
 
 // What a search comes to: the number of the equal term, or 0, and then the slot where it would stand.
-#[derive(Drop)]
+#[derive(Clone, Copy)]
 pub struct Found {
     pub number: usize,
     pub slot: usize,

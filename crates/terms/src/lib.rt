@@ -1,4 +1,6 @@
 // Terms and rows in lent slices: looking for an equal term one by one, adding a term, adding a row.
+#![tactic(auto)]
+
 ghost use Rattle.std.specs.Prelude.{◌≡◌, false, [], ◌++◌, ℕ, suc, ◌+◌, ◌*◌, ◌-◌, ◌≤◌, ◌<◌, length, get_or};
 ghost use Rattle.text.specs.Slice.{over_at};
 ghost use Rattle.spelling.specs.Form.{joined, bad};
@@ -11,7 +13,7 @@ use spelling::Form;
 use table::{Layout, TermKind, TermWord, wide};
 
 // How many terms there are, how many bytes of the store they use, and how many of them are blank nodes.
-#[derive(Drop)]
+#[derive(Clone, Copy)]
 pub struct Counts {
     pub terms: usize,
     pub used: usize,
@@ -19,7 +21,7 @@ pub struct Counts {
 }
 
 // The kind of a term, and of a literal the number of its datatype's term.
-#[derive(Drop)]
+#[derive(Clone, Copy)]
 pub struct Sort {
     pub kind: usize,
     pub datatype: usize,

@@ -1,4 +1,6 @@
 // The call that bench/terms.c times. C keeps what it requires.
+#![tactic(auto)]
+
 ghost use Rattle.std.specs.Prelude.{[], ◌≤◌, ◌<◌, length, drop};
 ghost use Rattle.limits.specs.Limits.{work_size};
 ghost use Rattle.terms.specs.Keeps.{TermFits, iri_sort};

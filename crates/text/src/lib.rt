@@ -1,4 +1,6 @@
 // Texts: comparing, their order, copying.
+#![tactic(auto)]
+
 ghost use Rattle.std.specs.Prelude.{◌≡◌, true, ◌⊎◌, ◌+◌, ◌≤◌, ◌<◌, length, drop};
 ghost use Rattle.text.specs.Text.{same_text, begins, some_byte};
 ghost use Rattle.text.specs.Order.{smaller};

@@ -1,4 +1,6 @@
 // The numbers of the kinds of token, and of what else a place may hold.
+#![tactic(auto)]
+
 #[derive(Drop)]
 pub struct Kind {}
 

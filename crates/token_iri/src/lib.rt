@@ -1,5 +1,7 @@
 // The IRI that an IRIREF or a prefixed name stands for, with the refusals 7, 9, 10 and 11; and what the directives do
 // with it, with 12. An IRI that the token and the work slice hold already is not written out.
+#![tactic(auto)]
+
 ghost use Rattle.std.specs.Prelude.{◌≡◌, false, not, ◌&&◌, ◌+◌, ◌≤◌, ◌<◌, length, get_or};
 ghost use Rattle.text.specs.Text.{Text, is, empty};
 ghost use Rattle.limits.specs.Limits.{iri_limit, prefix_limit};
@@ -21,7 +23,7 @@ use token::Kind;
 
 // The IRI is work[start..end] before a back of this form, which is from..to of the buffer or of the token. Where
 // `refused` is not 0 it is the refusal's number, and the parts are empty.
-#[derive(Drop)]
+#[derive(Clone, Copy)]
 pub struct Address {
     pub refused: u8,
     pub start: usize,

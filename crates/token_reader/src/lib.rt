@@ -1,19 +1,21 @@
 // A reader over a document that knows its place: it answers the next token there, and adds no rule to the cutting into tokens.
 // The struct holds the document, so each function over it is thin and proved by a walk. The work is done by
 // `next_token_from`, which takes the document and the place by themselves.
+#![tactic(auto)]
+
 ghost use Rattle.std.specs.Prelude.{◌≡◌};
 ghost use Rattle.token_reader.specs.Next.{NextFrom};
 
 use token::Kind;
 
-#[derive(Drop)]
+#[derive(Clone, Copy)]
 pub struct TokenReader<'a> {
     pub document: &'a [u8],
     pub place: usize,
 }
 
 // The token at a place: its kind (of token::Kind, or END or UNREADABLE), the place of its first byte, and the place behind it.
-#[derive(Drop)]
+#[derive(Clone, Copy)]
 pub struct TokenAt {
     pub kind: usize,
     pub start: usize,

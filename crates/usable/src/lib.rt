@@ -1,4 +1,6 @@
 // Which tables the writer takes, whatever the lent slices hold.
+#![tactic(auto)]
+
 pub mod entries;
 pub mod fields;
 pub mod rows;

@@ -6,7 +6,7 @@ ghost use Rattle.table.specs.Usable.{is_tag};
 use characters::bytes::{is_letter, is_letter_or_digit};
 
 // A place in a LANGTAG behind its @, by what was read: nothing, letters, a dash, some of a subtag; or it is none.
-#[derive(Drop)]
+#[derive(Clone, Copy)]
 pub enum Place {
     Start,
     Letters,

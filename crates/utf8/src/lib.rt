@@ -1,18 +1,20 @@
 // UTF-8: the sequence at the front of some bytes, its code point, and the first bad sequence of a text.
+#![tactic(auto)]
+
 ghost use Rattle.std.specs.Prelude.{◌≡◌, take};
 ghost use Rattle.text.specs.Text.{is_none, between};
 ghost use Rattle.utf8.specs.Utf8.{sequence_size, code_point, first_bad};
 ghost use Rattle.utf8.specs.Code.{lead_size, second_low, second_high, bad_place};
 
 // Whether a text is UTF-8; if not, the first byte of the first bad sequence.
-#[derive(Drop)]
+#[derive(Clone, Copy)]
 pub enum Validity {
     Valid,
     BadAt(usize),
 }
 
 // A code point and how many bytes it has; 0 bytes where no sequence stands.
-#[derive(Drop)]
+#[derive(Clone, Copy)]
 pub struct CodePoint {
     pub value: u32,
     pub size: usize,

@@ -7,7 +7,7 @@ ghost use Rattle.writer.specs.Writing.{Countable, Wrote, code_form, escape_of, b
 use characters::bytes::is_iri;
 
 // How a text is escaped: not at all; "the characters IRIREF forbids as \u and four capital hex digits"; "only " \ LF CR escaped".
-#[derive(Drop)]
+#[derive(Clone, Copy)]
 pub enum Rule {
     Plain,
     Iri,

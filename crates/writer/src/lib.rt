@@ -1,4 +1,6 @@
 // The writer: the long form of tables, and the answers 17 and 18.
+#![tactic(auto)]
+
 pub mod bytes;
 pub mod forms;
 pub mod lines;
@@ -12,7 +14,7 @@ use limits::Answer;
 use table::wide;
 
 // The answer's number, 0, 17 or 18, and after 0 the length written.
-#[derive(Drop)]
+#[derive(Clone, Copy)]
 pub struct Written {
     pub number: u8,
     pub position: usize,

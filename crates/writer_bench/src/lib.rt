@@ -1,4 +1,6 @@
 // What the measuring program in bench/ calls.
+#![tactic(auto)]
+
 ghost use Rattle.std.specs.Prelude.{◌≡◌};
 ghost use Rattle.table.specs.LongForm.{write};
 ghost use Rattle.usable.specs.Lent.{slices};

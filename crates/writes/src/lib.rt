@@ -1,5 +1,7 @@
 // What one token writes into the lent tables, once it is known that there is room: the place of its node, the node, and the
 // row that holds it.
+#![tactic(auto)]
+
 ghost use Rattle.std.specs.Prelude.{◌≡◌, true, false, List, ℕ, ◌+◌, ◌-◌, ◌<◌, length, get_or, take, drop};
 ghost use Rattle.text.specs.Text.{cond};
 ghost use Rattle.environment.specs.Code.{words_size, Usable};

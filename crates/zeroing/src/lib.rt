@@ -1,4 +1,6 @@
 // Making lent slices zero.
+#![tactic(auto)]
+
 ghost use Rattle.std.specs.Prelude.{◌≡◌, length, replicate};
 
 // Makes every byte zero.

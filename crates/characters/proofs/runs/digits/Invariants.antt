@@ -1,0 +1,12 @@
+-- `digits` meets its contract. The invariant: the bytes passed are of the set.
+use Prim.Native.Nat.{◌≤◌, ◌-◌}
+use lib.ListN.{length}
+use Rattle.characters.specs.Bytes.{digit}
+use Rattle.characters.proofs.Spans.{All}
+use Rattle.characters.proofs.runs.digits.Given as goal
+
+abbrev pub invariant-loop-i : goal.invariant-loop-i
+invariant-loop-i l = (l.at ≤ l.i) × (l.i ≤ length l.s) × All digit l.s l.at l.i
+
+abbrev pub decreases-loop-i : goal.decreases-loop-i
+decreases-loop-i l = length l.s - l.i

@@ -1,0 +1,17 @@
+use native.Mathlib.Omega.{arith}
+use mathlib.Core.Path.{sym, ◌∙◌}
+use Rattle.characters.specs.Bytes.{letter}
+use Rattle.characters.proofs.Spans.{span_begin, span_more, span_stop, span_end}
+use Rattle.characters.proofs.runs.letters.Goals as goal
+
+pub loop-i-init : goal.loop-i-init
+loop-i-init c = (omega arith, c.requires, span_begin letter c.args.s.now c.args.at)
+
+pub returns-then-not-is_letter : goal.returns-then-not-is_letter
+returns-then-not-is_letter c = span_stop letter c.args.s.now c.args.at c.loop-i.i c.loop-i.invariant.2 c.loop-i.invariant.0 c.loop-i-test.true (sym c.is_letter.ensures ∙ c.if-not-is_letter.true)
+
+pub loop-i-preserved : goal.loop-i-preserved
+loop-i-preserved c = (omega arith, omega arith, span_more letter c.args.s.now c.args.at c.loop-i.i c.loop-i.invariant.2 (sym c.is_letter.ensures ∙ c.if-not-is_letter.false))
+
+pub returns : goal.returns
+returns c = span_end letter c.args.s.now c.args.at c.loop-i.i c.loop-i.invariant.2 c.loop-i.invariant.0 c.loop-i.invariant.1 c.loop-i-test.false

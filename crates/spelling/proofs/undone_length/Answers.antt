@@ -1,0 +1,14 @@
+use Rattle.spelling.specs.Form.{undo}
+use Rattle.spelling.proofs.undone_length.Goals as goal
+
+pub returns-in-Plain : goal.returns-in-Plain
+unfolding undo
+returns-in-Plain c = rw c.in-Plain.is
+
+pub returns-in-Escaped : goal.returns-in-Escaped
+unfolding undo
+returns-in-Escaped c = rw c.in-Escaped.is c.unescaped_length.ensures
+
+pub returns-in-Reserved : goal.returns-in-Reserved
+unfolding undo
+returns-in-Reserved c = rw c.in-Reserved.is c.unreserved_length.ensures
