@@ -10,19 +10,19 @@ pub returns-then-kind-eq-IRI : goal.returns-then-kind-eq-IRI
 returns-then-kind-eq-IRI c = λ at. writes_as (node_write c.args.node c.args.work.now c.args.back.now c.args.text.now c.args.tag.now at) _ _ c.args.work.now _ c.args.terms.now _ c.args.store.now _ c.args.st.now _ (iri_write c.args.node c.args.work.now c.args.back.now c.args.text.now c.args.tag.now at c.if-kind-eq-IRI.true) c.share_iri.ensures
 
 pub share_label-requires : goal.share_label-requires
-share_label-requires c = (ready_as (node_write c.args.node c.args.work.now c.args.back.now c.args.text.now c.args.tag.now c.requires.0.0) _ c.args.work.now c.args.terms.now c.args.store.now c.args.st.now (blank_write c.args.node c.args.work.now c.args.back.now c.args.text.now c.args.tag.now c.requires.0.0 c.if-kind-eq-BLANK.true) c.requires.0.1, c.requires.1.label-text c.if-kind-eq-BLANK.true)
+share_label-requires c = (ready_as (node_write c.args.node c.args.work.now c.args.back.now c.args.text.now c.args.tag.now c.requires.0.0) _ c.args.work.now c.args.terms.now c.args.store.now c.args.st.now (blank_write c.args.node c.args.work.now c.args.back.now c.args.text.now c.args.tag.now c.requires.0.0 c.if-kind-eq-BLANK.true) c.requires.0.1, c.requires.1.label_text c.if-kind-eq-BLANK.true)
 
 pub returns-then-kind-eq-BLANK : goal.returns-then-kind-eq-BLANK
 returns-then-kind-eq-BLANK c = λ at. writes_as (node_write c.args.node c.args.work.now c.args.back.now c.args.text.now c.args.tag.now at) _ _ c.args.work.now _ c.args.terms.now _ c.args.store.now _ c.args.st.now _ (blank_write c.args.node c.args.work.now c.args.back.now c.args.text.now c.args.tag.now at c.if-kind-eq-BLANK.true) c.share_label.ensures
 
 pub share_typed-requires : goal.share_typed-requires
-share_typed-requires c = (ready_as (node_write c.args.node c.args.work.now c.args.back.now c.args.text.now c.args.tag.now c.requires.0.0) _ c.args.work.now c.args.terms.now c.args.store.now c.args.st.now (literal_write c.args.node c.args.work.now c.args.back.now c.args.text.now c.args.tag.now c.requires.0.0 c.if-kind-eq-LITERAL.true) c.requires.0.1, (node_part c.args.node c.args.work.now c.args.back.now c.args.text.now c.args.tag.now c.requires.1, c.requires.1.text-right))
+share_typed-requires c = (ready_as (node_write c.args.node c.args.work.now c.args.back.now c.args.text.now c.args.tag.now c.requires.0.0) _ c.args.work.now c.args.terms.now c.args.store.now c.args.st.now (literal_write c.args.node c.args.work.now c.args.back.now c.args.text.now c.args.tag.now c.requires.0.0 c.if-kind-eq-LITERAL.true) c.requires.0.1, (node_part c.args.node c.args.work.now c.args.back.now c.args.text.now c.args.tag.now c.requires.1, c.requires.1.text_right))
 
 pub returns-then-kind-eq-LITERAL : goal.returns-then-kind-eq-LITERAL
 returns-then-kind-eq-LITERAL c = λ at. writes_as (node_write c.args.node c.args.work.now c.args.back.now c.args.text.now c.args.tag.now at) _ _ c.args.work.now _ c.args.terms.now _ c.args.store.now _ c.args.st.now _ (literal_write c.args.node c.args.work.now c.args.back.now c.args.text.now c.args.tag.now at c.if-kind-eq-LITERAL.true) c.share_typed.ensures
 
 pub share_tagged-requires : goal.share_tagged-requires
-share_tagged-requires c = (ready_as (node_write c.args.node c.args.work.now c.args.back.now c.args.text.now c.args.tag.now c.requires.0.0) _ c.args.work.now c.args.terms.now c.args.store.now c.args.st.now (tagged_write c.args.node c.args.work.now c.args.back.now c.args.text.now c.args.tag.now c.requires.0.0 c.if-kind-eq-TAGGED.true) c.requires.0.1, c.requires.1.text-right)
+share_tagged-requires c = (ready_as (node_write c.args.node c.args.work.now c.args.back.now c.args.text.now c.args.tag.now c.requires.0.0) _ c.args.work.now c.args.terms.now c.args.store.now c.args.st.now (tagged_write c.args.node c.args.work.now c.args.back.now c.args.text.now c.args.tag.now c.requires.0.0 c.if-kind-eq-TAGGED.true) c.requires.0.1, c.requires.1.text_right)
 
 pub returns-then-kind-eq-TAGGED : goal.returns-then-kind-eq-TAGGED
 returns-then-kind-eq-TAGGED c = λ at. writes_as (node_write c.args.node c.args.work.now c.args.back.now c.args.text.now c.args.tag.now at) _ _ c.args.work.now _ c.args.terms.now _ c.args.store.now _ c.args.st.now _ (tagged_write c.args.node c.args.work.now c.args.back.now c.args.text.now c.args.tag.now at c.if-kind-eq-TAGGED.true) c.share_tagged.ensures
