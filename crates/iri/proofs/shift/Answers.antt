@@ -1,12 +1,12 @@
 use Prim.Native.Nat.{ℕ, ◌-◌, ◌+◌}
 use mathlib.Core.Path.{◌≡◌, sym, ◌∙◌}
-use mathlib.Core.Logic.{⊎_elim}
 use native.Mathlib.Omega.{arith}
 use lib.ListN.{length, get_or}
 use Rattle.iri.specs.Code.{window}
 use Rattle.iri.proofs.Places.{window_length, moved_none, moved_next, moved_more}
 use Rattle.iri.proofs.Turns.{segment_more, segment_stop, segment_end}
 use Rattle.iri.proofs.shift.Goals as goal
+use Rattle.iri.proofs.shift.Goals.{then-c-eq47+else-n-gt0, else-c-eq47}
 
 pub loop-n-init : goal.loop-n-init
 loop-n-init c = (moved_none c.args.b.now c.args.at c.args.w (omega arith), (omega arith, λ h. absurd (omega arith)))
@@ -30,7 +30,7 @@ loop-n-preserved c = let x = c.args.b.now in
       moved_more x c.loop-n.b at c.args.w n c.loop-n.invariant.0 (omega arith) (omega arith),
       (
         omega arith,
-        λ h. segment_more (window x.now at end) n (omega arith) c.loop-n.invariant.1.1 (λ e. ⊎_elim (λ t. omega (arith, t.1.left)) (λ t. absurd (t.left (next ∙ e))) c.if-c-eq47.branch),
+        λ h. segment_more (window x.now at end) n (omega arith) c.loop-n.invariant.1.1 (λ e. elim c.if-c-eq47.branch [ then-c-eq47+else-n-gt0 w ↦ omega (arith, w.if-n-gt0.false) | else-c-eq47 w ↦ absurd (w.if-c-eq47.false (next ∙ e)) ]),
       ),
     )
 

@@ -1,7 +1,7 @@
 -- `prefix_rest` meets its contract.
-use mathlib.Core.Logic.{⊎_elim}
 use Rattle.lexer_words.proofs.Clearing.{next_settled, next_token, prefix_colon, no_colon_end, no_colon_other, no_colon_dot, dot_none, dot_other}
 use Rattle.lexer_words.proofs.names.prefix_rest.Goals as goal
+use Rattle.lexer_words.proofs.names.prefix_rest.Goals.{then-at-i+else-s-i-eq46, else-at-i}
 
 pub name_run-i-requires : goal.name_run-i-requires
 name_run-i-requires c = c.requires.within
@@ -25,7 +25,7 @@ pub returns-then-s-i-eq46 : goal.returns-then-s-i-eq46
 returns-then-s-i-eq46 c = next_settled c.args.s.now c.args.at c.name_run-i.result c.args.kind c.name_run-i.ensures c.requires (no_colon_dot _ _ _ c.name_run-i.ensures c.if-at-i.true c.if-s-i-eq46.true) _ c.settle-then-s-i-eq46.ensures
 
 pub local_part-t-requires : goal.local_part-t-requires
-local_part-t-requires c = prefix_colon c.args.s.now c.args.at c.name_run-i.result c.name_run-i.ensures c.requires c.if-s-i.false c.if-s-i-ne58.false (⊎_elim (λ x. dot_other c.args.s.now c.args.at c.name_run-i.result x.0.taken x.2.left) (λ x. dot_none c.args.s.now c.args.at c.name_run-i.result x.left) c.if-at-i.branch)
+local_part-t-requires c = prefix_colon c.args.s.now c.args.at c.name_run-i.result c.name_run-i.ensures c.requires c.if-s-i.false c.if-s-i-ne58.false (elim c.if-at-i.branch [ then-at-i+else-s-i-eq46 w ↦ dot_other c.args.s.now c.args.at c.name_run-i.result w.if-at-i.true w.if-s-i-eq46.false | else-at-i w ↦ dot_none c.args.s.now c.args.at c.name_run-i.result w.if-at-i.false ])
 
 pub returns : goal.returns
 returns c = next_token c.args.s.now c.local_part-t.result c.local_part-t.ensures
