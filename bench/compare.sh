@@ -4,10 +4,10 @@
 # serdi, sort and comm (serdi). The exit status is 1 where twice the text takes over 2.6 times as long, or comm finds other statements.
 set -e
 cd "$(dirname "$0")/.."
-rt staticlib sycamoot > /dev/null
+archive=$(tools/archive)
 texts=target/bench/compare
 mkdir -p $texts
-cc -std=gnu11 -Wall -Wextra -O2 -Iinclude -o target/compare-bench bench/compare.c bench/lent.c target/staticlib/libsycamoot.a -lm
+cc -std=gnu11 -Wall -Wextra -O2 -Iinclude -o target/compare-bench bench/compare.c bench/lent.c "$archive" -lm
 python3 bench/texts.py $texts editions 65536 262144 1048576
 export LC_ALL=C
 

@@ -2,10 +2,10 @@
 # Times the read at 1/4, 1/2 and 1 MB of every shape and of the worst texts; fails where twice the text takes over 2.2 times as long.
 set -e
 cd "$(dirname "$0")/.."
-rt staticlib sycamoot > /dev/null
+archive=$(tools/archive)
 texts=target/bench/growth
 mkdir -p $texts
-cc -std=gnu11 -Wall -Wextra -O2 -Iinclude -o target/growth-bench bench/growth.c bench/lent.c target/staticlib/libsycamoot.a
+cc -std=gnu11 -Wall -Wextra -O2 -Iinclude -o target/growth-bench bench/growth.c bench/lent.c "$archive"
 for set in shapes worst; do python3 bench/texts.py $texts $set 262144 524288 1048576; done
 
 # grow long|short FILE: FILE is the smallest of the three.

@@ -3,6 +3,6 @@
 # status is 1 where a pallet file's index, a hundred motors with thirty rows each, takes a second or more.
 set -e
 cd "$(dirname "$0")/.."
-rt staticlib sycamoot > /dev/null
-cc -std=gnu11 -Wall -Wextra -O2 -Iinclude -o target/index-bench bench/index.c target/staticlib/libsycamoot.a
+archive=$(tools/archive)
+cc -std=gnu11 -Wall -Wextra -O2 -Iinclude -o target/index-bench bench/index.c "$archive"
 exec target/index-bench

@@ -5,33 +5,34 @@ set -e
 root=$(pwd)
 copy=$(mktemp -d)
 trap 'rm -rf "$copy"' EXIT
-cp -r crates crates.txt "$copy"
-[ -d target ] && cp -r target "$copy"
+tar -c --exclude=out crates crates.txt | tar -x -C "$copy"
 cd "$copy"
-echo 'face: escape iri' >>crates.txt
+echo 'face staticlib: escape iri' >>crates.txt
 mkdir -p crates/face/src
 cat >crates/face/src/lib.rt <<'RATTLE'
-#[no_mangle]
+#![tactic(auto)]
+
+#[unsafe(no_mangle)]
 pub extern "C" fn bench_bad_escape(s: &[u8]) -> bool {
     escape::has_bad_escape(s)
 }
 
-#[no_mangle]
+#[unsafe(no_mangle)]
 pub extern "C" fn bench_same(s: &[u8], t: &[u8]) -> bool {
     escape::same_unescaped(s, t)
 }
 
-#[no_mangle]
+#[unsafe(no_mangle)]
 pub extern "C" fn bench_write(s: &[u8], out: &mut [u8]) -> usize {
     escape::write_unescaped(s, out)
 }
 
-#[no_mangle]
+#[unsafe(no_mangle)]
 pub extern "C" fn bench_scheme(s: &[u8]) -> bool {
     iri::has_scheme_unescaped(s)
 }
 
-#[no_mangle]
+#[unsafe(no_mangle)]
 pub extern "C" fn bench_resolve(base: &[u8], buffer: &mut [u8], n: usize) -> usize {
     let r = iri::resolve(base, buffer, n);
     match r {
@@ -41,7 +42,8 @@ pub extern "C" fn bench_resolve(base: &[u8], buffer: &mut [u8], n: usize) -> usi
     }
 }
 RATTLE
-rt staticlib face
-cc -O2 -o bench "$root/bench/iri.c" target/staticlib/libface.a
+(cd crates/face && rt lib)
+archive=crates/face/out/libface.a
+cc -O2 -o bench "$root/bench/iri.c" "$archive"
 ./bench
-objdump -d target/staticlib/libface.a | awk '/>:$/ {name = $2} /sub .*,%rsp/ {print name, $NF}' | sort -u
+objdump -d "$archive" | awk '/>:$/ {name = $2} /sub .*,%rsp/ {print name, $NF}' | sort -u

@@ -4,8 +4,8 @@
 # The exit status is 1 where the largest index takes over twice as long a byte as the second, or a stack is over 512 bytes.
 set -e
 cd "$(dirname "$0")/.."
-rt staticlib sycamoot > /dev/null
-cc -std=gnu11 -Wall -Wextra -O2 -Wl,-z,now -Iinclude -o target/look-up-bench bench/look_up.c target/staticlib/libsycamoot.a
+archive=$(tools/archive)
+cc -std=gnu11 -Wall -Wextra -O2 -Wl,-z,now -Iinclude -o target/look-up-bench bench/look_up.c "$archive"
 target/look-up-bench
 command -v valgrind > /dev/null || exit 0
 # Instructions for a byte before the stopping record: of so many motors, that number.

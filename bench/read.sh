@@ -4,7 +4,7 @@
 # The exit status is 1 where a figure falls short of its goal.
 set -e
 cd "$(dirname "$0")/.."
-rt staticlib sycamoot > /dev/null
+archive=$(tools/archive)
 texts=target/bench/read
 mkdir -p $texts
 engines=sycamoot
@@ -16,7 +16,7 @@ else
 fi
 command -v valgrind > /dev/null || echo "valgrind is not installed: no instructions"
 # shellcheck disable=SC2086
-cc -std=gnu11 -Wall -Wextra -O2 -Iinclude -o target/read-bench bench/read.c bench/lent.c target/staticlib/libsycamoot.a $serd
+cc -std=gnu11 -Wall -Wextra -O2 -Iinclude -o target/read-bench bench/read.c bench/lent.c "$archive" $serd
 python3 bench/texts.py $texts shapes 2048 65536 262144 1048576
 
 # instructions ENGINE FILE: of one read, a byte.

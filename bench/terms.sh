@@ -2,6 +2,6 @@
 # Times finding and adding terms, with and without the index.
 set -e
 cd "$(dirname "$0")/.."
-rt staticlib terms_bench > /dev/null
-cc -O2 -o target/terms-bench bench/terms.c target/staticlib/libterms_bench.a
+archive=$(tools/archive terms_bench)
+cc -O2 -o target/terms-bench bench/terms.c "$archive"
 exec target/terms-bench

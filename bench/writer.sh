@@ -2,6 +2,6 @@
 # Times writing 1 MB of long form, and the stack that it takes.
 set -e
 cd "$(dirname "$0")/.."
-rt staticlib writer_bench > /dev/null
-cc -O2 -o target/writer-bench bench/writer.c target/staticlib/libwriter_bench.a
+archive=$(tools/archive writer_bench)
+cc -O2 -o target/writer-bench bench/writer.c "$archive"
 exec target/writer-bench

@@ -7,9 +7,9 @@
 #     c/run.sh changes LEFT RIGHT
 set -e
 cd "$(dirname "$0")/.."
-rt staticlib sycamoot > /dev/null
+archive=$(tools/archive)
 for program in answers statements index look_up changes; do
-    cc -std=c11 -Wall -Wextra -O2 -Iinclude -o target/$program c/$program.c target/staticlib/libsycamoot.a
+    cc -std=c11 -Wall -Wextra -O2 -Iinclude -o target/$program c/$program.c "$archive"
 done
 if [ $# -eq 0 ]; then exec target/answers; fi
 if [ $# -eq 1 ]; then exec target/statements "$1"; fi

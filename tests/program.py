@@ -1,13 +1,13 @@
 #!/usr/bin/env python3
 """Runs the program longform at its limits, and reads back what it prints.
 
-    tests/program.py      # after rt check longform
+    tests/program.py      # after `rt run` in crates/longform
 """
 import os
 import subprocess
 import sys
 
-PROGRAM = os.path.join(os.path.dirname(os.path.dirname(os.path.abspath(__file__))), 'target', 'bin', 'longform')
+PROGRAM = os.path.join(os.path.dirname(os.path.dirname(os.path.abspath(__file__))), 'crates', 'longform', 'out', 'longform')
 FORBIDDEN = [chr(c) for c in range(33)] + list('<>"{}|^`\\')
 
 

@@ -6,7 +6,7 @@ cd "$(dirname "$0")/.." || exit 2
 shared=$(cd "${1:-../shared}" 2> /dev/null && pwd)
 log=target/evidence
 mkdir -p "$log"
-rt staticlib sycamoot > "$log/library.log" 2>&1 || { cat "$log/library.log"; exit 2; }
+tools/archive --anew > "$log/library.log" 2>&1 || { cat "$log/library.log"; exit 2; }
 (cd tests && cargo build --release --offline) > "$log/build.log" 2>&1 || { cat "$log/build.log"; exit 2; }
 status=0
 
@@ -44,7 +44,7 @@ row look-up 17 $evidence look-up --seed 42 --count 100000
 if [ -n "$shared" ] && [ -f "$shared/cases/requests/C-17.jsonl" ]; then row look-up-cases 3 $evidence look-up "$shared/cases/requests/C-17.jsonl"; else echo "look-up-cases: skipped, there are none"; fi
 row changes 18 $evidence changes --seed 42 --count 100000
 if [ -n "$shared" ] && [ -f "$shared/cases/requests/C-21.jsonl" ]; then row changes-cases 4 $evidence changes "$shared/cases/requests/C-21.jsonl"; else echo "changes-cases: skipped, there are none"; fi
-row program 1 sh -c 'rt check longform > /dev/null && tests/program.py'
+row program 1 sh -c '(cd crates/longform && rt run < stdin > /dev/null) && tests/program.py'
 row c 1 c/run.sh
 row rust 2 sh -c 'cd rust && cargo test --offline --test reading'
 row command 2 sh -c 'cd rust && cargo test --offline --test command'

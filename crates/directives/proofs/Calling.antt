@@ -8,7 +8,7 @@ use borrow.Author.Tests.{ne_eqb, eqb-true}
 use lib.Dec.{eqb}
 use lib.ListN.{length, get_or, take, drop, length-drop}
 use lib.Seq.{length-take-le, take-take, get_or-take}
-use denote.Ref.{Bor}
+use denote.Ref.{MutBor}
 use Rattle.text.specs.Text.{Text, is}
 use Rattle.text.proofs.Compare.{contrary}
 use Rattle.token.specs.Kind.{kind_code, end_kind, unreadable_kind, IRIREF, at_prefix, at_base, PREFIX, BASE}
@@ -30,7 +30,7 @@ use Rattle.nodes.proofs.Moving.{token_words, cursor_words}
 use Rattle.directives.specs.Directives.{directive_kinds, Able, Prefix, Prefixed}
 use Rattle.limits.specs.Limits.{prefix_limit}
 
-pub able_ready : (doc : Text) (work rows terms store : Bor (List ℕ)) (st : List ℕ) → Ready doc (held work rows terms store st) → Able doc work.now st
+pub able_ready : (doc : Text) (work rows terms store : MutBor (List ℕ)) (st : List ℕ) → Ready doc (held work rows terms store st) → Able doc work.now st
 able_ready doc work rows terms store st r =
     let (old, (m, h)) = r.holds in
     record { cursor = r.cursor; usable = h.usable; sound = subst Sound (sym h.environment) h.base }

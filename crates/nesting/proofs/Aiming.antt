@@ -5,7 +5,7 @@ use mathlib.Core.Bool.{Bool, true, false, not}
 use Prim.Native.Nat.{ℕ, ◌-◌, ◌<◌}
 use native.Mathlib.Omega.{arith}
 use lib.ListN.{length, get_or}
-use denote.Ref.{Bor}
+use denote.Ref.{MutBor}
 use Rattle.token.specs.Kind.{end_kind, unreadable_kind}
 use Rattle.environment.specs.Code.{words_size}
 use Rattle.text.specs.Text.{Text}
@@ -22,7 +22,7 @@ use Rattle.nodes.proofs.Moving.{cursor_words, left_words}
 use Rattle.nodes.proofs.Passing.{represents_words}
 use Rattle.table.specs.Layout.{word_limit}
 
-module _ (doc : Text) (work rows terms store : Bor (List ℕ)) (st st' : List ℕ) (same : (k : ℕ) → k < list_word → get_or st' k 0 ≡ get_or st k 0) (n : length st' ≡ length st) where
+module _ (doc : Text) (work rows terms store : MutBor (List ℕ)) (st st' : List ℕ) (same : (k : ℕ) → k < list_word → get_or st' k 0 ≡ get_or st k 0) (n : length st' ≡ length st) where
   abbrev a : Held
   a = held work rows terms store st
 
@@ -52,7 +52,7 @@ module _ (doc : Text) (work rows terms store : Bor (List ℕ)) (st st' : List �
       }
 
 -- A place within the words that there may be.
-pub spotted : (work rows terms store : Bor (List ℕ)) (st st' : List ℕ) (list x y opened last : ℕ) → Aimed st st' list x y opened last → x < word_limit → y < word_limit → opened < word_limit → last < word_limit → Spotted (held work rows terms store st')
+pub spotted : (work rows terms store : MutBor (List ℕ)) (st st' : List ℕ) (list x y opened last : ℕ) → Aimed st st' list x y opened last → x < word_limit → y < word_limit → opened < word_limit → last < word_limit → Spotted (held work rows terms store st')
 spotted work rows terms store st st' list x y opened last a hx hy ho hl =
     record { x = rw a.x_is hx; y = rw a.y_is hy; opened = rw a.opened_is ho; last = rw a.last_is hl }
 

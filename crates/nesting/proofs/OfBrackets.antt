@@ -6,7 +6,7 @@ use mathlib.Core.Option.{Option, some}
 use Prim.Native.Nat.{ℕ, ◌-◌, ◌<◌}
 use native.Mathlib.Omega.{arith}
 use borrow.Author.Tests.{ne_eqb}
-use denote.Ref.{Bor}
+use denote.Ref.{MutBor}
 use Rattle.text.specs.Text.{Text, cond}
 use Rattle.token.specs.Kind.{Kind, kind_code, kind_of_code, among, close_bracket}
 use Rattle.token.specs.Tokens.{Token}
@@ -33,19 +33,19 @@ quiet : Quiet (kind_code close_bracket)
 quiet = record { escapes = refl; reference = refl; name = refl; opening = refl }
 
 -- The closing bracket, where some frame takes it.
-pub close_reads : (doc : Text) (work rows terms store : Bor (List ℕ)) (st st' : List ℕ) → Ready doc (held work rows terms store st) → kind_in st ≡ kind_code close_bracket → Passed doc st st' (depth_in st - 1) (graph_in st)
+pub close_reads : (doc : Text) (work rows terms store : MutBor (List ℕ)) (st st' : List ℕ) → Ready doc (held work rows terms store st) → kind_in st ≡ kind_code close_bracket → Passed doc st st' (depth_in st - 1) (graph_in st)
     → (f : Frame) (gs : List Frame) → ((t : Token) (tied : Bool) → find_rule close_bracket (frame_rules t tied f) ≡ some (return gs)) → Reads doc (f ∷ []) gs (held work rows terms store st) (held work rows terms store st') 0
 close_reads doc work rows terms store st st' r k p f gs rule =
     reads_does doc f gs (held work rows terms store st) (held work rows terms store st') 0 r (λ m. (0, m)) (token_there doc st (kind_code close_bracket) r.cursor k (λ h. omega arith) (λ h. omega arith)) (λ h. omega arith)
     (passed_same doc work rows terms store st st' 23 (depth_in st - 1) 0 k quiet p (depth_23 work rows terms store st k))
     (λ tied. (return gs, (ap (λ (x : Kind). find_rule x (frame_rules (here doc (held work rows terms store st)) tied f)) (ap kind_of_code k) ∙ rule (here doc (held work rows terms store st)) tied, λ old m h. (refl, λ y. refl))))
   where
-    depth_23 : (work rows terms store : Bor (List ℕ)) (st : List ℕ) → kind_in st ≡ kind_code close_bracket → depth_in st - 1 ≡ new_depth (depth_in st) (here doc (held work rows terms store st))
+    depth_23 : (work rows terms store : MutBor (List ℕ)) (st : List ℕ) → kind_in st ≡ kind_code close_bracket → depth_in st - 1 ≡ new_depth (depth_in st) (here doc (held work rows terms store st))
     depth_23 work rows terms store st k = depth_closing doc (held work rows terms store st) 23 k refl refl
 
 -- ---- The end
 
-module _ (doc : Text) (work rows terms store : Bor (List ℕ)) (st : List ℕ) (r : Ready doc (held work rows terms store st)) where
+module _ (doc : Text) (work rows terms store : MutBor (List ℕ)) (st : List ℕ) (r : Ready doc (held work rows terms store st)) where
   abbrev a : Held
   a = held work rows terms store st
 
@@ -79,7 +79,7 @@ module _ (doc : Text) (work rows terms store : Bor (List ℕ)) (st : List ℕ) (
 
 -- ---- The contents
 
-module _ (doc : Text) (work rows terms store : Bor (List ℕ)) (st : List ℕ) (r : Ready doc (held work rows terms store st)) where
+module _ (doc : Text) (work rows terms store : MutBor (List ℕ)) (st : List ℕ) (r : Ready doc (held work rows terms store st)) where
   -- No predicate: the bracket ends, if with anything.
   pub contents_end : code_among verb_kinds (kind_in st) ≡ false → (d : Held) (q : ℕ) → Closing doc (held work rows terms store st) d q → Contents doc (held work rows terms store st) d q
   contents_end v d q C place e1 e2 = C (bracket place (node_in st)) ends

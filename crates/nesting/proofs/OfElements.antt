@@ -5,7 +5,7 @@ use Prim.Native.Nat.{ℕ, zero, suc, ◌+◌, ◌-◌, ◌≤◌, ◌<◌}
 use native.Mathlib.Omega.{arith}
 use borrow.Author.Tests.{ne_eqb}
 use lib.ListN.{length, get_or}
-use denote.Ref.{Bor}
+use denote.Ref.{MutBor}
 use Rattle.text.specs.Text.{Text}
 use Rattle.token.specs.Kind.{kind_code, close_paren}
 use Rattle.machine.specs.Frame.{full_stop, Place, subject_before, object_of, element_of, Cells, no_cell, cells, list}
@@ -63,7 +63,7 @@ elements_start doc a r =
       reads = λ place b. comes_here doc (on_top (list place (get_or a.st opened_word 0) no_cell ∷ [])) a r;
     }
 
-module _ (doc : Text) (a₀ : Held) (spot : Spotted a₀) (work rows terms store : Bor (List ℕ)) (st st' : List ℕ) (x y opened last : ℕ) (I : ElementsInv doc a₀ (held work rows terms store st) x y opened last) (aim : Aimed st st' 1 x y opened last) where
+module _ (doc : Text) (a₀ : Held) (spot : Spotted a₀) (work rows terms store : MutBor (List ℕ)) (st st' : List ℕ) (x y opened last : ℕ) (I : ElementsInv doc a₀ (held work rows terms store st) x y opened last) (aim : Aimed st st' 1 x y opened last) where
   abbrev a : Held
   a = held work rows terms store st
 

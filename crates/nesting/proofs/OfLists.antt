@@ -4,7 +4,7 @@ use mathlib.Core.List.{List, [], ◌∷◌, ◌++◌}
 use Prim.Native.Nat.{ℕ, zero, suc, ◌+◌, ◌-◌, ◌<◌}
 use native.Mathlib.Omega.{arith}
 use lib.ListN.{get_or}
-use denote.Ref.{Bor}
+use denote.Ref.{MutBor}
 use Rattle.text.specs.Text.{Text}
 use Rattle.token.specs.Kind.{kind_code, close_paren}
 use Rattle.machine.specs.Frame.{Place, object_of, Cells, no_cell, cells, Frame, list}
@@ -60,7 +60,7 @@ module _ (doc : Text) (a : Held) (ready : Ready doc a) (k : kind_in a.st ≡ kin
 
 -- ---- One element more
 
-module _ (doc : Text) (work rows terms store : Bor (List ℕ)) (st st' : List ℕ) (ready : Ready doc (held work rows terms store st)) (k : kind_in st ≡ kind_code close_paren → ⊥) (in_a_list : list_in st ≡ 1) (deep : Deep st) (cell : ℕ) (ec : cell ≡ get_or st terms_word 0 + 1) (M : Marked st st' 0 cell) where
+module _ (doc : Text) (work rows terms store : MutBor (List ℕ)) (st st' : List ℕ) (ready : Ready doc (held work rows terms store st)) (k : kind_in st ≡ kind_code close_paren → ⊥) (in_a_list : list_in st ≡ 1) (deep : Deep st) (cell : ℕ) (ec : cell ≡ get_or st terms_word 0 + 1) (M : Marked st st' 0 cell) where
   abbrev a : Held
   a = held work rows terms store st
 
@@ -119,7 +119,7 @@ module _ (doc : Text) (work rows terms store : Bor (List ℕ)) (st st' : List �
 
 -- ---- What is resumed
 
-module _ (doc : Text) (work rows terms store : Bor (List ℕ)) (st : List ℕ) (ready : Ready doc (held work rows terms store st)) where
+module _ (doc : Text) (work rows terms store : MutBor (List ℕ)) (st : List ℕ) (ready : Ready doc (held work rows terms store st)) where
   abbrev h : Held
   h = held work rows terms store st
 

@@ -8,7 +8,7 @@ use native.Mathlib.Omega.{arith}
 use borrow.Author.Tests.{ne_eqb, eqb-true, eqb-false}
 use lib.Dec.{eqb}
 use lib.ListN.{length, get_or}
-use denote.Ref.{Bor}
+use denote.Ref.{MutBor}
 use Rattle.text.specs.Text.{Text, cond}
 use Rattle.text.proofs.Compare.{by, contrary}
 use Rattle.token.specs.Kind.{kind_code, end_kind, unreadable_kind, kind_of_code, among, strings, kw_a, open_bracket, open_paren, IRIREF, PNAME_NS, PNAME_LN, BLANK_NODE_LABEL, INTEGER, DECIMAL, DOUBLE, STRING_LITERAL_QUOTE, STRING_LITERAL_SINGLE_QUOTE, kw_true, kw_false, STRING_LITERAL_LONG_QUOTE, STRING_LITERAL_LONG_SINGLE_QUOTE}
@@ -227,7 +227,7 @@ module _ (doc : Text) (a : Held) (ready : Ready doc a) where
   belongs_plain (suc x) zero h = (refl, (refl, omega arith))
   belongs_plain (suc x) (suc y) h = (refl, (refl, (omega arith, omega arith)))
 
-  module _ (k : kind_in a.st ≡ kind_code open_paren) (work rows terms store : Bor (List ℕ)) (u : List ℕ) (r : ℕ) (D : Does doc (opened_at (spot_of a)) a (held work rows terms store u) r) where
+  module _ (k : kind_in a.st ≡ kind_code open_paren) (work rows terms store : MutBor (List ℕ)) (u : List ℕ) (r : ℕ) (D : Does doc (opened_at (spot_of a)) a (held work rows terms store u) r) where
     abbrev b : Held
     b = held work rows terms store u
 
@@ -333,7 +333,7 @@ module _ (doc : Text) (a : Held) (ready : Ready doc a) where
           }
 
 -- A level of zeros was put before.
-module _ (doc : Text) (work rows terms store : Bor (List ℕ)) (st st' : List ℕ) (ready : Ready doc (held work rows terms store st)) (M : Marked st st' 0 0) where
+module _ (doc : Text) (work rows terms store : MutBor (List ℕ)) (st st' : List ℕ) (ready : Ready doc (held work rows terms store st)) (M : Marked st st' 0 0) where
   abbrev a₀ : Held
   a₀ = held work rows terms store st
 

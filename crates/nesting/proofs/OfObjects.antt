@@ -4,7 +4,7 @@ use mathlib.Core.List.{List, [], ◌∷◌}
 use Prim.Native.Nat.{ℕ, ◌-◌, ◌≤◌, ◌<◌}
 use native.Mathlib.Omega.{arith}
 use lib.ListN.{length}
-use denote.Ref.{Bor}
+use denote.Ref.{MutBor}
 use Rattle.text.specs.Text.{Text}
 use Rattle.token.specs.Kind.{kind_code, comma}
 use Rattle.machine.specs.Memory.{return}
@@ -32,7 +32,7 @@ pub record ObjectsInv (doc : Text) (a₀ a : Held) (s p : ℕ) : Type 0 where
 pub objects_start : (doc : Text) (a : Held) (s p : ℕ) → Ready doc a → ObjectsInv doc a a s p
 objects_start doc a s p r = record { ready = r; depth = refl; later = omega arith; reads = λ e. comes_here doc (on_top (object s p e ∷ [])) a r }
 
-module _ (doc : Text) (a₀ : Held) (work rows terms store : Bor (List ℕ)) (st st' : List ℕ) (s p : ℕ) (I : ObjectsInv doc a₀ (held work rows terms store st) s p) (aim : Aimed st st' 0 s p 0 0) where
+module _ (doc : Text) (a₀ : Held) (work rows terms store : MutBor (List ℕ)) (st st' : List ℕ) (s p : ℕ) (I : ObjectsInv doc a₀ (held work rows terms store st) s p) (aim : Aimed st st' 0 s p 0 0) where
   pub objects_ready : (s < word_limit) → (p < word_limit) → 0 < s → 0 < p → (Ready doc (held work rows terms store st') × Spotted (held work rows terms store st')) × Awaited doc (held work rows terms store st')
   objects_ready hs hp zs zp = (
     (ready_aimed doc work rows terms store st st' aim.before aim.words I.ready, spotted work rows terms store st st' 0 s p 0 0 aim hs hp (omega arith) (omega arith)),
@@ -68,7 +68,7 @@ module _ (doc : Text) (a₀ : Held) (work rows terms store : Bor (List ℕ)) (st
 quiet : Quiet (kind_code comma)
 quiet = record { escapes = refl; reference = refl; name = refl; opening = refl }
 
-module _ (doc : Text) (work rows terms store : Bor (List ℕ)) (u u' : List ℕ) (ready : Ready doc (held work rows terms store u)) (k : kind_in u ≡ kind_code comma) (P : Passed doc u u' (depth_in u) (graph_in u)) where
+module _ (doc : Text) (work rows terms store : MutBor (List ℕ)) (u u' : List ℕ) (ready : Ready doc (held work rows terms store u)) (k : kind_in u ≡ kind_code comma) (P : Passed doc u u' (depth_in u) (graph_in u)) where
   depth_20 : depth_in u ≡ new_depth (depth_in u) (here doc (held work rows terms store u))
   unfolding new_depth
   depth_20 = rw k
@@ -80,8 +80,8 @@ module _ (doc : Text) (work rows terms store : Bor (List ℕ)) (u u' : List ℕ)
       (λ tied. (return (object s p e ∷ []), (rw k, λ old m h. (refl, λ y. refl))))
 
 -- A comma, and one object more.
-module _ (doc : Text) (a₀ : Held) (work₁ rows₁ terms₁ store₁ : Bor (List ℕ)) (st st' : List ℕ) (s p : ℕ) (I : ObjectsInv doc a₀ (held work₁ rows₁ terms₁ store₁ st) s p) (aim : Aimed st st' 0 s p 0 0)
-    (work rows terms store : Bor (List ℕ)) (u u' : List ℕ) (r : ℕ) (hs : 0 < s) (hp : 0 < p) (N : Fills doc (held work₁ rows₁ terms₁ store₁ st') (held work rows terms store u) r × Steady (held work₁ rows₁ terms₁ store₁ st') (held work rows terms store u) r)
+module _ (doc : Text) (a₀ : Held) (work₁ rows₁ terms₁ store₁ : MutBor (List ℕ)) (st st' : List ℕ) (s p : ℕ) (I : ObjectsInv doc a₀ (held work₁ rows₁ terms₁ store₁ st) s p) (aim : Aimed st st' 0 s p 0 0)
+    (work rows terms store : MutBor (List ℕ)) (u u' : List ℕ) (r : ℕ) (hs : 0 < s) (hp : 0 < p) (N : Fills doc (held work₁ rows₁ terms₁ store₁ st') (held work rows terms store u) r × Steady (held work₁ rows₁ terms₁ store₁ st') (held work rows terms store u) r)
     (z : r ≡ 0) (k : kind_in u ≡ kind_code comma) (P : Passed doc u u' (depth_in u) (graph_in u)) where
   abbrev b : Held
   b = held work rows terms store u

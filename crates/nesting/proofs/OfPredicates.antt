@@ -5,7 +5,7 @@ use mathlib.Core.Bool.{true, false}
 use Prim.Native.Nat.{ℕ, ◌+◌, ◌*◌, ◌-◌, ◌<◌}
 use native.Mathlib.Omega.{arith}
 use lib.ListN.{get_or}
-use denote.Ref.{Bor}
+use denote.Ref.{MutBor}
 use Rattle.text.specs.Text.{Text}
 use Rattle.token.specs.Kind.{kind_code, comma, semicolon}
 use Rattle.machine.specs.Frame.{Ending, bracket_end, Frame, object, after_object, after_semicolon}
@@ -24,7 +24,7 @@ use Rattle.table.specs.Layout.{word_limit}
 
 -- ---- A predicate
 
-module _ (doc : Text) (work rows terms store : Bor (List ℕ)) (st st' : List ℕ) (ready : Ready doc (held work rows terms store st)) (verb : code_among verb_kinds (kind_in st) ≡ true) (aim : Aimed st st' 0 0 0 0 0) (b : Held) (r : ℕ) (P : PutsTerm doc (held work rows terms store st') b r) where
+module _ (doc : Text) (work rows terms store : MutBor (List ℕ)) (st st' : List ℕ) (ready : Ready doc (held work rows terms store st)) (verb : code_among verb_kinds (kind_in st) ≡ true) (aim : Aimed st st' 0 0 0 0 0) (b : Held) (r : ℕ) (P : PutsTerm doc (held work rows terms store st') b r) where
   abbrev a : Held
   a = held work rows terms store st
 
@@ -39,8 +39,8 @@ module _ (doc : Text) (work rows terms store : Bor (List ℕ)) (st st' : List �
       }
 
 -- Its level is put, and its object awaited.
-module _ (doc : Text) (work rows terms store : Bor (List ℕ)) (st st' : List ℕ) (ready : Ready doc (held work rows terms store st)) (verb : code_among verb_kinds (kind_in st) ≡ true) (aim : Aimed st st' 0 0 0 0 0)
-    (work₁ rows₁ terms₁ store₁ : Bor (List ℕ)) (u : List ℕ) (r : ℕ) (P : PutsTerm doc (held work rows terms store st') (held work₁ rows₁ terms₁ store₁ u) r) (z : r ≡ 0) where
+module _ (doc : Text) (work rows terms store : MutBor (List ℕ)) (st st' : List ℕ) (ready : Ready doc (held work rows terms store st)) (verb : code_among verb_kinds (kind_in st) ≡ true) (aim : Aimed st st' 0 0 0 0 0)
+    (work₁ rows₁ terms₁ store₁ : MutBor (List ℕ)) (u : List ℕ) (r : ℕ) (P : PutsTerm doc (held work rows terms store st') (held work₁ rows₁ terms₁ store₁ u) r) (z : r ≡ 0) where
   abbrev b : Held
   b = held work₁ rows₁ terms₁ store₁ u
 
@@ -94,7 +94,7 @@ module _ (doc : Text) (work rows terms store : Bor (List ℕ)) (st st' : List �
 
 -- ---- Behind an object
 
-module _ (doc : Text) (work rows terms store : Bor (List ℕ)) (st : List ℕ) (ready : Ready doc (held work rows terms store st)) where
+module _ (doc : Text) (work rows terms store : MutBor (List ℕ)) (st : List ℕ) (ready : Ready doc (held work rows terms store st)) where
   abbrev o : Held
   o = held work rows terms store st
 

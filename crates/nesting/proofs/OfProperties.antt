@@ -5,7 +5,7 @@ use mathlib.Core.Bool.{true, false}
 use Prim.Native.Nat.{ℕ, ◌-◌, ◌≤◌, ◌<◌}
 use native.Mathlib.Omega.{arith}
 use lib.ListN.{length}
-use denote.Ref.{Bor}
+use denote.Ref.{MutBor}
 use Rattle.token.specs.Kind.{kind_code, semicolon}
 use Rattle.environment.specs.Code.{words_size}
 use Rattle.text.specs.Text.{Text}
@@ -45,7 +45,7 @@ properties_start doc a s r v =
       reads = λ f e after verbs. record { frames = f ∷ []; reads = comes_here doc (on_top (f ∷ [])) a r; next = λ b q R. R f after verbs };
     }
 
-module _ (doc : Text) (a₀ : Held) (work rows terms store : Bor (List ℕ)) (st st' : List ℕ) (s : ℕ) (I : PropertiesInv doc a₀ (held work rows terms store st) s) (aim : Aimed st st' 0 0 0 0 0) where
+module _ (doc : Text) (a₀ : Held) (work rows terms store : MutBor (List ℕ)) (st st' : List ℕ) (s : ℕ) (I : PropertiesInv doc a₀ (held work rows terms store st) s) (aim : Aimed st st' 0 0 0 0 0) where
   abbrev a : Held
   a = held work rows terms store st
 
@@ -107,8 +107,8 @@ module _ (doc : Text) (a₀ : Held) (work rows terms store : Bor (List ℕ)) (st
           ((R.cursor, h.usable.words), k)
 
 -- Semicolons, and then more or not.
-module _ (doc : Text) (a₀ : Held) (work₁ rows₁ terms₁ store₁ : Bor (List ℕ)) (st st' : List ℕ) (s : ℕ) (I : PropertiesInv doc a₀ (held work₁ rows₁ terms₁ store₁ st) s) (aim : Aimed st st' 0 0 0 0 0)
-    (b : Held) (r : ℕ) (P : PutsTerm doc (held work₁ rows₁ terms₁ store₁ st') b r) (z : r ≡ 0) (work rows terms store : Bor (List ℕ)) (u u' : List ℕ) (q p : ℕ) (ep : p ≡ node_in b.st)
+module _ (doc : Text) (a₀ : Held) (work₁ rows₁ terms₁ store₁ : MutBor (List ℕ)) (st st' : List ℕ) (s : ℕ) (I : PropertiesInv doc a₀ (held work₁ rows₁ terms₁ store₁ st) s) (aim : Aimed st st' 0 0 0 0 0)
+    (b : Held) (r : ℕ) (P : PutsTerm doc (held work₁ rows₁ terms₁ store₁ st') b r) (z : r ≡ 0) (work rows terms store : MutBor (List ℕ)) (u u' : List ℕ) (q p : ℕ) (ep : p ≡ node_in b.st)
     (O : Objects doc b (held work rows terms store u) s p q) (y : q ≡ 0) (S : Skips doc u u') where
   abbrev d : Held
   d = held work rows terms store u

@@ -5,7 +5,7 @@ use mathlib.Core.Bool.{true, false}
 use Prim.Native.Nat.{ℕ, ◌≤◌, ◌<◌}
 use native.Mathlib.Omega.{arith}
 use lib.ListN.{get_or}
-use denote.Ref.{Bor}
+use denote.Ref.{MutBor}
 use Rattle.text.specs.Text.{Text}
 use Rattle.text.proofs.Compare.{contrary}
 use Rattle.token.specs.Kind.{end_kind, unreadable_kind, among, strings, kw_a}
@@ -34,7 +34,7 @@ pub record VerbDone (doc : Text) (st : List ℕ) (b : Held) : Type 0 where
   pub small : node_in b.st < word_limit
   pub some_node : 0 < node_in b.st
 
-module _ (doc : Text) (work rows terms store : Bor (List ℕ)) (st st' : List ℕ) (ready : Ready doc (held work rows terms store st)) (verb : code_among verb_kinds (kind_in st) ≡ true) (aim : Aimed st st' 0 0 0 0 0) where
+module _ (doc : Text) (work rows terms store : MutBor (List ℕ)) (st st' : List ℕ) (ready : Ready doc (held work rows terms store st)) (verb : code_among verb_kinds (kind_in st) ≡ true) (aim : Aimed st st' 0 0 0 0 0) where
   abbrev a : Held
   a = held work rows terms store st
 

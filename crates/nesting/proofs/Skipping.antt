@@ -5,7 +5,7 @@ use mathlib.Core.List.{List, [], ◌∷◌}
 use Prim.Native.Nat.{ℕ, ◌-◌, ◌≤◌, ◌<◌}
 use native.Mathlib.Omega.{arith}
 use lib.ListN.{length, get_or}
-use denote.Ref.{Bor}
+use denote.Ref.{MutBor}
 use Rattle.token.specs.Kind.{kind_code, end_kind, unreadable_kind, semicolon}
 use Rattle.environment.specs.Code.{words_size}
 use Rattle.text.specs.Text.{Text}
@@ -23,7 +23,7 @@ use Rattle.nesting.specs.Nesting.{Skips}
 
 -- Semicolons were passed, and more may come.
 pub record Skipping (doc : Text) (st st' : List ℕ) : Type 0 where
-  pub reads : (work rows terms store : Bor (List ℕ)) → Ready doc (held work rows terms store st) → (s p : ℕ) (e : Ending) → Reads doc (after_object s p e ∷ []) (after_semicolon s e ∷ []) (held work rows terms store st) (held work rows terms store st') 0
+  pub reads : (work rows terms store : MutBor (List ℕ)) → Ready doc (held work rows terms store st) → (s p : ℕ) (e : Ending) → Reads doc (after_object s p e ∷ []) (after_semicolon s e ∷ []) (held work rows terms store st) (held work rows terms store st') 0
   pub cursor : Cursor doc st'
   pub depth : depth_in st' ≡ depth_in st
   pub later : at_in st < at_in st'
@@ -38,11 +38,11 @@ pub token_there : (doc : Text) (st : List ℕ) (k : ℕ) → Cursor doc st → k
 token_there doc st k c e z y = c.token (λ h. z (sym e ∙ h)) (λ h. y (sym e ∙ h))
 
 module _ (doc : Text) (st st' : List ℕ) (e : kind_in st ≡ kind_code semicolon) (c : Cursor doc st) (p : Passed doc st st' (depth_in st) (graph_in st)) where
-  depth_21 : (work rows terms store : Bor (List ℕ)) → depth_in st ≡ new_depth (depth_in st) (here doc (held work rows terms store st))
+  depth_21 : (work rows terms store : MutBor (List ℕ)) → depth_in st ≡ new_depth (depth_in st) (here doc (held work rows terms store st))
   unfolding new_depth
   depth_21 work rows terms store = rw e
 
-  module _ (work rows terms store : Bor (List ℕ)) (ready : Ready doc (held work rows terms store st)) where
+  module _ (work rows terms store : MutBor (List ℕ)) (ready : Ready doc (held work rows terms store st)) where
     after_first : (s q : ℕ) (x : Ending) → Reads doc (after_object s q x ∷ []) (after_semicolon s x ∷ []) (held work rows terms store st) (held work rows terms store st') 0
     after_first s q x =
         reads_does doc (after_object s q x) (after_semicolon s x ∷ []) (held work rows terms store st) (held work rows terms store st') 0 ready (λ m. (0, m)) (token_there doc st (kind_code semicolon) c e (λ h. omega arith) (λ h. omega arith)) (λ h. omega arith)

@@ -5,7 +5,7 @@ use mathlib.Core.Bool.{true, false}
 use Prim.Native.Nat.{ℕ, ◌-◌, ◌<◌}
 use native.Mathlib.Omega.{arith}
 use lib.ListN.{length, get_or}
-use denote.Ref.{Bor}
+use denote.Ref.{MutBor}
 use Rattle.text.specs.Text.{Text}
 use Rattle.token.specs.Kind.{kind_of_code, among, names, strings, IRIREF, open_bracket, open_paren, close_bracket, close_paren}
 use Rattle.token.specs.Tokens.{Token}
@@ -75,7 +75,7 @@ quiet_refusal t k e q old m work ts st g depth r =
     let z : 0 ≡ or_zero (first_refusal own) = rw (e, q.escapes, q.reference, q.name, q.opening) in
     z ∙ sym (ap or_zero (first_before own (room_tests (room_in ts) m) (fits_passes (room_in ts) m r.fits)))
 
-module _ (doc : Text) (work rows terms store : Bor (List ℕ)) (st st' : List ℕ) (k d g : ℕ) (e : kind_in st ≡ k) (q : Quiet k) where
+module _ (doc : Text) (work rows terms store : MutBor (List ℕ)) (st st' : List ℕ) (k d g : ℕ) (e : kind_in st ≡ k) (q : Quiet k) where
   abbrev a : Held
   a = held work rows terms store st
 

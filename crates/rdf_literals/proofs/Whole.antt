@@ -7,7 +7,7 @@ use native.Mathlib.Omega.{arith}
 use borrow.Author.Tests.{eqb-true}
 use lib.Dec.{eqb}
 use lib.ListN.{length, get_or, take, drop}
-use denote.Ref.{Bor}
+use denote.Ref.{MutBor}
 use Rattle.environment.specs.Code.{words_size}
 use Rattle.text.specs.Text.{Text}
 use Rattle.text.proofs.Compare.{by, contrary}
@@ -132,7 +132,7 @@ module _ (doc : Text) (a : Held) where
   carets_call ready k = ((ready.cursor, token_at_cursor doc a.st ready.cursor (tie_token (kind_in a.st) k)), ready_words doc a ready)
 
 -- ^^ is behind.
-module _ (doc : Text) (work rows terms store : Bor (List ℕ)) (st st1 : List ℕ) (ready : Ready doc (held work rows terms store st)) (k : code_among ties (kind_in st) ≡ true) (z : kind_in st ≡ kind_code LANGTAG → ⊥)
+module _ (doc : Text) (work rows terms store : MutBor (List ℕ)) (st st1 : List ℕ) (ready : Ready doc (held work rows terms store st)) (k : code_among ties (kind_in st) ≡ true) (z : kind_in st ≡ kind_code LANGTAG → ⊥)
     (p : Passed doc st st1 (depth_in st) (graph_in st)) where
   abbrev a : Held
   a = held work rows terms store st
@@ -189,7 +189,7 @@ module _ (doc : Text) (a : Held) (ready : Ready doc a) (k : code_among strings (
     record { steady = record { depth = λ z. refl; later = λ z. absurd (omega arith) }; spot = λ z k h. refl },
   )
 
-module _ (doc : Text) (work rows terms store : Bor (List ℕ)) (st st1 : List ℕ) (ready : Ready doc (held work rows terms store st)) (k : code_among strings (kind_in st) ≡ true)
+module _ (doc : Text) (work rows terms store : MutBor (List ℕ)) (st st1 : List ℕ) (ready : Ready doc (held work rows terms store st)) (k : code_among strings (kind_in st) ≡ true)
     (good : bad_escape (take (len_in st) (drop (at_in st) doc)) ≡ false) (p : Passed doc st st1 (depth_in st) (graph_in st)) where
   abbrev s : Held
   s = held work rows terms store st

@@ -8,7 +8,7 @@ use native.Mathlib.Omega.{arith}
 use borrow.Author.Tests.{ne_eqb}
 use lib.Dec.{T}
 use lib.ListN.{length, get_or}
-use denote.Ref.{Bor}
+use denote.Ref.{MutBor}
 use Rattle.text.specs.Text.{Text}
 use Rattle.text.proofs.Booleans.{all}
 use Rattle.token.specs.Kind.{Kind, kind_code, last_kind, end_kind, kind_of_code, among, dot, close_brace}
@@ -76,7 +76,7 @@ pub ends_at : (mode : Mode) (t : Token) (tied : Bool) (f : Frame) (e : Ending) (
     → find_rule (kind_of_code j) (rules t tied mode (statement (f ∷ []))) ≡ some (w >>= λ fs. return (statement (fs ++ [])))
 ends_at mode t tied f e k j q E = ends_found mode t tied f e j (subst (λ (x : ℕ). Ends f e x) q E)
 
-module _ (doc : Text) (a₀ : Held) (work rows terms store : Bor (List ℕ)) (st : List ℕ) (I : BlockInv doc a₀ (held work rows terms store st)) where
+module _ (doc : Text) (a₀ : Held) (work rows terms store : MutBor (List ℕ)) (st : List ℕ) (I : BlockInv doc a₀ (held work rows terms store st)) where
   abbrev a : Held
   a = held work rows terms store st
 
@@ -121,7 +121,7 @@ module _ (doc : Text) (a₀ : Held) (work rows terms store : Bor (List ℕ)) (st
           none_there t tied x h = rw (among_code (dot ∷ []) (kind_in d.st) x h, among_code (close_brace ∷ []) (kind_in d.st) x h, ne_eqb (kind_in d.st) (kind_code close_brace) n27, ne_eqb (kind_in d.st) (kind_code dot) n19)
 
     -- The end of some triples.
-    module _ (b : Held) (r s : ℕ) (S : Subject doc a b r) (z : r ≡ 0) (work2 rows2 terms2 store2 : Bor (List ℕ)) (u u' : List ℕ) (P : Predicates doc b (held work2 rows2 terms2 store2 u) s) (w : s ≡ 0) where
+    module _ (b : Held) (r s : ℕ) (S : Subject doc a b r) (z : r ≡ 0) (work2 rows2 terms2 store2 : MutBor (List ℕ)) (u u' : List ℕ) (P : Predicates doc b (held work2 rows2 terms2 store2 u) s) (w : s ≡ 0) where
       abbrev d : Held
       d = held work2 rows2 terms2 store2 u
 

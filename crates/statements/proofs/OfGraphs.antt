@@ -4,7 +4,7 @@ use mathlib.Core.List.{List, [], ◌∷◌}
 use Prim.Native.Nat.{ℕ, ◌<◌}
 use native.Mathlib.Omega.{arith}
 use borrow.Author.Tests.{ne_eqb}
-use denote.Ref.{Bor}
+use denote.Ref.{MutBor}
 use Rattle.text.specs.Text.{Text}
 use Rattle.token.specs.Kind.{kind_code, open_brace}
 use Rattle.grammar.specs.Productions.{Mode, trig}
@@ -21,7 +21,7 @@ use Rattle.statements.proofs.OfMarks.{open_mark, mark_enters, mark_ready}
 use Rattle.statements.proofs.OfBlocks.{inner}
 use Rattle.table.specs.Layout.{word_limit}
 
-module _ (doc : Text) (work rows terms store : Bor (List ℕ)) (st : List ℕ) (n : ℕ) (r : Ready doc (held work rows terms store st)) where
+module _ (doc : Text) (work rows terms store : MutBor (List ℕ)) (st : List ℕ) (n : ℕ) (r : Ready doc (held work rows terms store st)) where
   abbrev a : Held
   a = held work rows terms store st
 

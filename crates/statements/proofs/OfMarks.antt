@@ -7,7 +7,7 @@ use Prim.Native.Nat.{ℕ, ◌<◌}
 use native.Mathlib.Omega.{arith}
 use lib.Dec.{T}
 use lib.ListN.{length}
-use denote.Ref.{Bor}
+use denote.Ref.{MutBor}
 use Rattle.environment.specs.Code.{words_size}
 use Rattle.text.specs.Text.{Text}
 use Rattle.text.proofs.Booleans.{imp, imp_use, all}
@@ -58,7 +58,7 @@ open_mark = record { quiet = record { escapes = refl; reference = refl; name = r
 pub close_mark : Mark (kind_code close_brace)
 close_mark = record { quiet = record { escapes = refl; reference = refl; name = refl; opening = refl }; closing = refl; some_kind = λ e. omega arith; readable = λ e. omega arith }
 
-module _ (doc : Text) (work rows terms store : Bor (List ℕ)) (st st' : List ℕ) (k : ℕ) (mark : Mark k) (ready : Ready doc (held work rows terms store st)) (e : kind_in st ≡ k) where
+module _ (doc : Text) (work rows terms store : MutBor (List ℕ)) (st st' : List ℕ) (k : ℕ) (mark : Mark k) (ready : Ready doc (held work rows terms store st)) (e : kind_in st ≡ k) where
   abbrev a : Held
   a = held work rows terms store st
 

@@ -8,7 +8,7 @@ use native.Mathlib.Omega.{arith}
 use borrow.Author.Tests.{ne_eqb}
 use lib.Dec.{T, eqb}
 use lib.ListN.{length}
-use denote.Ref.{Bor}
+use denote.Ref.{MutBor}
 use Rattle.environment.specs.Code.{words_size}
 use Rattle.text.specs.Text.{Text}
 use Rattle.text.proofs.Compare.{contrary}
@@ -92,7 +92,7 @@ module _ (t : Token) (tied : Bool) (k : Kind) where
 abbrev labelled : Open
 labelled = statement (graph_label ∷ [])
 
-module _ (doc : Text) (work rows terms store : Bor (List ℕ)) (st st1 st2 : List ℕ) (r : Ready doc (held work rows terms store st)) (k : kind_in st ≡ kind_code GRAPH) (p : Passed doc st st1 (depth_in st) (graph_in st)) (w : Aimed st1 st2 0 0 0 0 0) where
+module _ (doc : Text) (work rows terms store : MutBor (List ℕ)) (st st1 st2 : List ℕ) (r : Ready doc (held work rows terms store st)) (k : kind_in st ≡ kind_code GRAPH) (p : Passed doc st st1 (depth_in st) (graph_in st)) (w : Aimed st1 st2 0 0 0 0 0) where
   abbrev a0 : Held
   a0 = held work rows terms store st
 
@@ -230,7 +230,7 @@ module _ (doc : Text) (work rows terms store : Bor (List ℕ)) (st st1 st2 : Lis
     pub bracket_stop : (b : Held) (q : ℕ) → Numbers doc (placed (spot_of a) node_made) a b q → (q ≡ 0 → ⊥) → Statement trig doc a0 b q
     bracket_stop b q N z = then_stop b q (closing_label (node_in b.st)) (bracket_reads b q N) z
 
-    module _ (work2 rows2 terms2 store2 : Bor (List ℕ)) (u : List ℕ) (q : ℕ) (N : Numbers doc (placed (spot_of a) node_made) a (held work2 rows2 terms2 store2 u) q) (z : q ≡ 0) where
+    module _ (work2 rows2 terms2 store2 : MutBor (List ℕ)) (u : List ℕ) (q : ℕ) (N : Numbers doc (placed (spot_of a) node_made) a (held work2 rows2 terms2 store2 u) q) (z : q ≡ 0) where
       abbrev b : Held
       b = held work2 rows2 terms2 store2 u
 

@@ -8,7 +8,7 @@ use native.Mathlib.Omega.{arith}
 use borrow.Author.Tests.{eq-eqb, ne_eqb, eqb-true}
 use lib.Dec.{eqb}
 use lib.ListN.{get_or}
-use denote.Ref.{Bor}
+use denote.Ref.{MutBor}
 use Rattle.text.specs.Text.{Text, cond}
 use Rattle.text.proofs.Booleans.{all}
 use Rattle.token.specs.Kind.{Kind, kind_code, last_kind, end_kind, kind_of_code, among, GRAPH, dot, open_brace, at_prefix, at_base, PREFIX, BASE}
@@ -150,7 +150,7 @@ module _ (mode : ℕ) (doc : Text) (a : Held) (pl : Plain mode (kind_in a.st)) w
           none_there : (u : Token) (tied : Bool) → (kind_in d.st ≡ end_kind → ⊥) → kind_in d.st ≤ last_kind → find_rule (kind_of_code (kind_in d.st)) (end_rules u tied full_stop) ≡ none
           none_there u tied x h = rw (among_code (dot ∷ []) (kind_in d.st) x h, ne_eqb (kind_in d.st) (kind_code dot) n19)
 
-      pub triples_dot : (work rows terms store : Bor (List ℕ)) (u u' : List ℕ) → Predicates doc b (held work rows terms store u) s → s ≡ 0 → kind_in u ≡ kind_code dot → Passed doc u u' (depth_in u) (graph_in u)
+      pub triples_dot : (work rows terms store : MutBor (List ℕ)) (u u' : List ℕ) → Predicates doc b (held work rows terms store u) s → s ≡ 0 → kind_in u ≡ kind_code dot → Passed doc u u' (depth_in u) (graph_in u)
           → Statement (mode_of mode) doc a (held work rows terms store u') 0
       triples_dot work rows terms store u u' P w k p =
           let d = held work rows terms store u in

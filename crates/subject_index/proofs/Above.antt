@@ -1,5 +1,5 @@
 -- The next subject by a scan of all rows is the next of the sorted texts.
-use mathlib.Core.Path.{◌≡◌, refl, sym, ap, ◌∙◌}
+use mathlib.Core.Path.{◌≡◌, refl, sym, ap, ◌∙◌, subst}
 use mathlib.Core.List.{List, [], ◌∷◌}
 use mathlib.Core.Bool.{true}
 use mathlib.Core.Option.{Option, none, some}
@@ -52,7 +52,8 @@ above_next b p t [] r e = none_some t e
 above_next b p t (u ∷ us) (k, r) e =
     by (rises p u)
     (λ h. let q = some_eq u t (sym (rw h) ∙ e) in
-    rw (h, ← q, smaller_self u) (ap (λ (x : List Text). u ∷ x) (above_all p us (rising_later p u us h r) ∙ sym (above_all (some u) us r))))
+    subst (λ (x : Text). above p (u ∷ us) ≡ x ∷ above (some x) (u ∷ us)) q
+    (rw (h, smaller_self u) (ap (λ (x : List Text). u ∷ x) (above_all p us (rising_later p u us h r) ∙ sym (above_all (some u) us r)))))
     (λ h. let f : first (above p us) ≡ some t = sym (rw h) ∙ e in
     rw (h, smaller_other u t (first_above p u t us r f)) (above_next (some u) p t us r f))
 

@@ -6,7 +6,7 @@ use mathlib.Core.Option.{none, some}
 use Prim.Native.Nat.{ℕ, ◌+◌, ◌-◌, ◌≤◌, ◌<◌}
 use native.Mathlib.Omega.{arith}
 use borrow.Author.Tests.{ne_eqb}
-use denote.Ref.{Bor}
+use denote.Ref.{MutBor}
 use Rattle.text.specs.Text.{Text}
 use Rattle.token.specs.Kind.{kind_code, last_kind, end_kind, kind_of_code, close_bracket, open_bracket}
 use Rattle.token.specs.Tokens.{Token}
@@ -33,7 +33,7 @@ use Rattle.subjects.specs.Subjects.{SubjectAt, Subject}
 use Rattle.subjects.proofs.Rules.{subject_aimed, node_nil, properties_nil, deeper}
 use Rattle.subjects.proofs.OfTerms.{turns_aimed, settled}
 
-module _ (doc : Text) (work₀ rows₀ terms₀ store₀ : Bor (List ℕ)) (st st' : List ℕ) (ready : Ready doc (held work₀ rows₀ terms₀ store₀ st)) (k : kind_in st ≡ kind_code open_bracket) (aim : Aimed st st' 0 0 0 0 0) where
+module _ (doc : Text) (work₀ rows₀ terms₀ store₀ : MutBor (List ℕ)) (st st' : List ℕ) (ready : Ready doc (held work₀ rows₀ terms₀ store₀ st)) (k : kind_in st ≡ kind_code open_bracket) (aim : Aimed st st' 0 0 0 0 0) where
   abbrev a : Held
   a = held work₀ rows₀ terms₀ store₀ st
 
@@ -55,7 +55,7 @@ module _ (doc : Text) (work₀ rows₀ terms₀ store₀ : Bor (List ℕ)) (st s
   pub bracket_asked : (Ready doc a1 × Spotted a1) × (kind_in st' ≡ kind_code open_bracket)
   bracket_asked = ((ready_1, spotted work₀ rows₀ terms₀ store₀ st st' 0 0 0 0 0 aim (omega arith) (omega arith) (omega arith) (omega arith)), kind_1)
 
-  module _ (work rows terms store : Bor (List ℕ)) (u : List ℕ) (r : ℕ) (N : Numbers doc (placed (spot_of a1) (new_term (blank (bracket_node (at_in st'))))) a1 (held work rows terms store u) r) where
+  module _ (work rows terms store : MutBor (List ℕ)) (u : List ℕ) (r : ℕ) (N : Numbers doc (placed (spot_of a1) (new_term (blank (bracket_node (at_in st'))))) a1 (held work rows terms store u) r) where
     abbrev b : Held
     b = held work rows terms store u
 
@@ -124,7 +124,7 @@ module _ (doc : Text) (work₀ rows₀ terms₀ store₀ : Bor (List ℕ)) (st s
               (no_verb (here doc b) tied (λ p. object (node_in u) p bracket_end ∷ after_properties place (node_in u)) (kind_in u) x h.known v)
 
       -- Its properties.
-      module _ (work₂ rows₂ terms₂ store₂ : Bor (List ℕ)) (y : List ℕ) (q n : ℕ) (en : n ≡ node_in u) (P : Properties doc b (held work₂ rows₂ terms₂ store₂ y) n q) where
+      module _ (work₂ rows₂ terms₂ store₂ : MutBor (List ℕ)) (y : List ℕ) (q n : ℕ) (en : n ≡ node_in u) (P : Properties doc b (held work₂ rows₂ terms₂ store₂ y) n q) where
         abbrev d : Held
         d = held work₂ rows₂ terms₂ store₂ y
 

@@ -5,7 +5,7 @@ use Prim.Native.Nat.{ℕ, ◌+◌, ◌<◌}
 use native.Mathlib.Omega.{arith}
 use borrow.Author.Tests.{ne_eqb}
 use lib.ListN.{get_or}
-use denote.Ref.{Bor}
+use denote.Ref.{MutBor}
 use Rattle.text.specs.Text.{Text}
 use Rattle.token.specs.Kind.{kind_code, end_kind, open_paren, close_paren}
 use Rattle.grammar.specs.Productions.{Mode}
@@ -37,7 +37,7 @@ list_belongs (subject_before s) o x y e = e
 list_belongs (object_of s p) o x y e = absurd o
 list_belongs (element_of c) o x y e = absurd o
 
-module _ (doc : Text) (work₀ rows₀ terms₀ store₀ : Bor (List ℕ)) (st st' : List ℕ) (ready : Ready doc (held work₀ rows₀ terms₀ store₀ st)) (k : kind_in st ≡ kind_code open_paren) (aim : Aimed st st' 0 0 0 0 0) where
+module _ (doc : Text) (work₀ rows₀ terms₀ store₀ : MutBor (List ℕ)) (st st' : List ℕ) (ready : Ready doc (held work₀ rows₀ terms₀ store₀ st)) (k : kind_in st ≡ kind_code open_paren) (aim : Aimed st st' 0 0 0 0 0) where
   abbrev a : Held
   a = held work₀ rows₀ terms₀ store₀ st
 
@@ -59,7 +59,7 @@ module _ (doc : Text) (work₀ rows₀ terms₀ store₀ : Bor (List ℕ)) (st s
   pub list_asked : (Ready doc a1 × Spotted a1) × (kind_in st' ≡ kind_code open_paren)
   list_asked = ((ready_1, spotted work₀ rows₀ terms₀ store₀ st st' 0 0 0 0 0 aim (omega arith) (omega arith) (omega arith) (omega arith)), kind_1)
 
-  module _ (work rows terms store : Bor (List ℕ)) (u : List ℕ) (r : ℕ) (D : Does doc (opened_at (spot_of a1)) a1 (held work rows terms store u) r) where
+  module _ (work rows terms store : MutBor (List ℕ)) (u : List ℕ) (r : ℕ) (D : Does doc (opened_at (spot_of a1)) a1 (held work rows terms store u) r) where
     abbrev b : Held
     b = held work rows terms store u
 
@@ -112,7 +112,7 @@ module _ (doc : Text) (work₀ rows₀ terms₀ store₀ : Bor (List ℕ)) (st s
         pub list_first : get_or u' terms_word 0 + 1 < word_limit
         list_first = next_small doc b1 ready_b1
 
-        module _ (work₂ rows₂ terms₂ store₂ : Bor (List ℕ)) (y : List ℕ) (q : ℕ) (L : Lists doc b1 (held work₂ rows₂ terms₂ store₂ y) q) where
+        module _ (work₂ rows₂ terms₂ store₂ : MutBor (List ℕ)) (y : List ℕ) (q : ℕ) (L : Lists doc b1 (held work₂ rows₂ terms₂ store₂ y) q) where
           abbrev d : Held
           d = held work₂ rows₂ terms₂ store₂ y
 

@@ -7,7 +7,7 @@ use native.Mathlib.Omega.{arith}
 use lib.Dec.{eqb}
 use borrow.Author.Tests.{ne_eqb}
 use lib.ListN.{length, get_or}
-use denote.Ref.{Bor}
+use denote.Ref.{MutBor}
 use Rattle.text.specs.Text.{Text}
 use Rattle.text.proofs.Compare.{contrary}
 use Rattle.token.specs.Kind.{kind_code, end_kind, unreadable_kind, among, kw_a, IRIREF, PNAME_NS, PNAME_LN, BLANK_NODE_LABEL, open_bracket, open_paren}
@@ -35,12 +35,12 @@ label_token : (k : ℕ) → code_among label_kinds k ≡ true → (k ≡ end_kin
 label_token k v = ((λ e. contrary (sym (rw e at v))), (λ e. contrary (sym (rw e at v))))
 
 -- Where the next node belongs changes nothing, in any mode.
-pub turns_aimed : (mode : Mode) (doc : Text) (work rows terms store : Bor (List ℕ)) (st st' : List ℕ) → ((k : ℕ) → k < list_word → get_or st' k 0 ≡ get_or st k 0) → length st' ≡ length st → (o : Open) → Ready doc (held work rows terms store st)
+pub turns_aimed : (mode : Mode) (doc : Text) (work rows terms store : MutBor (List ℕ)) (st st' : List ℕ) → ((k : ℕ) → k < list_word → get_or st' k 0 ≡ get_or st k 0) → length st' ≡ length st → (o : Open) → Ready doc (held work rows terms store st)
     → Turns mode doc o o (held work rows terms store st) (held work rows terms store st') 0
 turns_aimed mode doc work rows terms store st st' same n o r =
     turns_comes mode doc (λ (x : Unit {0}). o) (λ (x : Unit {0}). o) (held work rows terms store st) (held work rows terms store st') 0 (comes_aimed doc work rows terms store st st' same n (λ (x : Unit {0}). o) r) tt
 
-module _ (doc : Text) (work rows terms store : Bor (List ℕ)) (st st' : List ℕ) (ready : Ready doc (held work rows terms store st)) (lk : code_among label_kinds (kind_in st) ≡ true) (aim : Aimed st st' 0 0 0 0 0) where
+module _ (doc : Text) (work rows terms store : MutBor (List ℕ)) (st st' : List ℕ) (ready : Ready doc (held work rows terms store st)) (lk : code_among label_kinds (kind_in st) ≡ true) (aim : Aimed st st' 0 0 0 0 0) where
   abbrev a : Held
   a = held work rows terms store st
 
@@ -105,7 +105,7 @@ module _ (doc : Text) (work rows terms store : Bor (List ℕ)) (st st' : List �
           ready_does doc (placed (spot_of a1) v) a1 b r ready_1 token_1 some_kind (P v q).gives.does z
 
 -- The subject's number is put where the caller looks for it.
-module _ (doc : Text) (a : Held) (work rows terms store : Bor (List ℕ)) (u u' : List ℕ) (shape n : ℕ) (aim : Aimed u u' shape n 0 0 0) (ready : Ready doc (held work rows terms store u)) where
+module _ (doc : Text) (a : Held) (work rows terms store : MutBor (List ℕ)) (u u' : List ℕ) (shape n : ℕ) (aim : Aimed u u' shape n 0 0 0) (ready : Ready doc (held work rows terms store u)) where
   pub settled : (frames : Place → List Frame) → ((place : Place) → frames place ≡ after_subject shape place n) → ((mode : Mode) (o : Open) (place : Place) → SubjectAt mode doc a o place → Turns mode doc o (statement (frames place)) a (held work rows terms store u) 0)
       → n < word_limit → 0 < n → shape ≤ 2 → at_in a.st < at_in u → Subject doc a (held work rows terms store u') 0
   settled frames same to h p l e =
@@ -122,8 +122,8 @@ module _ (doc : Text) (a : Held) (work rows terms store : Bor (List ℕ)) (u u' 
       }
 
 -- A term as subject, done; or nothing that may be one.
-module _ (doc : Text) (work₀ rows₀ terms₀ store₀ : Bor (List ℕ)) (st st' : List ℕ) (ready : Ready doc (held work₀ rows₀ terms₀ store₀ st)) (lk : code_among label_kinds (kind_in st) ≡ true) (aim : Aimed st st' 0 0 0 0 0)
-    (work rows terms store : Bor (List ℕ)) (u : List ℕ) (r : ℕ) (P : PutsTerm doc (held work₀ rows₀ terms₀ store₀ st') (held work rows terms store u) r) (z : r ≡ 0) where
+module _ (doc : Text) (work₀ rows₀ terms₀ store₀ : MutBor (List ℕ)) (st st' : List ℕ) (ready : Ready doc (held work₀ rows₀ terms₀ store₀ st)) (lk : code_among label_kinds (kind_in st) ≡ true) (aim : Aimed st st' 0 0 0 0 0)
+    (work rows terms store : MutBor (List ℕ)) (u : List ℕ) (r : ℕ) (P : PutsTerm doc (held work₀ rows₀ terms₀ store₀ st') (held work rows terms store u) r) (z : r ≡ 0) where
   pub term_done : (n : ℕ) → n ≡ node_in u → (u' : List ℕ) → Aimed u u' 0 n 0 0 0 → Subject doc (held work₀ rows₀ terms₀ store₀ st) (held work rows terms store u') 0
   term_done n en u' aim' =
       let w = numbers doc work₀ rows₀ terms₀ store₀ st st' ready lk aim (held work rows terms store u) r P z in

@@ -24,7 +24,7 @@ use Rattle.simulation.specs.Simulation.{Held, held, here}
 use Rattle.machine.specs.Refusals.{new_depth}
 use Rattle.state.specs.Words.{kind_word, at_word, len_word, list_word, kind_in, depth_in}
 use Rattle.nodes.proofs.Moving.{token_words}
-use denote.Ref.{Bor}
+use denote.Ref.{MutBor}
 use native.Mathlib.Omega.{arith}
 use Rattle.subjects.specs.Subjects.{label_kinds, subject_kinds, Outer, SubjectAt}
 
@@ -78,7 +78,7 @@ module _ (t : Token) (tied : Bool) (place : Place) (k : Kind) (h : among label_k
       ∷ (kw_true ∷ kw_false ∷ [] ⇒ typed t.text xsd_boolean) ∷ (kw_a ∷ [] ⇒ term (iri rdf_type)) ∷ []) v two_kinds e))
 
 -- Where the next node belongs does not matter to what is awaited.
-pub subject_aimed : (mode : Mode) (doc : Text) (work rows terms store : Bor (List ℕ)) (st st' : List ℕ) → ((k : ℕ) → k < list_word → get_or st' k 0 ≡ get_or st k 0) → (o : Open) (place : Place) → SubjectAt mode doc (held work rows terms store st) o place → SubjectAt mode doc (held work rows terms store st') o place
+pub subject_aimed : (mode : Mode) (doc : Text) (work rows terms store : MutBor (List ℕ)) (st st' : List ℕ) → ((k : ℕ) → k < list_word → get_or st' k 0 ≡ get_or st k 0) → (o : Open) (place : Place) → SubjectAt mode doc (held work rows terms store st) o place → SubjectAt mode doc (held work rows terms store st') o place
 subject_aimed mode doc work rows terms store st st' same o place s =
     let e71 = same kind_word (omega arith) in
     let e : here doc (held work rows terms store st') ≡ here doc (held work rows terms store st) = rw (e71, same at_word (omega arith), same len_word (omega arith)) in

@@ -1,5 +1,6 @@
 use Rattle.usable.specs.Places.{next_place}
 use mathlib.Core.Path.{sym, ◌∙◌}
+use borrow.Author.Rules.{rules}
 use Rattle.usable.proofs.tags.next.Goals as goal
 
 pub returns-then-is_letter : goal.returns-then-is_letter
@@ -33,3 +34,7 @@ returns-else-is_letter_or_digit c = simp (c.in-Dash.is, sym c.is_letter_or_digit
 pub returns-else-is_letter_or_digit-2 : goal.returns-else-is_letter_or_digit-2
 unfolding next_place
 returns-else-is_letter_or_digit-2 c = simp (c.in-Subtag.is, sym c.is_letter_or_digit-in-Subtag.ensures ∙ c.if-is_letter_or_digit-2.false) c.at_dash-in-Subtag.ensures
+
+pub returns-in-Off : goal.returns-in-Off
+unfolding next_place
+returns-in-Off c = search rules

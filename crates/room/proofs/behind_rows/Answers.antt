@@ -1,0 +1,9 @@
+use Rattle.room.proofs.Tests.{behind_rows_none}
+use Rattle.room.proofs.Tests.{behind_rows_list}
+use Rattle.room.proofs.behind_rows.Goals as goal
+
+pub returns-then-list : goal.returns-then-list
+returns-then-list c = search behind_rows_list
+
+pub returns : goal.returns
+returns c = search behind_rows_none

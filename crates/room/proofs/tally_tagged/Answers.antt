@@ -1,0 +1,13 @@
+use Prim.Native.Nat.{◌+◌}
+use lib.ListN.{length, length-append}
+use Rattle.spelling.specs.Form.{undo}
+use Rattle.terms.specs.Keeps.{Means}
+use Rattle.dataset.specs.Terms.{tagged}
+use mathlib.Core.Path.{refl}
+use native.Mathlib.Omega.{arith}
+use Rattle.room.proofs.Tests.{one_counted}
+use Rattle.room.proofs.tally_tagged.Goals as goal
+
+pub returns : goal.returns
+unfolding Means
+returns c = λ ts H. one_counted ts (tagged (undo c.args.form c.args.text.now) c.args.tag.now) c.args.t c.more.result c.find_text-n.result (c.undone_length.result + length c.args.tag.now) c.more.ensures (c.find_text-n.ensures ts (tagged (undo c.args.form c.args.text.now) c.args.tag.now) H (refl, (refl, refl)) refl) (omega (arith, length-append (undo c.args.form c.args.text.now) c.args.tag.now, c.undone_length.ensures))

@@ -1,0 +1,11 @@
+use Rattle.table.specs.Layout.{entry_at}
+use borrow.Author.Rules.{rules}
+use Rattle.subject_index.proofs.text_of.Goals as goal
+
+pub span_of-requires : goal.span_of-requires
+unfolding entry_at
+span_of-requires c = (c.requires.stands, (search rules, c.requires.text_in))
+
+pub returns : goal.returns
+unfolding entry_at
+returns c = c.span_of.ensures

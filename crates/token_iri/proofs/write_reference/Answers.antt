@@ -1,0 +1,13 @@
+use mathlib.Core.Path.{refl}
+use native.Mathlib.Omega.{arith}
+use Rattle.token_iri.proofs.Buffers.{writes_none, writes_long, writes_resolved}
+use Rattle.token_iri.proofs.write_reference.Goals as goal
+
+pub returns-then-lacks_base : goal.returns-then-lacks_base
+returns-then-lacks_base c = writes_none c.args.text.now c.args.work.now c.args.st.now c.base-base.result.now c.base-base.ensures c.lacks_base.result c.lacks_base.ensures c.if-lacks_base.true _
+
+pub returns-then-n-gt-IRI : goal.returns-then-n-gt-IRI
+returns-then-n-gt-IRI c = writes_long c.args.text.now c.args.work.now c.args.st.now c.base-base.result.now c.base-base.ensures c.lacks_base.result c.lacks_base.ensures c.if-lacks_base.false c.unescaped_length-n.result c.unescaped_length-n.ensures c.if-n-gt-IRI.true _
+
+pub returns : goal.returns
+returns c = writes_resolved c.args.text.now c.args.work.now c.args.st.now c.base-base.result.now c.base-base.ensures c.lacks_base.result c.lacks_base.ensures c.if-lacks_base.false c.unescaped_length-n.result c.unescaped_length-n.ensures c.if-n-gt-IRI.false c.args.buffer.now c.write_unescaped.new.out c.resolve.new.buffer _ c.write_unescaped.result c.resolve.result (omega arith) refl c.write_unescaped.ensures c.resolve.ensures
