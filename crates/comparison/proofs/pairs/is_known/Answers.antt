@@ -7,6 +7,7 @@ use Rattle.usable.proofs.Each.{each_start, each_next, each_fails, each_done}
 use Rattle.chains.specs.Chains.{word_at}
 use Rattle.comparison.specs.Comparison.{has_node, known, pairs}
 use Rattle.comparison.proofs.Partners.{side_in}
+use Rattle.comparison.proofs.pairs.is_known.Invariants.{there}
 use Rattle.comparison.proofs.pairs.is_known.Goals as goal
 
 pub loop-i-init : goal.loop-i-init

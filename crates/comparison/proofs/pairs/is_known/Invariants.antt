@@ -9,7 +9,7 @@ use Rattle.chains.specs.Chains.{word_at}
 use Rattle.comparison.specs.Comparison.{has_node, known, pairs}
 use Rattle.comparison.proofs.pairs.is_known.Given as goal
 
-abbrev there : List ℕ → ℕ → (ℕ → ℕ) → ℕ → Bool
+abbrev pub there : List ℕ → ℕ → (ℕ → ℕ) → ℕ → Bool
 there terms count of i = has_node (lent terms count [] 0) (of i)
 
 abbrev pub invariant-loop-i : goal.invariant-loop-i

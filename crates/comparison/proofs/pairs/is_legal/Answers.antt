@@ -42,7 +42,7 @@ pub shape_of-index-then-not-is_known : goal.shape_of-index-then-not-is_known
 shape_of-index-then-not-is_known c = c.link_words-3.ensures.0 ∙ (c.link_words-2.ensures.0 ∙ c.link_words.ensures.0)
 
 pub returns-then-not-is_known : goal.returns-then-not-is_known
-returns-then-not-is_known c = (left_missing (lent c.args.left_terms.now c.args.left_count [] 0) (lent c.args.right_terms.now c.args.right_count [] 0) c.args.pairing.now c.if-count-pairing.false (sym c.is_once.ensures ∙ c.if-not-is_once.false) (sym c.is_once-2.ensures ∙ c.if-not-is_once-2.false) (sym c.is_Known.ensures ∙ c.if-not-is_known.true), c.link_words-3.ensures.0 ∙ (c.link_words-2.ensures.0 ∙ c.link_words.ensures.0))
+returns-then-not-is_known c = (left_missing (lent c.args.left_terms.now c.args.left_count [] 0) (lent c.args.right_terms.now c.args.right_count [] 0) c.args.pairing.now c.if-count-pairing.false (sym c.is_once.ensures ∙ c.if-not-is_once.false) (sym c.is_once-2.ensures ∙ c.if-not-is_once-2.false) (sym c.is_known.ensures ∙ c.if-not-is_known.true), c.link_words-3.ensures.0 ∙ (c.link_words-2.ensures.0 ∙ c.link_words.ensures.0))
 
 pub link_words-requires-4 : goal.link_words-requires-4
 link_words-requires-4 c = terms_in c.args.right_terms.now c.args.right_count c.requires.1
@@ -54,4 +54,4 @@ pub shape_of-index : goal.shape_of-index
 shape_of-index c = c.link_words-4.ensures.0 ∙ (c.link_words-3.ensures.0 ∙ (c.link_words-2.ensures.0 ∙ c.link_words.ensures.0))
 
 pub returns : goal.returns
-returns c = (c.is_known-2.ensures ∙ right_left (lent c.args.left_terms.now c.args.left_count [] 0) (lent c.args.right_terms.now c.args.right_count [] 0) c.args.pairing.now c.if-count-pairing.false (sym c.is_once.ensures ∙ c.if-not-is_once.false) (sym c.is_once-2.ensures ∙ c.if-not-is_once-2.false) (sym c.is_Known.ensures ∙ c.if-not-is_known.false), c.link_words-4.ensures.0 ∙ (c.link_words-3.ensures.0 ∙ (c.link_words-2.ensures.0 ∙ c.link_words.ensures.0)))
+returns c = (c.is_known-2.ensures ∙ right_left (lent c.args.left_terms.now c.args.left_count [] 0) (lent c.args.right_terms.now c.args.right_count [] 0) c.args.pairing.now c.if-count-pairing.false (sym c.is_once.ensures ∙ c.if-not-is_once.false) (sym c.is_once-2.ensures ∙ c.if-not-is_once-2.false) (sym c.is_known.ensures ∙ c.if-not-is_known.false), c.link_words-4.ensures.0 ∙ (c.link_words-3.ensures.0 ∙ (c.link_words-2.ensures.0 ∙ c.link_words.ensures.0)))

@@ -8,6 +8,7 @@ use Rattle.usable.proofs.Each.{each_start, each_next, each_fails, each_done}
 use Rattle.chains.specs.Chains.{heads, word_at}
 use Rattle.comparison.specs.Comparison.{once, pairs}
 use Rattle.comparison.proofs.Partners.{side_in, before_low, before_on, stands_before}
+use Rattle.comparison.proofs.pairs.is_once.Invariants.{fresh}
 use Rattle.comparison.proofs.pairs.is_once.Goals as goal
 
 pub loop-i-init : goal.loop-i-init

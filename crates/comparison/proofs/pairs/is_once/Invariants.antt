@@ -9,7 +9,7 @@ use Rattle.comparison.specs.Comparison.{any, once}
 use Rattle.comparison.proofs.pairs.is_once.Given as goal
 
 -- The pair i has a number that no pair before has.
-abbrev fresh : (ℕ → ℕ) → ℕ → Bool
+abbrev pub fresh : (ℕ → ℕ) → ℕ → Bool
 fresh of i = not (any (λ j. eqb (of j) (of i)) i)
 
 abbrev pub invariant-loop-i : goal.invariant-loop-i
