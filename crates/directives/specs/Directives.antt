@@ -1,6 +1,6 @@
 -- What the readers of a directive and of its parts say of the machine.
 use Rattle.std.specs.Prelude.{◌≡◌, List, [], ◌∷◌, ℕ, ◌-◌, ◌≤◌, ◌<◌, length, take, drop}
-use Rattle.std.specs.Borrow.{Bor}
+use Rattle.std.specs.Borrow.{MutBor}
 use Rattle.text.specs.Text.{Text, is, until}
 use Rattle.limits.specs.Limits.{prefix_limit}
 use Rattle.token.specs.Kind.{Kind, at_prefix, at_base, PREFIX, BASE}
@@ -34,8 +34,8 @@ pub record Prefixed (doc : Text) (at len n : ℕ) : Type 0 where
   pub inside : n ≤ len
 
 -- What is open of a directive was read to its end. Rows and terms play no part.
-pub record Finishes (doc : Text) (o : Open) (work work' : Bor (List ℕ)) (st st' : List ℕ) (r : ℕ) : Type 0 where
-  pub turns : (mode : Mode) (rows terms store : Bor (List ℕ)) → Ready doc (held work rows terms store st) → Turns mode doc o (statement []) (held work rows terms store st) (held work' rows terms store st') r
+pub record Finishes (doc : Text) (o : Open) (work work' : MutBor (List ℕ)) (st st' : List ℕ) (r : ℕ) : Type 0 where
+  pub turns : (mode : Mode) (rows terms store : MutBor (List ℕ)) → Ready doc (held work rows terms store st) → Turns mode doc o (statement []) (held work rows terms store st) (held work' rows terms store st') r
   pub depth : r ≡ 0 → depth_in st' ≡ depth_in st
 
 -- A directive was read.

@@ -1,6 +1,6 @@
 -- What the readers that call each other say of the machine.
 use Rattle.std.specs.Prelude.{◌≡◌, true, List, [], ◌∷◌, ◌⊎◌, ℕ, suc, ◌+◌, ◌*◌, ◌-◌, ◌≤◌, ◌<◌, eqb, length, get_or}
-use Rattle.std.specs.Borrow.{Bor}
+use Rattle.std.specs.Borrow.{MutBor}
 use Rattle.text.specs.Text.{Text, cond}
 use Rattle.token.specs.Kind.{kind_code, strings, comma, semicolon, close_paren}
 use Rattle.machine.specs.Frame.{Ending, bracket_end, Place, Cells, no_cell, cells, Frame, bracket, list, object, after_object, after_semicolon}
@@ -12,7 +12,7 @@ use Rattle.table.specs.Layout.{word_limit}
 
 -- Semicolons were passed.
 pub record Skips (doc : Text) (st st' : List ℕ) : Type 0 where
-  pub reads : (work rows terms store : Bor (List ℕ)) → Ready doc (held work rows terms store st) → (s p : ℕ) (e : Ending) → Reads doc (after_object s p e ∷ []) (after_semicolon s e ∷ []) (held work rows terms store st) (held work rows terms store st') 0
+  pub reads : (work rows terms store : MutBor (List ℕ)) → Ready doc (held work rows terms store st) → (s p : ℕ) (e : Ending) → Reads doc (after_object s p e ∷ []) (after_semicolon s e ∷ []) (held work rows terms store st) (held work rows terms store st') 0
   pub ended : kind_in st' ≡ kind_code semicolon → ⊥
   pub depth : depth_in st' ≡ depth_in st
   pub later : at_in st < at_in st'

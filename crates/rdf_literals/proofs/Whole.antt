@@ -162,14 +162,6 @@ module _ (doc : Text) (work rows terms store : MutBor (List ℕ)) (st st1 : List
 
 -- ---- At the string
 
-pub no_tie : (b : Bool) → not b ≡ true → b ≡ false
-no_tie true e = contrary (sym e)
-no_tie false e = refl
-
-pub some_tie : (b : Bool) → not b ≡ false → b ≡ true
-some_tie true e = refl
-some_tie false e = contrary e
-
 module _ (doc : Text) (a : Held) (ready : Ready doc a) (k : code_among strings (kind_in a.st) ≡ true) where
   string_here : TokenHere doc a.st
   string_here = token_at_cursor doc a.st ready.cursor (string_token (kind_in a.st) k)
