@@ -9,7 +9,6 @@ use denote.Ref.{MutBor}
 use Rattle.token.specs.Kind.{end_kind, unreadable_kind}
 use Rattle.environment.specs.Code.{words_size}
 use Rattle.text.specs.Text.{Text}
-use Rattle.text.proofs.Compare.{contrary}
 use Rattle.machine.specs.Frame.{Open}
 use Rattle.machine.specs.Memory.{Memory}
 use Rattle.grammar.specs.Productions.{Mode}
@@ -73,15 +72,6 @@ pass_call doc a k r e z y = ((r.cursor, r.cursor.token (λ h. z (sym e ∙ h)) (
 
 pub leave_call : (doc : Text) (a : Held) (k : ℕ) → Ready doc a → kind_in a.st ≡ k → (k ≡ end_kind → ⊥) → (k ≡ unreadable_kind → ⊥) → 0 < depth_in a.st → (Cursor doc a.st × TokenHere doc a.st) × ((length a.st ≡ words_size) × (0 < depth_in a.st))
 leave_call doc a k r e z y d = let w = pass_call doc a k r e z y in (w.0, (w.1, d))
-
--- A test that was turned round.
-pub negated : (b : Bool) → not b ≡ true → b ≡ false
-negated true e = contrary (sym e)
-negated false e = refl
-
-pub affirmed : (b : Bool) → not b ≡ false → b ≡ true
-affirmed true e = refl
-affirmed false e = contrary e
 
 -- The cursor has gone on, within the document.
 pub less_left : (doc : Text) (a b : Held) → Ready doc b → at_in a.st < at_in b.st → length doc - at_in b.st < length doc - at_in a.st

@@ -218,7 +218,7 @@ fn enter_list(st: &mut [usize; Layout::WORDS], at: usize, cell: usize)
 // resume, then after_object, contents and element, then the others.
 
 // A node where one is awaited; then what is resumed behind it.
-#[cycle(after_object_close_bracket_contents_element_predicate_resume_value)]
+#[cycle(nesting)]
 fn value(
     doc: &&[u8],
     work: &mut &mut [u8],
@@ -259,7 +259,7 @@ fn value(
 }
 
 // What the level of this depth says; nothing where it says that the caller goes on.
-#[cycle(after_object_close_bracket_contents_element_predicate_resume_value)]
+#[cycle(nesting)]
 fn resume(
     doc: &&[u8],
     work: &mut &mut [u8],
@@ -283,7 +283,7 @@ fn resume(
 }
 
 // What is in a bracket, behind it.
-#[cycle(after_object_close_bracket_contents_element_predicate_resume_value)]
+#[cycle(nesting)]
 fn contents(
     doc: &&[u8],
     work: &mut &mut [u8],
@@ -304,7 +304,7 @@ fn contents(
 }
 
 // The end of a bracket.
-#[cycle(after_object_close_bracket_contents_element_predicate_resume_value)]
+#[cycle(nesting)]
 fn close_bracket(
     doc: &&[u8],
     work: &mut &mut [u8],
@@ -324,7 +324,7 @@ fn close_bracket(
 }
 
 // A predicate of the subject that the level holds; then its first object.
-#[cycle(after_object_close_bracket_contents_element_predicate_resume_value)]
+#[cycle(nesting)]
 fn predicate(
     doc: &&[u8],
     work: &mut &mut [u8],
@@ -349,7 +349,7 @@ fn predicate(
 }
 
 // Behind an object in a bracket: one more, or a predicate, or the end.
-#[cycle(after_object_close_bracket_contents_element_predicate_resume_value)]
+#[cycle(nesting)]
 fn after_object(
     doc: &&[u8],
     work: &mut &mut [u8],
@@ -379,7 +379,7 @@ fn after_object(
 }
 
 // The next element of a list, or its end.
-#[cycle(after_object_close_bracket_contents_element_predicate_resume_value)]
+#[cycle(nesting)]
 fn element(
     doc: &&[u8],
     work: &mut &mut [u8],

@@ -66,7 +66,7 @@ module _ (doc base work : Text) (mode : ℕ) (a b : Held) (n : ℕ) (K : Checked
     terms = W.terms
         ∙ in_front b.terms.now a.terms.now (terms_words m.terms) (term_size * get_or b.st terms_word 0) H.terms_held.keeps.words H.same_terms (omega (arith, H.terms_held.keeps.count, terms_length m));
     store = W.store
-        ∙ in_front b.store.now a.store.now (store_bytes m.terms) (get_or b.st used_word 0) H.terms_held.keeps.bytes H.same_Store (H.terms_held.keeps.used ∙ sym (bytes_length m.terms));
+        ∙ in_front b.store.now a.store.now (store_bytes m.terms) (get_or b.st used_word 0) H.terms_held.keeps.bytes H.same_store (H.terms_held.keeps.used ∙ sym (bytes_length m.terms));
   }
 
   refuses : (n ≡ 0 → ⊥) → Gives (refusal n (at_in b.st)) before after r

@@ -112,7 +112,7 @@ module _ (mode : ℕ) (doc : Text) (a : Held) (pl : Plain mode (kind_in a.st)) w
         subst (λ (x : Bool). Statement (cond x trig turtle) doc a d q) (sym (eq-eqb mode 0 L.mode_is))
         (record {
           turns =
-              turns_then trig doc between (statement (label_or_subject (get_or b.st x_word 0) ∷ [])) between a b d 0 q (label_open L.mode_is L.Shape_is) refl
+              turns_then trig doc between (statement (label_or_subject (get_or b.st x_word 0) ∷ [])) between a b d 0 q (label_open L.mode_is L.shape_is) refl
               (G.turns trig (statement (label_or_subject (get_or b.st x_word 0) ∷ [])) (label_at doc b L.kind_is trig (get_or b.st x_word 0)));
           later = λ y. omega (arith, S.later z, G.later y);
         })

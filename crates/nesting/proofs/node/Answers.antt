@@ -1,0 +1,12 @@
+use Rattle.nesting.proofs.Levels.{mark_call}
+use Rattle.nesting.proofs.OfNodes.{node_call, node_alone}
+use Rattle.nesting.proofs.node.Goals as goal
+
+pub mark-requires : goal.mark-requires
+mark-requires c = mark_call _ _ c.requires.0.0
+
+pub value-requires : goal.value-requires
+value-requires c = node_call _ _ _ _ _ _ _ c.requires.0.0 c.mark.ensures c.requires.0.1 c.requires.1
+
+pub returns : goal.returns
+returns c = node_alone _ _ _ _ _ _ _ c.requires.0.0 c.mark.ensures c.requires.1 _ _ c.value.ensures
