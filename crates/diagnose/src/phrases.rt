@@ -1,5 +1,6 @@
 // The phrases that are printed, from one table with a line for each, which main lends to whoever prints.
-use libc::STDOUT_FILENO;
+use std::io;
+use std::io::Write;
 use token::Kind;
 
 #[derive(Drop)]
@@ -53,18 +54,18 @@ impl Phrases {
 }
 
 // Writes a part of a text.
-pub fn print_part(s: &[u8], from: usize, to: usize) {
+pub fn print_part<W: Write>(out: &mut W, s: &[u8], from: usize, to: usize) -> io::Result<()> {
     if to < from {
-        return;
+        return Ok(());
     }
     if s.len() < to {
-        return;
+        return Ok(());
     }
-    io::write_all(STDOUT_FILENO, &s[from..to]);
+    out.write_all(&s[from..to])
 }
 
-pub fn end_line() {
-    io::write_all(STDOUT_FILENO, &[b'\n']);
+pub fn end_line<W: Write>(out: &mut W) -> io::Result<()> {
+    out.write_all(b"\n")
 }
 
 // Where line n of the table begins.
@@ -83,9 +84,9 @@ fn line_start(words: &[u8], n: usize) -> usize {
     i
 }
 
-pub fn say(words: &[u8], n: usize) {
+pub fn say<W: Write>(out: &mut W, words: &[u8], n: usize) -> io::Result<()> {
     let from = line_start(words, n);
-    print_part(words, from, documents::line_end(words, from));
+    print_part(out, words, from, documents::line_end(words, from))
 }
 
 // What begins with a byte where no token can be read.
@@ -137,39 +138,49 @@ fn count(found: &[bool; Phrases::FOUND]) -> usize {
 }
 
 // What stands before a phrase of a list, behind which `left` are to follow.
-fn separate(words: &[u8], first: bool, left: usize) {
+fn separate<W: Write>(out: &mut W, words: &[u8], first: bool, left: usize) -> io::Result<()> {
     if first {
-        say(words, Phrases::EXPECTED);
-        return;
+        return say(out, words, Phrases::EXPECTED);
     }
     if left == 1 {
-        say(words, Phrases::OR);
+        say(out, words, Phrases::OR)
     } else {
-        say(words, Phrases::COMMA);
+        say(out, words, Phrases::COMMA)
     }
 }
 
-fn print_item(words: &[u8], k: usize, total: usize, left: usize) -> usize {
-    separate(words, left == total, left);
-    say(words, k);
+fn print_item<W: Write>(
+    out: &mut W,
+    words: &[u8],
+    k: usize,
+    total: usize,
+    left: usize,
+) -> io::Result<usize> {
+    separate(out, words, left == total, left)?;
+    say(out, words, k)?;
     if left == 0 {
-        return 0;
+        return Ok(0);
     }
-    left - 1
+    Ok(left - 1)
 }
 
 // The phrases of what was found, as a list with commas and 'or'.
-pub fn print_list(words: &[u8], found: &[bool; Phrases::FOUND]) {
+pub fn print_list<W: Write>(
+    out: &mut W,
+    words: &[u8],
+    found: &[bool; Phrases::FOUND],
+) -> io::Result<()> {
     let total = count(found);
     let mut left = total;
     let mut k: usize = 1;
     while k < Phrases::FOUND {
         if found[k] {
-            left = print_item(words, k, total, left);
+            left = print_item(out, words, k, total, left)?;
         }
         k += 1;
     }
     if total != 0 {
-        end_line();
+        end_line(out)?;
     }
+    Ok(())
 }
