@@ -8,22 +8,24 @@ mod marks;
 mod phrases;
 mod source;
 
-ghost use Rattle.std.specs.Prelude.{◌≡◌, ◌≤◌, length, take};
+ghost use Rattle.std.specs.Prelude.{◌≡◌, ◌↔◌, ◌≤◌, [], ◌∷◌, IsTrue, length, take};
 
 use phrases::{Phrases, say};
 use reader::Reading;
 use source::Source;
 use std::env::FillError;
-use std::io;
-use std::io::{Read, Write};
+use std::io::{ErrorKind, Read, Write};
 use std::rt::{Env, Files};
+use std::{fs, io, str};
 use token::Kind;
 
-// What the arguments said so far: a mode, or 2 for the name's ending; whether a file was named.
+// What the arguments said so far: a mode, or 2 for the name's ending; whether a file was named; whether standard input was,
+// which is read once.
 #[derive(Clone, Copy)]
 struct Said {
     mode: u8,
     named: bool,
+    spent: bool,
 }
 
 // The words file:line:column: refused number at place: meaning
@@ -252,16 +254,31 @@ fn examine_open<S: Read, W: Write>(
     examine_open_in(out, words, name, source, mode, &mut page)
 }
 
-// A file, opened; - is standard input.
-fn open<R: Files + Input>(rt: &R, name: &[u8]) -> io::Result<Source<R::File, R::Reader>> {
+// Whether a name stands for standard input.
+fn is_dash(name: &[u8]) -> bool
+    ensures { IsTrue result ↔ (name.now ≡ 45 ∷ []) }
+{
     if name.len() == 1 {
-        if name[0] == b'-' {
-            return Ok(Source::Input(rt.reader()));
-        }
+        return name[0] == b'-';
     }
-    match std::str::from_utf8(name) {
-        Ok(path) => Ok(Source::File(std::fs::open(rt, path)?)),
-        Err(_) => Err(io::Error::from(io::ErrorKind::InvalidFilename)),
+    false
+}
+
+// A file, opened; - is standard input, as long as it is not spent.
+fn open<R: Files + Input>(
+    rt: &R,
+    name: &[u8],
+    spent: bool,
+) -> io::Result<Source<R::File, R::Reader>> {
+    if is_dash(name) {
+        if spent {
+            return Err(io::Error::from(ErrorKind::UnexpectedEof));
+        }
+        return Ok(Source::Input(rt.reader()));
+    }
+    match str::from_utf8(name) {
+        Ok(path) => Ok(Source::File(fs::open(rt, path)?)),
+        Err(_) => Err(io::Error::from(ErrorKind::InvalidFilename)),
     }
 }
 
@@ -282,15 +299,15 @@ fn examine_file<R: Files + Input, W: Write>(
     out: &mut W,
     words: &[u8],
     name: &[u8],
-    said: u8,
+    said: Said,
 ) -> io::Result<()> {
-    let Ok(mut source) = open(rt, name) else {
+    let Ok(mut source) = open(rt, name, said.spent) else {
         return print_unreadable(out, words, name);
     };
     if !is_readable(&mut source) {
         return print_unreadable(out, words, name);
     }
-    examine_open(out, words, name, &mut source, mode_of(said, name))
+    examine_open(out, words, name, &mut source, mode_of(said.mode, name))
 }
 
 // One argument: a word that says the mode, or a name.
@@ -306,12 +323,14 @@ fn argument<R: Files + Input, W: Write>(
         return Ok(Said {
             mode: mode,
             named: said.named,
+            spent: said.spent,
         });
     }
-    examine_file(rt, out, words, name, said.mode)?;
+    examine_file(rt, out, words, name, said)?;
     Ok(Said {
         mode: said.mode,
         named: true,
+        spent: said.spent | is_dash(name),
     })
 }
 
@@ -376,6 +395,7 @@ fn run<R: Files + Input + Env, W: Write>(rt: &R, out: &mut W, words: &[u8]) -> i
     let mut said = Said {
         mode: 2,
         named: false,
+        spent: false,
     };
     let mut i: usize = 1;
     while i <= count {
