@@ -1,7 +1,7 @@
 // Resolves each line of standard input against the base of RFC 3986, section 5.4.
 #![tactic(auto)]
 
-ghost use Rattle.std.specs.Prelude.{◌≤◌, length};
+ghost use Rattle.std.specs.Prelude.{◌≡◌, ◌≢◌, ℕ, ◌<◌, ◌≤◌, length, slice_index};
 
 use iri::Resolution;
 use std::io;
@@ -26,10 +26,12 @@ fn show<W: Write>(out: &mut W, reference: &[u8], buffer: &mut [u8]) -> io::Resul
     Ok(())
 }
 
-// Where the line ends that begins at start.
+// Where the line ends that begins at start: before the first line feed, or with the text.
 fn line_end(s: &[u8], start: usize) -> usize
     requires { start ≤ length s.now }
-    ensures { (start ≤ result) × (result ≤ length s.now) }
+    ensures within { (start ≤ result) × (result ≤ length s.now) }
+    ensures before { (k : ℕ) → start ≤ k → k < result → slice_index s.now k ≢ 10 }
+    ensures found { result < length s.now → slice_index s.now result ≡ 10 }
 {
     let mut i = start;
     while i < s.len() {
