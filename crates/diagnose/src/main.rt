@@ -8,7 +8,11 @@ mod marks;
 mod phrases;
 mod source;
 
-ghost use Rattle.std.specs.Prelude.{◌≡◌, ◌↔◌, ◌≤◌, [], ◌∷◌, IsTrue, length, take};
+ghost use Rattle.std.specs.Prelude.{◌≡◌, ◌↔◌, ◌≤◌, [], ◌∷◌, ◌++◌, if◌then◌else◌, nat_eq, IsTrue, OnOk, decimal, length, take};
+ghost use Rattle.std.specs.Io.KnownBytes.{Appends, Keeps};
+ghost use Rattle.documents.specs.Places.{place, within};
+ghost use Rattle.diagnose.specs.Phrase.{phrase};
+ghost use Rattle.diagnose.specs.Meaning.{meaning};
 
 use phrases::{Phrases, say};
 use reader::Reading;
@@ -36,7 +40,9 @@ fn print_refusal<W: Write>(
     document: &[u8],
     number: u8,
     at: usize,
-) -> io::Result<()> {
+) -> io::Result<()>
+    ensures { let p = place document.now (within document.now at) in OnOk result (Appends (W.contents out.old) (W.contents out.new) (name.now ++ phrase words.now Phrases.COLON ++ decimal p.line ++ phrase words.now Phrases.COLON ++ decimal p.column ++ phrase words.now Phrases.REFUSED ++ decimal number ++ phrase words.now Phrases.AT ++ decimal at ++ phrase words.now Phrases.THEN ++ phrase words.now (meaning document.now number at) ++ 10 ∷ [])) }
+{
     let p = documents::place_of(document, at);
     let line = p.line;
     let column = p.column;
@@ -54,15 +60,23 @@ fn print_refusal<W: Write>(
     phrases::end_line(out)
 }
 
-fn print_count<W: Write>(out: &mut W, words: &[u8], name: &[u8], count: usize) -> io::Result<()> {
+// The word for so many statements.
+fn statements(count: usize) -> usize
+    ensures { result ≡ (if nat_eq count 1 then Phrases.STATEMENT else Phrases.STATEMENTS) }
+{
+    if count == 1 {
+        return Phrases::STATEMENT;
+    }
+    Phrases::STATEMENTS
+}
+
+fn print_count<W: Write>(out: &mut W, words: &[u8], name: &[u8], count: usize) -> io::Result<()>
+    ensures { OnOk result (Appends (W.contents out.old) (W.contents out.new) (name.now ++ phrase words.now Phrases.THEN ++ decimal count ++ phrase words.now (if nat_eq count 1 then Phrases.STATEMENT else Phrases.STATEMENTS) ++ 10 ∷ [])) }
+{
     out.write_all(name)?;
     say(out, words, Phrases::THEN)?;
     write!(out, "{count}")?;
-    if count == 1 {
-        say(out, words, Phrases::STATEMENT)?;
-    } else {
-        say(out, words, Phrases::STATEMENTS)?;
-    }
+    say(out, words, statements(count))?;
     phrases::end_line(out)
 }
 
@@ -283,12 +297,16 @@ fn open<R: Files + Input>(
 }
 
 // Whether it can be read at all, as a folder cannot: nothing is read.
-fn is_readable<S: Read>(source: &mut S) -> bool {
+fn is_readable<S: Read>(source: &mut S) -> bool
+    ensures { Keeps (S.remaining source.old) (S.remaining source.new) }
+{
     let mut nothing = [0u8; 1];
     source.read(&mut nothing[..0]).is_ok()
 }
 
-fn print_unreadable<W: Write>(out: &mut W, words: &[u8], name: &[u8]) -> io::Result<()> {
+fn print_unreadable<W: Write>(out: &mut W, words: &[u8], name: &[u8]) -> io::Result<()>
+    ensures { OnOk result (Appends (W.contents out.old) (W.contents out.new) (name.now ++ phrase words.now Phrases.UNREADABLE ++ 10 ∷ [])) }
+{
     out.write_all(name)?;
     say(out, words, Phrases::UNREADABLE)?;
     phrases::end_line(out)

@@ -1,4 +1,9 @@
 // The phrases that are printed, from one table with a line for each, which main lends to whoever prints.
+ghost use Rattle.std.specs.Prelude.{◌≡◌, ◌<◌, ◌≤◌, [], ◌∷◌, OnOk, drop, length, slice_range};
+ghost use Rattle.std.specs.Io.KnownBytes.{Appends, Keeps};
+ghost use Rattle.diagnose.specs.Meaning.{meaning, unreadable};
+ghost use Rattle.diagnose.specs.Phrase.{behind, phrase};
+
 use std::io;
 use std::io::Write;
 use token::Kind;
@@ -53,8 +58,11 @@ impl Phrases {
     pub const NO_WORD: usize = Self::NO_IRI + 1;
 }
 
-// Writes a part of a text.
-pub fn print_part<W: Write>(out: &mut W, s: &[u8], from: usize, to: usize) -> io::Result<()> {
+// Writes a part of a text; nothing where the text ends before the part does.
+pub fn print_part<W: Write>(out: &mut W, s: &[u8], from: usize, to: usize) -> io::Result<()>
+    ensures within { to ≤ length s.now → OnOk result (Appends (W.contents out.old) (W.contents out.new) (slice_range s.now from to)) }
+    ensures past { length s.now < to → OnOk result (Keeps (W.contents out.old) (W.contents out.new)) }
+{
     if to < from {
         return Ok(());
     }
@@ -64,12 +72,17 @@ pub fn print_part<W: Write>(out: &mut W, s: &[u8], from: usize, to: usize) -> io
     out.write_all(&s[from..to])
 }
 
-pub fn end_line<W: Write>(out: &mut W) -> io::Result<()> {
+pub fn end_line<W: Write>(out: &mut W) -> io::Result<()>
+    ensures { OnOk result (Appends (W.contents out.old) (W.contents out.new) (10 ∷ [])) }
+{
     out.write_all(b"\n")
 }
 
 // Where line n of the table begins.
-fn line_start(words: &[u8], n: usize) -> usize {
+fn line_start(words: &[u8], n: usize) -> usize
+    ensures within { result ≤ length words.now }
+    ensures line { drop result words.now ≡ behind n words.now }
+{
     let mut left = n;
     let mut i: usize = 0;
     while i < words.len() {
@@ -84,13 +97,17 @@ fn line_start(words: &[u8], n: usize) -> usize {
     i
 }
 
-pub fn say<W: Write>(out: &mut W, words: &[u8], n: usize) -> io::Result<()> {
+pub fn say<W: Write>(out: &mut W, words: &[u8], n: usize) -> io::Result<()>
+    ensures { OnOk result (Appends (W.contents out.old) (W.contents out.new) (phrase words.now n)) }
+{
     let from = line_start(words, n);
     print_part(out, words, from, documents::line_end(words, from))
 }
 
 // What begins with a byte where no token can be read.
-fn unreadable(b: u8) -> usize {
+fn unreadable(b: u8) -> usize
+    ensures { result ≡ unreadable b }
+{
     match b {
         b'"' | b'\'' => Phrases::NO_STRING,
         b'<' => Phrases::NO_IRI,
@@ -100,7 +117,9 @@ fn unreadable(b: u8) -> usize {
 }
 
 // The line that says what an answer means.
-pub fn meaning(document: &[u8], number: u8, at: usize) -> usize {
+pub fn meaning(document: &[u8], number: u8, at: usize) -> usize
+    ensures { result ≡ meaning document.now number at }
+{
     if document.len() <= at {
         if number == 8 {
             return Phrases::MAY_NOT_END;
