@@ -2,14 +2,16 @@
 // line, or the refusal with its number and place. It is a library so that two programs hold it to two stored outputs.
 #![tactic(auto)]
 
-ghost use Rattle.std.specs.Prelude.{◌++◌, OnOk, codes, decimal};
+ghost use Rattle.std.specs.Prelude.{OnOk, length};
 ghost use Rattle.std.specs.Io.KnownBytes.{Appends};
+ghost use Rattle.usable.specs.Lent.{slices};
+ghost use Rattle.printing.specs.Printed.{refusal, tables_printed};
 
 use std::io;
 use std::io::{Read, Write};
 
 fn refused<W: Write>(out: &mut W, number: u8, position: usize) -> io::Result<()>
-    ensures { OnOk result (Appends (W.contents out.old) (W.contents out.new) (codes "refused " ++ (decimal number ++ (codes " at " ++ (decimal position ++ codes "\n"))))) }
+    ensures { OnOk result (Appends (W.contents out.old) (W.contents out.new) (refusal number position)) }
 {
     writeln!(out, "refused {number} at {position}")
 }
@@ -31,7 +33,9 @@ fn write_rows<W: Write>(
     store: &[u8],
     store_count: u32,
     lines: &mut [u8],
-) -> io::Result<()> {
+) -> io::Result<()>
+    ensures { OnOk result (Appends (W.contents out.old) (W.contents out.new) (tables_printed (slices rows.now row_count terms.now term_count store.now store_count) (length lines.old))) }
+{
     let w = writer::write_long_form(
         rows,
         row_count,
