@@ -6,48 +6,78 @@
 
 mod marks;
 mod phrases;
+mod source;
 
-ghost use Rattle.io.specs.Counts.{IsPrefixLen};
+ghost use Rattle.std.specs.Prelude.{◌≡◌, ◌↔◌, ◌≤◌, [], ◌∷◌, ◌++◌, if◌then◌else◌, nat_eq, IsTrue, OnOk, decimal, length, take};
+ghost use Rattle.std.specs.Io.KnownBytes.{Appends, Keeps};
+ghost use Rattle.documents.specs.Places.{place, within};
+ghost use Rattle.diagnose.specs.Phrase.{phrase};
+ghost use Rattle.diagnose.specs.Meaning.{meaning};
 
-use libc::STDOUT_FILENO;
 use phrases::{Phrases, say};
 use reader::Reading;
+use source::Source;
+use std::env::FillError;
+use std::io::{ErrorKind, Read, Write};
+use std::rt::{Env, Files};
+use std::{fs, io, str};
 use token::Kind;
 
-// What the arguments said so far: a mode, or 2 for the name's ending; whether a file was named.
+// What the arguments said so far: a mode, or 2 for the name's ending; whether a file was named; whether standard input was,
+// which is read once.
 #[derive(Clone, Copy)]
 struct Said {
     mode: u8,
     named: bool,
+    spent: bool,
 }
 
 // The words file:line:column: refused number at place: meaning
-fn print_refusal(words: &[u8], name: &[u8], document: &[u8], number: u8, at: usize) {
+fn print_refusal<W: Write>(
+    out: &mut W,
+    words: &[u8],
+    name: &[u8],
+    document: &[u8],
+    number: u8,
+    at: usize,
+) -> io::Result<()>
+    ensures { let p = place document.now (within document.now at) in OnOk result (Appends (W.contents out.old) (W.contents out.new) (name.now ++ phrase words.now Phrases.COLON ++ decimal p.line ++ phrase words.now Phrases.COLON ++ decimal p.column ++ phrase words.now Phrases.REFUSED ++ decimal number ++ phrase words.now Phrases.AT ++ decimal at ++ phrase words.now Phrases.THEN ++ phrase words.now (meaning document.now number at) ++ 10 ∷ [])) }
+{
     let p = documents::place_of(document, at);
-    io::write_all(STDOUT_FILENO, name);
-    say(words, Phrases::COLON);
-    io::print_decimal(STDOUT_FILENO, p.line as u64);
-    say(words, Phrases::COLON);
-    io::print_decimal(STDOUT_FILENO, p.column as u64);
-    say(words, Phrases::REFUSED);
-    io::print_decimal(STDOUT_FILENO, number as u64);
-    say(words, Phrases::AT);
-    io::print_decimal(STDOUT_FILENO, at as u64);
-    say(words, Phrases::THEN);
-    say(words, phrases::meaning(document, number, at));
-    phrases::end_line();
+    let line = p.line;
+    let column = p.column;
+    out.write_all(name)?;
+    say(out, words, Phrases::COLON)?;
+    write!(out, "{line}")?;
+    say(out, words, Phrases::COLON)?;
+    write!(out, "{column}")?;
+    say(out, words, Phrases::REFUSED)?;
+    write!(out, "{number}")?;
+    say(out, words, Phrases::AT)?;
+    write!(out, "{at}")?;
+    say(out, words, Phrases::THEN)?;
+    say(out, words, phrases::meaning(document, number, at))?;
+    phrases::end_line(out)
 }
 
-fn print_count(words: &[u8], name: &[u8], count: usize) {
-    io::write_all(STDOUT_FILENO, name);
-    say(words, Phrases::THEN);
-    io::print_decimal(STDOUT_FILENO, count as u64);
+// The word for so many statements.
+fn statements(count: usize) -> usize
+    ensures { result ≡ (if nat_eq count 1 then Phrases.STATEMENT else Phrases.STATEMENTS) }
+{
     if count == 1 {
-        say(words, Phrases::STATEMENT);
-    } else {
-        say(words, Phrases::STATEMENTS);
+        return Phrases::STATEMENT;
     }
-    phrases::end_line();
+    Phrases::STATEMENTS
+}
+
+fn print_count<W: Write>(out: &mut W, words: &[u8], name: &[u8], count: usize) -> io::Result<()>
+    ensures { OnOk result (Appends (W.contents out.old) (W.contents out.new) (name.now ++ phrase words.now Phrases.THEN ++ decimal count ++ phrase words.now (if nat_eq count 1 then Phrases.STATEMENT else Phrases.STATEMENTS) ++ 10 ∷ [])) }
+{
+    out.write_all(name)?;
+    say(out, words, Phrases::THEN)?;
+    write!(out, "{count}")?;
+    say(out, words, statements(count))?;
+    phrases::end_line(out)
 }
 
 fn read_document(
@@ -117,7 +147,8 @@ fn try_kinds(
 }
 
 // What is expected at a place where 8 was answered. The page is written over from there on.
-fn print_expected(
+fn print_expected<W: Write>(
+    out: &mut W,
     words: &[u8],
     page: &mut [u8],
     at: usize,
@@ -126,7 +157,7 @@ fn print_expected(
     rows: &mut [u32],
     terms: &mut [u32],
     store: &mut [u8],
-) {
+) -> io::Result<()> {
     let mut found = [false; Phrases::FOUND];
     let end = may_end(page, at, mode, work, rows, terms, store);
     try_kinds(page, at, mode, work, rows, terms, store, &mut found);
@@ -134,11 +165,12 @@ fn print_expected(
     if found[Phrases::NAME] {
         found[Phrases::PREFIX] = false;
     }
-    phrases::print_list(words, &found);
+    phrases::print_list(out, words, &found)
 }
 
 // Reads the first n bytes of the page, and says what there is to say.
-fn examine(
+fn examine<W: Write>(
+    out: &mut W,
     words: &[u8],
     name: &[u8],
     page: &mut [u8],
@@ -148,28 +180,29 @@ fn examine(
     rows: &mut [u32],
     terms: &mut [u32],
     store: &mut [u8],
-) {
+) -> io::Result<()> {
     if page.len() < n {
-        return;
+        return Ok(());
     }
     let r = read_document(&page[..n], mode, work, rows, terms, store);
     let number = r.number;
     let at = r.position;
     if number == 0 {
-        print_count(words, name, r.rows);
-        return;
+        return print_count(out, words, name, r.rows);
     }
-    print_refusal(words, name, &page[..n], number, at);
+    print_refusal(out, words, name, &page[..n], number, at)?;
     if number < 5 {
-        return;
+        return Ok(());
     }
-    marks::print_line(words, &page[..n], number, at);
+    marks::print_line(out, words, &page[..n], number, at)?;
     if number == 8 {
-        print_expected(words, page, at, mode, work, rows, terms, store);
+        print_expected(out, words, page, at, mode, work, rows, terms, store)?;
     }
+    Ok(())
 }
 
-fn examine_with(
+fn examine_with<W: Write>(
+    out: &mut W,
     words: &[u8],
     name: &[u8],
     page: &mut [u8],
@@ -179,19 +212,26 @@ fn examine_with(
     rows: &mut [u32; 327680],
     terms: &mut [u32; 327680],
     store: &mut [u8; 1048576],
-) {
-    examine(words, name, page, n, mode, work, rows, terms, store);
+) -> io::Result<()> {
+    examine(out, words, name, page, n, mode, work, rows, terms, store)
 }
 
 // The tables: 65,536 statements and terms, an index of the terms, and a document's length of text.
-fn examine_page(words: &[u8], name: &[u8], page: &mut [u8], n: usize, mode: u8) {
+fn examine_page<W: Write>(
+    out: &mut W,
+    words: &[u8],
+    name: &[u8],
+    page: &mut [u8],
+    n: usize,
+    mode: u8,
+) -> io::Result<()> {
     let mut work = [0u8; 822272];
     let mut rows = [0u32; 327680];
     let mut terms = [0u32; 327680];
     let mut store = [0u8; 1048576];
     examine_with(
-        words, name, page, n, mode, &mut work, &mut rows, &mut terms, &mut store,
-    );
+        out, words, name, page, n, mode, &mut work, &mut rows, &mut terms, &mut store,
+    )
 }
 
 // The mode of a file: the one that was said, or by its name.
@@ -202,73 +242,131 @@ fn mode_of(said: u8, name: &[u8]) -> u8 {
     said
 }
 
-fn examine_open_in(words: &[u8], name: &[u8], fd: i32, mode: u8, page: &mut [u8; 1048584]) {
-    let n = io::read_full(fd, page);
-    examine_page(words, name, page, n, mode);
+fn examine_open_in<S: Read, W: Write>(
+    out: &mut W,
+    words: &[u8],
+    name: &[u8],
+    source: &mut S,
+    mode: u8,
+    page: &mut [u8; 1048584],
+) -> io::Result<()> {
+    match input::read_full(source, page) {
+        Ok(n) => examine_page(out, words, name, page, n, mode),
+        Err(_) => print_unreadable(out, words, name),
+    }
 }
 
 // The page: the longest document, and room for a sample after it.
-fn examine_open(words: &[u8], name: &[u8], fd: i32, mode: u8) {
+fn examine_open<S: Read, W: Write>(
+    out: &mut W,
+    words: &[u8],
+    name: &[u8],
+    source: &mut S,
+    mode: u8,
+) -> io::Result<()> {
     let mut page = [0u8; 1048584];
-    examine_open_in(words, name, fd, mode, &mut page);
+    examine_open_in(out, words, name, source, mode, &mut page)
 }
 
-// The descriptor of a file; - is standard input.
-fn open(name: &[u8]) -> i32 {
+// Whether a name stands for standard input.
+fn is_dash(name: &[u8]) -> bool
+    ensures { IsTrue result ↔ (name.now ≡ 45 ∷ []) }
+{
     if name.len() == 1 {
-        if name[0] == b'-' {
-            return 0;
-        }
+        return name[0] == b'-';
     }
-    os::open_read(name)
+    false
+}
+
+// A file, opened; - is standard input, as long as it is not spent.
+fn open<R: Files + Input>(
+    rt: &R,
+    name: &[u8],
+    spent: bool,
+) -> io::Result<Source<R::File, R::Reader>> {
+    if is_dash(name) {
+        if spent {
+            return Err(io::Error::from(ErrorKind::UnexpectedEof));
+        }
+        return Ok(Source::Input(rt.reader()));
+    }
+    match str::from_utf8(name) {
+        Ok(path) => Ok(Source::File(fs::open(rt, path)?)),
+        Err(_) => Err(io::Error::from(ErrorKind::InvalidFilename)),
+    }
 }
 
 // Whether it can be read at all, as a folder cannot: nothing is read.
-fn is_readable(fd: i32) -> bool {
+fn is_readable<S: Read>(source: &mut S) -> bool
+    ensures { Keeps (S.remaining source.old) (S.remaining source.new) }
+{
     let mut nothing = [0u8; 1];
-    libc::read(fd, &mut nothing[..0]) >= 0
+    source.read(&mut nothing[..0]).is_ok()
 }
 
-fn print_unreadable(words: &[u8], name: &[u8]) {
-    io::write_all(STDOUT_FILENO, name);
-    say(words, Phrases::UNREADABLE);
-    phrases::end_line();
+fn print_unreadable<W: Write>(out: &mut W, words: &[u8], name: &[u8]) -> io::Result<()>
+    ensures { OnOk result (Appends (W.contents out.old) (W.contents out.new) (name.now ++ phrase words.now Phrases.UNREADABLE ++ 10 ∷ [])) }
+{
+    out.write_all(name)?;
+    say(out, words, Phrases::UNREADABLE)?;
+    phrases::end_line(out)
 }
 
-fn examine_file(words: &[u8], name: &[u8], said: u8) {
-    let fd = open(name);
-    if fd < 0 {
-        print_unreadable(words, name);
-        return;
+fn examine_file<R: Files + Input, W: Write>(
+    rt: &R,
+    out: &mut W,
+    words: &[u8],
+    name: &[u8],
+    said: Said,
+) -> io::Result<()> {
+    let Ok(mut source) = open(rt, name, said.spent) else {
+        return print_unreadable(out, words, name);
+    };
+    if !is_readable(&mut source) {
+        return print_unreadable(out, words, name);
     }
-    if !is_readable(fd) {
-        print_unreadable(words, name);
-        libc::close(fd);
-        return;
-    }
-    examine_open(words, name, fd, mode_of(said, name));
-    libc::close(fd);
+    examine_open(out, words, name, &mut source, mode_of(said.mode, name))
 }
 
 // One argument: a word that says the mode, or a name.
-fn argument(words: &[u8], name: &[u8], said: Said) -> Said {
+fn argument<R: Files + Input, W: Write>(
+    rt: &R,
+    out: &mut W,
+    words: &[u8],
+    name: &[u8],
+    said: Said,
+) -> io::Result<Said> {
     let mode = documents::mode_by_word(name);
     if mode <= 2 {
-        return Said {
+        return Ok(Said {
             mode: mode,
             named: said.named,
-        };
+            spent: said.spent,
+        });
     }
-    examine_file(words, name, said.mode);
-    Said {
+    examine_file(rt, out, words, name, said)?;
+    Ok(Said {
         mode: said.mode,
         named: true,
+        spent: said.spent | is_dash(name),
+    })
+}
+
+// How many arguments there are, with the program's name.
+fn argument_count<R: Env>(rt: &R) -> usize {
+    let mut nothing = [0u8; 1];
+    for i in 0..usize::MAX {
+        if let Err(FillError::NotPresent) = rt.arg(i, &mut nothing[..0]) {
+            return i;
+        }
     }
+    usize::MAX
 }
 
 // Puts the name of standard input into the buffer.
 fn put_dash(buffer: &mut [u8]) -> usize
-    ensures { IsPrefixLen result buffer.new }
+    ensures bound { result ≤ length buffer.new }
+    ensures prefix { result ≡ length (take result buffer.new) }
 {
     if buffer.len() == 0 {
         return 0;
@@ -277,47 +375,62 @@ fn put_dash(buffer: &mut [u8]) -> usize
     1
 }
 
-// Puts the argument with a number into the buffer; behind the last, the name of standard input.
-fn put_argument(i: usize, count: usize, buffer: &mut [u8]) -> usize
-    ensures { IsPrefixLen result buffer.new }
+// Puts the argument with a number into the buffer, and nothing where it is longer; behind the last, the name of standard input.
+fn put_argument<R: Env>(rt: &R, i: usize, count: usize, buffer: &mut [u8]) -> usize
+    ensures bound { result ≤ length buffer.new }
+    ensures prefix { result ≡ length (take result buffer.new) }
 {
     if i < count {
-        return os::arg(i, buffer);
+        return match rt.arg(i, buffer) {
+            Ok(n) => n,
+            Err(_) => 0,
+        };
     }
     put_dash(buffer)
 }
 
 // The argument with a number. Standard input is read behind the last, if no file was named.
-fn turn(words: &[u8], i: usize, count: usize, said: Said) -> Said {
+fn turn<R: Files + Input + Env, W: Write>(
+    rt: &R,
+    out: &mut W,
+    words: &[u8],
+    i: usize,
+    count: usize,
+    said: Said,
+) -> io::Result<Said> {
     if count <= i {
         if said.named {
-            return said;
+            return Ok(said);
         }
     }
-    let mut buffer = io::buffer();
-    let n = put_argument(i, count, &mut buffer);
-    argument(words, &buffer[..n], said)
+    let mut buffer = [0u8; 4096];
+    let n = put_argument(rt, i, count, &mut buffer);
+    argument(rt, out, words, &buffer[..n], said)
 }
 
-fn run(words: &[u8]) {
-    let count = os::arg_count();
+fn run<R: Files + Input + Env, W: Write>(rt: &R, out: &mut W, words: &[u8]) -> io::Result<()> {
+    let count = argument_count(rt);
     let mut said = Said {
         mode: 2,
         named: false,
+        spent: false,
     };
     let mut i: usize = 1;
     while i <= count {
-        let next = turn(words, i, count, said);
+        let next = turn(rt, out, words, i, count, said)?;
         said = next;
         if i == count {
-            return;
+            return Ok(());
         }
         i += 1;
     }
+    Ok(())
 }
 
-fn main() {
+fn main(rt: HostRuntime) -> io::Result<()> {
     run(
+        &rt,
+        &mut io::writer(&rt),
         b"\
 \nan IRI\na prefix with its colon\na prefixed name\na blank node label\n'@prefix'\n'@base'\na language tag\n\
 a number\n\n\na string\n\n'a'\n'true'\n'false'\n'PREFIX'\n'BASE'\n'GRAPH'\n\
@@ -341,5 +454,5 @@ no token can be read here: a string that is not closed, or with a bad escape\n\
 no token can be read here: an IRI that is not closed, or with a character or an escape that it may not have\n\
 no token can be read here: a word that is no keyword and no prefixed name\n\
 ",
-    );
+    )
 }

@@ -2,6 +2,8 @@
 ghost use Rattle.std.specs.Prelude.{◌≤◌};
 
 use crate::phrases::{Phrases, end_line, print_part, say};
+use std::io;
+use std::io::Write;
 
 fn is_continuation(b: u8) -> bool {
     if b < 128 {
@@ -128,22 +130,34 @@ fn fill_marks(line: &mut [u8], document: &[u8], from: usize, to: usize, mark: u8
     k
 }
 
-fn print_shown(document: &[u8], from: usize, to: usize, bad: usize) {
+fn print_shown<W: Write>(
+    out: &mut W,
+    document: &[u8],
+    from: usize,
+    to: usize,
+    bad: usize,
+) -> io::Result<()> {
     let mut line = [0u8; 128];
     let n = fill_shown(&mut line, document, from, to, bad);
-    print_part(&line, 0, n);
+    print_part(out, &line, 0, n)
 }
 
 // At least `least` marks.
-fn print_marks(document: &[u8], from: usize, to: usize, mark: u8, least: usize) {
+fn print_marks<W: Write>(
+    out: &mut W,
+    document: &[u8],
+    from: usize,
+    to: usize,
+    mark: u8,
+    least: usize,
+) -> io::Result<()> {
     let mut line = [0u8; 128];
     line[0] = mark;
     let n = fill_marks(&mut line, document, from, to, mark);
     if n < least {
-        print_part(&line, 0, least);
-        return;
+        return print_part(out, &line, 0, least);
     }
-    print_part(&line, 0, n);
+    print_part(out, &line, 0, n)
 }
 
 // Where the marks end: with the token, or with what is shown.
@@ -164,48 +178,71 @@ fn token_end(document: &[u8], at: usize, to: usize, number: u8) -> usize {
     at + t.len
 }
 
-fn print_text(words: &[u8], document: &[u8], start: usize, from: usize, to: usize, bad: usize) {
-    say(words, Phrases::INDENT);
+fn print_text<W: Write>(
+    out: &mut W,
+    words: &[u8],
+    document: &[u8],
+    start: usize,
+    from: usize,
+    to: usize,
+    bad: usize,
+) -> io::Result<()> {
+    say(out, words, Phrases::INDENT)?;
     if start < from {
-        say(words, Phrases::CUT);
+        say(out, words, Phrases::CUT)?;
     }
-    print_shown(document, from, to, bad);
+    print_shown(out, document, from, to, bad)?;
     if to < documents::line_end(document, from) {
-        say(words, Phrases::CUT);
+        say(out, words, Phrases::CUT)?;
     }
-    end_line();
+    end_line(out)
 }
 
-fn print_under(words: &[u8], document: &[u8], start: usize, from: usize, at: usize, end: usize) {
-    say(words, Phrases::INDENT);
+fn print_under<W: Write>(
+    out: &mut W,
+    words: &[u8],
+    document: &[u8],
+    start: usize,
+    from: usize,
+    at: usize,
+    end: usize,
+) -> io::Result<()> {
+    say(out, words, Phrases::INDENT)?;
     if start < from {
-        say(words, Phrases::BLANKS);
+        say(out, words, Phrases::BLANKS)?;
     }
-    print_marks(document, from, at, b' ', 0);
-    print_marks(document, at, end, b'^', 1);
-    end_line();
+    print_marks(out, document, from, at, b' ', 0)?;
+    print_marks(out, document, at, end, b'^', 1)?;
+    end_line(out)
 }
 
 // The line of a place, if there is something in it, and the marks.
-pub fn print_line(words: &[u8], document: &[u8], number: u8, at: usize) {
+pub fn print_line<W: Write>(
+    out: &mut W,
+    words: &[u8],
+    document: &[u8],
+    number: u8,
+    at: usize,
+) -> io::Result<()> {
     let p = documents::place_of(document, at);
     let start = p.start;
     let from = window_start(document, start, at);
     let to = window_end(document, from, documents::line_end(document, at));
     if to <= from {
-        return;
+        return Ok(());
     }
     let mut bad = document.len();
     if number == 5 {
         bad = at;
     }
-    print_text(words, document, start, from, to, bad);
+    print_text(out, words, document, start, from, to, bad)?;
     print_under(
+        out,
         words,
         document,
         start,
         from,
         at,
         token_end(document, at, to, number),
-    );
+    )
 }

@@ -1,5 +1,11 @@
 // The phrases that are printed, from one table with a line for each, which main lends to whoever prints.
-use libc::STDOUT_FILENO;
+ghost use Rattle.std.specs.Prelude.{◌≡◌, ◌<◌, ◌≤◌, [], ◌∷◌, OnOk, drop, length, slice_range};
+ghost use Rattle.std.specs.Io.KnownBytes.{Appends, Keeps};
+ghost use Rattle.diagnose.specs.Meaning.{meaning, unreadable};
+ghost use Rattle.diagnose.specs.Phrase.{behind, phrase};
+
+use std::io;
+use std::io::Write;
 use token::Kind;
 
 #[derive(Drop)]
@@ -52,23 +58,31 @@ impl Phrases {
     pub const NO_WORD: usize = Self::NO_IRI + 1;
 }
 
-// Writes a part of a text.
-pub fn print_part(s: &[u8], from: usize, to: usize) {
+// Writes a part of a text; nothing where the text ends before the part does.
+pub fn print_part<W: Write>(out: &mut W, s: &[u8], from: usize, to: usize) -> io::Result<()>
+    ensures within { to ≤ length s.now → OnOk result (Appends (W.contents out.old) (W.contents out.new) (slice_range s.now from to)) }
+    ensures past { length s.now < to → OnOk result (Keeps (W.contents out.old) (W.contents out.new)) }
+{
     if to < from {
-        return;
+        return Ok(());
     }
     if s.len() < to {
-        return;
+        return Ok(());
     }
-    io::write_all(STDOUT_FILENO, &s[from..to]);
+    out.write_all(&s[from..to])
 }
 
-pub fn end_line() {
-    io::write_all(STDOUT_FILENO, &[b'\n']);
+pub fn end_line<W: Write>(out: &mut W) -> io::Result<()>
+    ensures { OnOk result (Appends (W.contents out.old) (W.contents out.new) (10 ∷ [])) }
+{
+    out.write_all(b"\n")
 }
 
 // Where line n of the table begins.
-fn line_start(words: &[u8], n: usize) -> usize {
+fn line_start(words: &[u8], n: usize) -> usize
+    ensures within { result ≤ length words.now }
+    ensures line { drop result words.now ≡ behind n words.now }
+{
     let mut left = n;
     let mut i: usize = 0;
     while i < words.len() {
@@ -83,13 +97,17 @@ fn line_start(words: &[u8], n: usize) -> usize {
     i
 }
 
-pub fn say(words: &[u8], n: usize) {
+pub fn say<W: Write>(out: &mut W, words: &[u8], n: usize) -> io::Result<()>
+    ensures { OnOk result (Appends (W.contents out.old) (W.contents out.new) (phrase words.now n)) }
+{
     let from = line_start(words, n);
-    print_part(words, from, documents::line_end(words, from));
+    print_part(out, words, from, documents::line_end(words, from))
 }
 
 // What begins with a byte where no token can be read.
-fn unreadable(b: u8) -> usize {
+fn unreadable(b: u8) -> usize
+    ensures { result ≡ unreadable b }
+{
     match b {
         b'"' | b'\'' => Phrases::NO_STRING,
         b'<' => Phrases::NO_IRI,
@@ -99,7 +117,9 @@ fn unreadable(b: u8) -> usize {
 }
 
 // The line that says what an answer means.
-pub fn meaning(document: &[u8], number: u8, at: usize) -> usize {
+pub fn meaning(document: &[u8], number: u8, at: usize) -> usize
+    ensures { result ≡ meaning document.now number at }
+{
     if document.len() <= at {
         if number == 8 {
             return Phrases::MAY_NOT_END;
@@ -137,39 +157,49 @@ fn count(found: &[bool; Phrases::FOUND]) -> usize {
 }
 
 // What stands before a phrase of a list, behind which `left` are to follow.
-fn separate(words: &[u8], first: bool, left: usize) {
+fn separate<W: Write>(out: &mut W, words: &[u8], first: bool, left: usize) -> io::Result<()> {
     if first {
-        say(words, Phrases::EXPECTED);
-        return;
+        return say(out, words, Phrases::EXPECTED);
     }
     if left == 1 {
-        say(words, Phrases::OR);
+        say(out, words, Phrases::OR)
     } else {
-        say(words, Phrases::COMMA);
+        say(out, words, Phrases::COMMA)
     }
 }
 
-fn print_item(words: &[u8], k: usize, total: usize, left: usize) -> usize {
-    separate(words, left == total, left);
-    say(words, k);
+fn print_item<W: Write>(
+    out: &mut W,
+    words: &[u8],
+    k: usize,
+    total: usize,
+    left: usize,
+) -> io::Result<usize> {
+    separate(out, words, left == total, left)?;
+    say(out, words, k)?;
     if left == 0 {
-        return 0;
+        return Ok(0);
     }
-    left - 1
+    Ok(left - 1)
 }
 
 // The phrases of what was found, as a list with commas and 'or'.
-pub fn print_list(words: &[u8], found: &[bool; Phrases::FOUND]) {
+pub fn print_list<W: Write>(
+    out: &mut W,
+    words: &[u8],
+    found: &[bool; Phrases::FOUND],
+) -> io::Result<()> {
     let total = count(found);
     let mut left = total;
     let mut k: usize = 1;
     while k < Phrases::FOUND {
         if found[k] {
-            left = print_item(words, k, total, left);
+            left = print_item(out, words, k, total, left)?;
         }
         k += 1;
     }
     if total != 0 {
-        end_line();
+        end_line(out)?;
     }
+    Ok(())
 }

@@ -1,6 +1,8 @@
 // The program longform on a document that is refused.
 #![tactic(auto)]
 
-fn main() {
-    printing::print_long_form();
+use std::io;
+
+fn main(rt: HostRuntime) -> io::Result<()> {
+    printing::print_long_form(&mut rt.reader(), &mut io::writer(&rt))
 }

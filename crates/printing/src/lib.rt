@@ -2,14 +2,18 @@
 // line, or the refusal with its number and place. It is a library so that two programs hold it to two stored outputs.
 #![tactic(auto)]
 
-use libc::STDOUT_FILENO;
+ghost use Rattle.std.specs.Prelude.{OnOk, length};
+ghost use Rattle.std.specs.Io.KnownBytes.{Appends};
+ghost use Rattle.usable.specs.Lent.{slices};
+ghost use Rattle.printing.specs.Printed.{refusal, tables_printed};
 
-fn refused(number: u8, position: usize) {
-    io::write_all(STDOUT_FILENO, b"refused ");
-    io::print_decimal(STDOUT_FILENO, number as u64);
-    io::write_all(STDOUT_FILENO, b" at ");
-    io::print_decimal(STDOUT_FILENO, position as u64);
-    io::write_all(STDOUT_FILENO, b"\n");
+use std::io;
+use std::io::{Read, Write};
+
+fn refused<W: Write>(out: &mut W, number: u8, position: usize) -> io::Result<()>
+    ensures { OnOk result (Appends (W.contents out.old) (W.contents out.new) (refusal number position)) }
+{
+    writeln!(out, "refused {number} at {position}")
 }
 
 // A count as the writer takes it.
@@ -20,32 +24,43 @@ fn narrow(n: usize) -> u32 {
     0
 }
 
-fn write_rows(
+fn write_rows<W: Write>(
+    out: &mut W,
     rows: &[u32],
     row_count: u32,
     terms: &[u32],
     term_count: u32,
     store: &[u8],
     store_count: u32,
-    out: &mut [u8],
-) {
-    let w = writer::write_long_form(rows, row_count, terms, term_count, store, store_count, out);
+    lines: &mut [u8],
+) -> io::Result<()>
+    ensures { OnOk result (Appends (W.contents out.old) (W.contents out.new) (tables_printed (slices rows.now row_count terms.now term_count store.now store_count) (length lines.old))) }
+{
+    let w = writer::write_long_form(
+        rows,
+        row_count,
+        terms,
+        term_count,
+        store,
+        store_count,
+        lines,
+    );
     if w.number != 0 {
-        refused(w.number, w.position);
-        return;
+        return refused(out, w.number, w.position);
     }
     let k = w.position;
-    if k <= out.len() {
-        io::write_all(STDOUT_FILENO, &out[..k]);
+    if k <= lines.len() {
+        out.write_all(&lines[..k])?;
     }
+    Ok(())
 }
 
-fn show(document: &[u8]) {
+fn show<W: Write>(out: &mut W, document: &[u8]) -> io::Result<()> {
     let mut work = [0u8; 131072];
     let mut rows = [0u32; 16384];
     let mut terms = [0u32; 16384];
     let mut store = [0u8; 65536];
-    let mut out = [0u8; 65536];
+    let mut lines = [0u8; 65536];
     let r = reader::read(
         document,
         &document[..0],
@@ -56,27 +71,26 @@ fn show(document: &[u8]) {
         &mut store,
     );
     if r.number != 0 {
-        refused(r.number, r.position);
-        return;
+        return refused(out, r.number, r.position);
     }
     write_rows(
+        out,
         &rows,
         narrow(r.rows),
         &terms,
         narrow(r.terms),
         &store,
         narrow(r.store),
-        &mut out,
-    );
+        &mut lines,
+    )
 }
 
-// Prints the long form of standard input.
-pub fn print_long_form() {
-    let mut input = [0u8; 65537];
-    let n = io::read_full(0, &mut input);
+// Prints the long form of what the source has.
+pub fn print_long_form<R: Read, W: Write>(source: &mut R, out: &mut W) -> io::Result<()> {
+    let mut page = [0u8; 65537];
+    let n = input::read_full(source, &mut page)?;
     if 65536 < n {
-        refused(1, 0);
-        return;
+        return refused(out, 1, 0);
     }
-    show(&input[..n]);
+    show(out, &page[..n])
 }

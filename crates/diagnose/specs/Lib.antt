@@ -1,0 +1,3 @@
+-- What diagnose prints.
+pub mod Phrase
+pub mod Meaning
