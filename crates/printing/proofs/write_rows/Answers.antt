@@ -11,8 +11,8 @@ returns-then-w-ne0 g c =
     let s = slices a.rows.now a.row_count a.terms.now a.term_count a.store.now a.store_count in
     let w = answer c.write_long_form-w.result c.write_long_form-w.new.out in
     subst (λ t. OnOk c.refused.result (Appends (g.W.Write.contents c.args.out.now) (g.W.Write.contents c.refused.new.out) t))
-      (refusal_printed s a.lines.now w c.write_long_form-w.ensures c.if-w-ne0.true)
-      c.refused.ensures
+    (refusal_printed s a.lines.now w c.write_long_form-w.ensures c.if-w-ne0.true)
+    c.refused.ensures
 
 pub returns-in_ok-write_all : goal.returns-in_ok-write_all
 returns-in_ok-write_all g c =
@@ -20,8 +20,8 @@ returns-in_ok-write_all g c =
     let s = slices a.rows.now a.row_count a.terms.now a.term_count a.store.now a.store_count in
     let w = answer c.write_long_form-w.result c.write_long_form-w.new.out in
     subst (Appends (g.W.Write.contents c.args.out.now) (g.W.Write.contents c.write_all.new.self))
-      (form_printed s a.lines.now w c.write_long_form-w.ensures c.if-w-ne0.false)
-      c.in_ok-write_all.ensures.bytes
+    (form_printed s a.lines.now w c.write_long_form-w.ensures c.if-w-ne0.false)
+    c.in_ok-write_all.ensures.bytes
 
 pub returns-else-k-lines : goal.returns-else-k-lines
 returns-else-k-lines g c =
