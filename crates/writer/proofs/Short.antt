@@ -1,4 +1,4 @@
--- The lines of usable tables are short.
+-- Usable tables can be written, and their lines are short.
 use mathlib.Core.Path.{◌≡◌}
 use mathlib.Core.Bool.{true}
 use mathlib.Core.List.{◌++◌}
@@ -12,13 +12,22 @@ use Rattle.utf8.proofs.Tests.{by}
 use Rattle.table.specs.Layout.{Row, Slices, row_at, iri_kind, blank_kind, literal_kind}
 use Rattle.table.specs.Usable.{Takes, the, text, tag, good_row, present, usable}
 use Rattle.table.specs.LongForm.{string_form, type_form, term_form, triple_form, line}
-use Rattle.usable.specs.Lent.{bare, drawn}
+use Rattle.usable.specs.Lent.{bare, drawn, Sound}
 use Rattle.usable.proofs.Facts.{usable_row}
-use Rattle.usable.proofs.Standing.{typed, tagged, text_within, object_in, predicate_in, subject_in, graph_in}
-use Rattle.writer.specs.Drawn.{Short, tag_form, literal_form}
+use Rattle.usable.proofs.Standing.{sound_rows, typed, tagged, text_within, object_in, predicate_in, subject_in, graph_in}
+use Rattle.writer.specs.Drawn.{Writable, Ready, Short, tag_form, literal_form}
 use Rattle.writer.proofs.Bounds.{span_bound, iri_form_bound, string_form_bound, type_form_bound, digits_bound}
 use Rattle.writer.proofs.Pieces.{term_iri, term_blank, term_literal, literal_typed, literal_tagged}
 use Rattle.writer.proofs.RowForms.{triple_parts, line_default, line_graph}
+
+writable : (s : Slices) (n : ℕ) → Sound s n → Writable s n
+writable s n g = record {
+  stands = g.stands;
+  text_in = g.text_in;
+  type_stands = g.type_stands;
+  type_in = g.type_in;
+  tag_in = g.tag_in;
+}
 
 module _ (w : Takes) (s : Slices) (e : usable w s ≡ true) where
   -- ---- Terms
@@ -97,6 +106,18 @@ module _ (w : Takes) (s : Slices) (e : usable w s ≡ true) where
         let k = length-append g (ascii " ") in
         let l = length-append (g ++ ascii " ") (ascii "{ " ++ x) in
         rw (line_graph tables r n) (omega arith))
+
+  pub ready : Ready (drawn s.rows s.terms s.store) s.row_count
+  ready i h =
+      let r = row_at s.rows i in
+      let g = sound_rows w s e i h in
+      record {
+        stands = g.stands;
+        graph = λ n. writable (bare s) r.graph (g.graph n);
+        subject = writable (bare s) r.subject g.subject;
+        predicate = writable (bare s) r.predicate g.predicate;
+        object = writable (bare s) r.object g.object;
+      }
 
   pub short : s.store_count < 2 ^ 32 → Short (drawn s.rows s.terms s.store) s.row_count
   short l i h = record { fits = let b = line_bound (row_at s.rows i) (usable_row w s e i h) in omega arith }

@@ -3,9 +3,9 @@ ghost use Rattle.std.specs.Prelude.{◌≡◌};
 ghost use Rattle.text.specs.Text.{same_text};
 ghost use Rattle.dataset.specs.Terms.{xsd_string};
 ghost use Rattle.table.specs.LongForm.{type_form, term_form};
-ghost use Rattle.usable.specs.Lent.{lent, Sound, NoResource};
+ghost use Rattle.usable.specs.Lent.{lent};
 ghost use Rattle.writer.specs.Writing.{Countable, Wrote};
-ghost use Rattle.writer.specs.Drawn.{blank_form, tag_form, literal_form};
+ghost use Rattle.writer.specs.Drawn.{Writable, NoResource, blank_form, tag_form, literal_form};
 
 use crate::bytes::{Rule, put, put_digits, put_escaped, put_iri, put_string, put_three, put_two};
 use table::{TermKind, TermWord};
@@ -50,7 +50,7 @@ fn put_blank(number: usize, out: &mut [u8], at: usize) -> usize
 
 // Writes a literal: its text, and its datatype or its tag.
 fn put_literal(terms: &[u32], store: &[u8], n: usize, out: &mut [u8], at: usize) -> usize
-    requires { Sound (lent terms.now 0 store.now 0) n × (NoResource (lent terms.now 0 store.now 0) n × Countable at (literal_form (lent terms.now 0 store.now 0) n)) }
+    requires { Writable (lent terms.now 0 store.now 0) n × (NoResource (lent terms.now 0 store.now 0) n × Countable at (literal_form (lent terms.now 0 store.now 0) n)) }
     ensures { Wrote at (literal_form (lent terms.now 0 store.now 0) n) out.old out.new result }
 {
     let end = put_string(span_of(terms, store, n, TermWord::START), out, at);
@@ -63,7 +63,7 @@ fn put_literal(terms: &[u32], store: &[u8], n: usize, out: &mut [u8], at: usize)
 
 // Writes the term n; the place behind it.
 pub fn put_term(terms: &[u32], store: &[u8], n: usize, out: &mut [u8], at: usize) -> usize
-    requires { Sound (lent terms.now 0 store.now 0) n × Countable at (term_form (lent terms.now 0 store.now 0) n) }
+    requires { Writable (lent terms.now 0 store.now 0) n × Countable at (term_form (lent terms.now 0 store.now 0) n) }
     ensures { Wrote at (term_form (lent terms.now 0 store.now 0) n) out.old out.new result }
 {
     let kind = term_word(terms, n, TermWord::KIND);

@@ -2,9 +2,9 @@
 ghost use Rattle.std.specs.Prelude.{◌≡◌, ◌+◌, ◌<◌, leb, length};
 ghost use Rattle.table.specs.Layout.{row_at};
 ghost use Rattle.table.specs.LongForm.{triple_form, line, lines_from};
-ghost use Rattle.usable.specs.Lent.{lent, drawn, Sound, SoundRow, SoundRows};
+ghost use Rattle.usable.specs.Lent.{lent};
 ghost use Rattle.writer.specs.Writing.{Countable, Wrote};
-ghost use Rattle.writer.specs.Drawn.{part_form, Short};
+ghost use Rattle.writer.specs.Drawn.{Writable, drawn, part_form, WritableRow, Ready, Short};
 
 use crate::bytes::{put, put_three, put_two};
 use crate::forms::put_term;
@@ -13,7 +13,7 @@ use usable::fields::row_word;
 
 // A term and a blank.
 fn put_part(terms: &[u32], store: &[u8], n: usize, out: &mut [u8], at: usize) -> usize
-    requires { Sound (lent terms.now 0 store.now 0) n × Countable at (part_form (lent terms.now 0 store.now 0) n) }
+    requires { Writable (lent terms.now 0 store.now 0) n × Countable at (part_form (lent terms.now 0 store.now 0) n) }
     ensures { Wrote at (part_form (lent terms.now 0 store.now 0) n) out.old out.new result }
 {
     let end = put_term(terms, store, n, out, at);
@@ -29,7 +29,7 @@ fn put_triple(
     out: &mut [u8],
     at: usize,
 ) -> usize
-    requires { SoundRow (drawn rows.now terms.now store.now) i × Countable at (triple_form (drawn rows.now terms.now store.now) (row_at rows.now i)) }
+    requires { WritableRow (drawn rows.now terms.now store.now) i × Countable at (triple_form (drawn rows.now terms.now store.now) (row_at rows.now i)) }
     ensures { Wrote at (triple_form (drawn rows.now terms.now store.now) (row_at rows.now i)) out.old out.new result }
 {
     let predicate = put_part(terms, store, row_word(rows, i, RowWord::SUBJECT), out, at);
@@ -52,7 +52,7 @@ fn put_triple(
 
 // "Default graph: subject, predicate, object, dot. Otherwise label, {, the three, dot, }."
 fn put_line(rows: &[u32], i: usize, terms: &[u32], store: &[u8], out: &mut [u8], at: usize) -> usize
-    requires { SoundRow (drawn rows.now terms.now store.now) i × Countable at (line (drawn rows.now terms.now store.now) (row_at rows.now i)) }
+    requires { WritableRow (drawn rows.now terms.now store.now) i × Countable at (line (drawn rows.now terms.now store.now) (row_at rows.now i)) }
     ensures { Wrote at (line (drawn rows.now terms.now store.now) (row_at rows.now i)) out.old out.new result }
 {
     let graph = row_word(rows, i, RowWord::GRAPH);
@@ -68,7 +68,7 @@ fn put_line(rows: &[u32], i: usize, terms: &[u32], store: &[u8], out: &mut [u8],
 
 // Whether the lines are no longer than the limit.
 pub fn fit_lines(rows: &[u32], count: usize, terms: &[u32], store: &[u8], limit: usize) -> bool
-    requires { SoundRows (drawn rows.now terms.now store.now) count × Short (drawn rows.now terms.now store.now) count }
+    requires { Ready (drawn rows.now terms.now store.now) count × Short (drawn rows.now terms.now store.now) count }
     ensures { result ≡ leb (length (lines_from (drawn rows.now terms.now store.now) 0 count)) limit }
 {
     let mut nowhere = [0u8; 1];
@@ -87,7 +87,7 @@ pub fn fit_lines(rows: &[u32], count: usize, terms: &[u32], store: &[u8], limit:
 
 // Writes the lines, for which there is room; their length.
 pub fn put_lines(rows: &[u32], count: usize, terms: &[u32], store: &[u8], out: &mut [u8]) -> usize
-    requires { SoundRows (drawn rows.now terms.now store.now) count × Countable 0 (lines_from (drawn rows.now terms.now store.now) 0 count) }
+    requires { Ready (drawn rows.now terms.now store.now) count × Countable 0 (lines_from (drawn rows.now terms.now store.now) 0 count) }
     ensures { Wrote 0 (lines_from (drawn rows.now terms.now store.now) 0 count) out.old out.new result }
 {
     let mut at: usize = 0;

@@ -1,7 +1,6 @@
 use Rattle.table.specs.Usable.{for_long_form}
 use Rattle.usable.specs.Lent.{slices}
-use Rattle.usable.proofs.Standing.{sound_rows}
-use Rattle.writer.proofs.Short.{short}
+use Rattle.writer.proofs.Short.{ready, short}
 use Rattle.writer.proofs.Answers.{not_usable, too_long, lines_room, written_whole}
 use mathlib.Core.Path.{sym, ◌∙◌}
 use borrow.Author.Rules.{rules}
@@ -15,7 +14,7 @@ returns-then-not-is_usable c = let tables = slices c.args.rows.now c.args.row_co
 pub fit_lines-requires : goal.fit_lines-requires
 fit_lines-requires c = let tables = slices c.args.rows.now c.args.row_count c.args.terms.now c.args.term_count c.args.store.now c.args.store_count in
     let usable = sym c.is_usable.ensures ∙ c.if-not-is_usable.false in
-    rw c.wide-count.ensures (sound_rows for_long_form tables usable, short for_long_form tables usable (search rules))
+    rw c.wide-count.ensures (ready for_long_form tables usable, short for_long_form tables usable (search rules))
 
 pub returns-then-not-fit_lines : goal.returns-then-not-fit_lines
 returns-then-not-fit_lines c = let tables = slices c.args.rows.now c.args.row_count c.args.terms.now c.args.term_count c.args.store.now c.args.store_count in
@@ -28,7 +27,7 @@ put_lines-end-requires c = let tables = slices c.args.rows.now c.args.row_count 
     let usable = sym c.is_usable.ensures ∙ c.if-not-is_usable.false in
     let out = c.args.out.now in
     let fits = rw c.wide-count.ensures at (sym c.fit_lines.ensures ∙ c.if-not-fit_lines.false) in
-    rw c.wide-count.ensures (sound_rows for_long_form tables usable, lines_room tables out usable fits (search rules))
+    rw c.wide-count.ensures (ready for_long_form tables usable, lines_room tables out usable fits (search rules))
 
 pub returns : goal.returns
 returns c = let tables = slices c.args.rows.now c.args.row_count c.args.terms.now c.args.term_count c.args.store.now c.args.store_count in
