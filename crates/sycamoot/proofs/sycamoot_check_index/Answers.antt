@@ -3,4 +3,4 @@ use Rattle.sycamoot.specs.Answers.{checked}
 use Rattle.sycamoot.proofs.sycamoot_check_index.Goals as goal
 
 pub returns : goal.returns
-returns c = rw c.one_or_zero.ensures (ap checked c.check_index-c.ensures)
+returns c = let e = ap checked c.check_index-c.ensures in cc
