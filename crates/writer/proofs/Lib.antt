@@ -4,5 +4,5 @@ pub mod Numerals
 pub mod Pieces
 pub mod RowForms
 pub mod Bounds
-pub mod Short
+pub mod Sound
 pub mod Answers

@@ -1,6 +1,6 @@
 use Rattle.table.specs.Usable.{for_long_form}
 use Rattle.usable.specs.Lent.{slices}
-use Rattle.writer.proofs.Short.{ready, short}
+use Rattle.writer.proofs.Sound.{ready, short}
 use Rattle.writer.proofs.Answers.{not_usable, too_long, lines_room, written_whole}
 use mathlib.Core.Path.{sym, ◌∙◌}
 use borrow.Author.Rules.{rules}
