@@ -1,5 +1,5 @@
 -- Laws of the table of phrases.
-use Rattle.std.proofs.Common.{◌≡◌, ℕ, zero, suc, ◌+◌, ◌-◌, ◌<◌, ◌≤◌, List, [], ◌∷◌, length, get_or, take, drop, slice_range, cond, eqb, refl, sym, ap, ◌∙◌, add-one, arith, eq-eqb, drop_of_length-le, length-drop}
+use Rattle.std.proofs.Common.{◌≡◌, ℕ, zero, suc, ◌+◌, ◌-◌, ◌<◌, ◌≤◌, List, [], ◌∷◌, length, get_or, take, drop, slice_range, refl, sym, ap, ◌∙◌, add-one, arith, eq-eqb, drop_of_length-le, length-drop}
 use Rattle.std.proofs.Math.Seq.{drop-cons}
 use borrow.Author.Tests.{ne_eqb}
 use Rattle.documents.specs.Places.{left_in_line, line_end}

@@ -2,10 +2,11 @@
 // line, or the refusal with its number and place. It is a library so that two programs hold it to two stored outputs.
 #![tactic(auto)]
 
-ghost use Rattle.std.specs.Prelude.{OnOk, length};
+ghost use Rattle.std.specs.Prelude.{◌≡◌, IfSome, OnOk, length};
 ghost use Rattle.std.specs.Io.KnownBytes.{Appends};
 ghost use Rattle.usable.specs.Lent.{slices};
-ghost use Rattle.printing.specs.Printed.{refusal, tables_printed};
+ghost use Rattle.machine.specs.Read.{lends};
+ghost use Rattle.printing.specs.Printed.{refusal, tables_printed, narrow, document_printed, printed};
 
 use std::io;
 use std::io::{Read, Write};
@@ -17,7 +18,9 @@ fn refused<W: Write>(out: &mut W, number: u8, position: usize) -> io::Result<()>
 }
 
 // A count as the writer takes it.
-fn narrow(n: usize) -> u32 {
+fn narrow(n: usize) -> u32
+    ensures { result ≡ narrow n }
+{
     if n <= 4294967295 {
         return n as u32;
     }
@@ -55,7 +58,9 @@ fn write_rows<W: Write>(
     Ok(())
 }
 
-fn show<W: Write>(out: &mut W, document: &[u8]) -> io::Result<()> {
+fn show<W: Write>(out: &mut W, document: &[u8]) -> io::Result<()>
+    ensures { OnOk result (Appends (W.contents out.old) (W.contents out.new) (document_printed (lends 131072 16384 16384 65536) 65536 document.now)) }
+{
     let mut work = [0u8; 131072];
     let mut rows = [0u32; 16384];
     let mut terms = [0u32; 16384];
@@ -86,7 +91,9 @@ fn show<W: Write>(out: &mut W, document: &[u8]) -> io::Result<()> {
 }
 
 // Prints the long form of what the source has.
-pub fn print_long_form<R: Read, W: Write>(source: &mut R, out: &mut W) -> io::Result<()> {
+pub fn print_long_form<R: Read, W: Write>(source: &mut R, out: &mut W) -> io::Result<()>
+    ensures { OnOk result (IfSome (R.remaining source.old) (λ input. Appends (W.contents out.old) (W.contents out.new) (printed input))) }
+{
     let mut page = [0u8; 65537];
     let n = input::read_full(source, &mut page)?;
     if 65536 < n {

@@ -1,4 +1,4 @@
-use Rattle.std.proofs.Common.{OnOk, length, take, arith, subst, ◌≤◌}
+use Rattle.std.proofs.Common.{OnOk, arith, subst}
 use Rattle.std.specs.Io.KnownBytes.{Appends}
 use Rattle.usable.specs.Lent.{slices}
 use Rattle.writer.specs.Answer.{answer}

@@ -1,5 +1,5 @@
 use Rattle.diagnose.proofs.Table.{behind_none, behind_end, behind_feed, behind_other}
-use Rattle.std.proofs.Common.{◌≡◌, ◌+◌, ◌≤◌, length, drop, arith, sym, ◌∙◌, ap}
+use Rattle.std.proofs.Common.{◌+◌, drop, arith, sym, ◌∙◌, ap}
 use Rattle.diagnose.specs.Phrase.{behind}
 use Rattle.diagnose.proofs.phrases.line_start.Goals as goal
 use Rattle.diagnose.proofs.phrases.line_start.Goals.{then-words-i-eq10, else-words-i-eq10}
