@@ -1,9 +1,7 @@
 -- Which line of the table says what an answer means.
-use Rattle.std.specs.Prelude.{List, cond, ◌||◌, ◌&&◌, Bool, eqb, leb, ℕ, ◌+◌, length, get_or}
+use Rattle.std.specs.Prelude.{List, cond, ◌||◌, eqb, leb, ℕ, ◌+◌, length, get_or}
+use Rattle.text.specs.Text.{between}
 use Rattle.diagnose.specs.declared.phrases.TheConstants.Phrases.{MEANINGS, MAY_NOT_END, NO_STRING, NO_IRI, NO_WORD}
-
-abbrev pub between : ℕ → ℕ → ℕ → Bool
-between lo hi b = leb lo b && leb b hi
 
 -- What begins with a byte where no token can be read: a string, an IRI, a word, another.
 abbrev pub unreadable : ℕ → ℕ

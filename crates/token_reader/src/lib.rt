@@ -1,5 +1,5 @@
 // A reader over a document that knows its place: it answers the next token there, and adds no rule to the cutting into tokens.
-// The struct holds the document, so each function over it is thin and proved by a walk. The work is done by
+// The struct holds the document, and each function over it is thin. The work is done by
 // `next_token_from`, which takes the document and the place by themselves.
 #![tactic(auto)]
 
