@@ -30,7 +30,8 @@ use Rattle.state.specs.Cursor.{TokenHere}
 use Rattle.state.specs.Represents.{Tables, room_in}
 use Rattle.token_iri.specs.Tests.{token_as, iri_refusal, namespace_refusal}
 use Rattle.token_iri.specs.Addresses.{Leaves, DeclaresNamespace, DeclaresBase}
-use Rattle.simulation.specs.Simulation.{Held, held, tables_of, here, Holding, Ready, Turns, refusal_here}
+use Rattle.simulation.specs.Simulation.{held, tables_of, here, Holding, Ready, Turns, refusal_here}
+use Rattle.state.specs.declared.Held.{Held}
 use Rattle.simulation.proofs.Tests.{among_code}
 use Rattle.simulation.proofs.Turning.{turns_then, turns_stop, turns_none}
 use Rattle.nodes.specs.Nodes.{Passed}

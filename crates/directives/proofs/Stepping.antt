@@ -24,7 +24,8 @@ use Rattle.state.specs.Words.{depth_word, graph_word, at_word, blanks_word, len_
 use Rattle.state.specs.Cursor.{TokenHere}
 use Rattle.state.specs.Represents.{Tables, room_in, Represents}
 use Rattle.token_iri.specs.Addresses.{Leaves}
-use Rattle.simulation.specs.Simulation.{Held, held, tables_of, here, Holding, Ready, Turns}
+use Rattle.simulation.specs.Simulation.{held, tables_of, here, Holding, Ready, Turns}
+use Rattle.state.specs.declared.Held.{Held}
 use Rattle.simulation.proofs.Compose.{same_all}
 use Rattle.simulation.proofs.Turning.{turns_token}
 use Rattle.nodes.specs.Nodes.{Passed}

@@ -10,7 +10,8 @@ use Rattle.machine.specs.Frame.{Open, statement}
 use Rattle.state.specs.Words.{at_in, depth_in}
 use Rattle.state.specs.Cursor.{Cursor}
 use Rattle.token_iri.specs.Tests.{Sound}
-use Rattle.simulation.specs.Simulation.{Held, held, Ready, Turns}
+use Rattle.simulation.specs.Simulation.{held, Ready, Turns}
+use Rattle.state.specs.declared.Held.{Held}
 
 -- The kinds that begin a directive.
 abbrev pub directive_kinds : List Kind

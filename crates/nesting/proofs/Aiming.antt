@@ -15,7 +15,8 @@ use Rattle.grammar.specs.Productions.{Mode}
 use Rattle.state.specs.Words.{at_word, depth_word, graph_word, list_word, kind_in, at_in, depth_in}
 use Rattle.state.specs.Cursor.{Cursor, TokenHere}
 use Rattle.state.specs.Represents.{Tables}
-use Rattle.simulation.specs.Simulation.{Held, held, tables_of, Holding, goes, Ready, Comes}
+use Rattle.simulation.specs.Simulation.{held, tables_of, Holding, goes, Ready, Comes}
+use Rattle.state.specs.declared.Held.{Held}
 use Rattle.nodes.specs.Nodes.{Aimed, Spotted}
 use Rattle.nodes.proofs.Moving.{cursor_words, left_words}
 use Rattle.nodes.proofs.Passing.{represents_words}

@@ -11,7 +11,8 @@ use Rattle.text.specs.Text.{Text}
 use Rattle.machine.specs.Frame.{bracket_end, Place, cells, Frame, list, after_object}
 use Rattle.machine.specs.Rules.{after_node}
 use Rattle.state.specs.Words.{depth_word, list_word, level_word, level_size, depth_in}
-use Rattle.simulation.specs.Simulation.{Held, Ready}
+use Rattle.simulation.specs.Simulation.{Ready}
+use Rattle.state.specs.declared.Held.{Held}
 use Rattle.nesting.specs.Nesting.{level_x, level_y, Marked, ListOf, Saves, Levels, Deep}
 use Rattle.nesting.proofs.Aiming.{ready_words}
 use Rattle.limits.specs.Limits.{depth_limit}

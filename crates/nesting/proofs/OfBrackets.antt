@@ -15,7 +15,8 @@ use Rattle.machine.specs.Frame.{bracket_end, object_of, Frame, bracket, object}
 use Rattle.machine.specs.Rules.{find_rule, frame_rules, after_properties}
 use Rattle.machine.specs.Refusals.{new_depth}
 use Rattle.state.specs.Words.{kind_word, kind_in, depth_in, node_in, graph_in}
-use Rattle.simulation.specs.Simulation.{code_among, Held, held, here, Ready, Reads, on_top, refusal_here}
+use Rattle.simulation.specs.Simulation.{code_among, held, here, Ready, Reads, on_top, refusal_here}
+use Rattle.state.specs.declared.Held.{Held}
 use Rattle.simulation.proofs.Compose.{comes_then, comes_within}
 use Rattle.simulation.proofs.Tests.{among_code}
 use Rattle.simulation.proofs.Frames.{reads_does, reads_none}

@@ -11,7 +11,8 @@ use Rattle.token.specs.Kind.{kind_code, close_paren}
 use Rattle.machine.specs.Frame.{full_stop, Place, subject_before, object_of, element_of, Cells, no_cell, cells, list}
 use Rattle.machine.specs.Rules.{extended, after_node}
 use Rattle.state.specs.Words.{terms_word, kind_word, at_word, depth_word, x_word, y_word, opened_word, kind_in, at_in, depth_in, node_in}
-use Rattle.simulation.specs.Simulation.{Held, held, Ready, Reads, on_top}
+use Rattle.simulation.specs.Simulation.{held, Ready, Reads, on_top}
+use Rattle.state.specs.declared.Held.{Held}
 use Rattle.simulation.proofs.Compose.{comes_here, comes_then, comes_stop}
 use Rattle.nodes.specs.Nodes.{Aimed, Fills, Steady, Spotted, Belongs, LastCell, InList, Closes}
 use Rattle.nodes.proofs.Passing.{depth_closing}

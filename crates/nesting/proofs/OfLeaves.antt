@@ -11,7 +11,8 @@ use Rattle.token.specs.Tokens.{Token}
 use Rattle.token.proofs.KindCodes.{each_kind}
 use Rattle.machine.specs.Rules.{find_rule}
 use Rattle.state.specs.Words.{kind_in}
-use Rattle.simulation.specs.Simulation.{code_among, Held, here, Ready}
+use Rattle.simulation.specs.Simulation.{code_among, here, Ready}
+use Rattle.state.specs.declared.Held.{Held}
 use Rattle.simulation.proofs.Tests.{kinds_of, among_any, no_rule, among_code}
 use Rattle.nodes.specs.Nodes.{term_rules, Fills, Settled, PutsTerm}
 use Rattle.nesting.specs.Nesting.{Leaf}

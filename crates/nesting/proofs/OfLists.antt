@@ -10,7 +10,8 @@ use Rattle.token.specs.Kind.{kind_code, close_paren}
 use Rattle.machine.specs.Frame.{Place, object_of, Cells, no_cell, cells, Frame, list}
 use Rattle.machine.specs.Rules.{extended, after_node}
 use Rattle.state.specs.Words.{terms_word, kind_word, depth_word, list_word, x_word, y_word, opened_word, last_word, level_word, kind_in, at_in, depth_in, node_in, list_in}
-use Rattle.simulation.specs.Simulation.{Held, held, Ready, Reads, on_top}
+use Rattle.simulation.specs.Simulation.{held, Ready, Reads, on_top}
+use Rattle.state.specs.declared.Held.{Held}
 use Rattle.simulation.proofs.Compose.{comes_here, comes_then, comes_stop, comes_within}
 use Rattle.simulation.proofs.Frames.{ready_does}
 use Rattle.simulation.proofs.Numbers.{next_small}

@@ -22,7 +22,8 @@ use Rattle.state.specs.Words.{terms_word, kind_word, at_word, depth_word, list_w
 use Rattle.state.specs.Cursor.{TokenHere}
 use Rattle.state.specs.Represents.{Tables}
 use Rattle.state.specs.Writes.{place_of, placed, opened_at}
-use Rattle.simulation.specs.Simulation.{code_among, Held, held, tables_of, here, Holding, Ready, Reads, on_top, Does, refusal_here}
+use Rattle.simulation.specs.Simulation.{code_among, held, tables_of, here, Holding, Ready, Reads, on_top, Does, refusal_here}
+use Rattle.state.specs.declared.Held.{Held}
 use Rattle.simulation.proofs.Compose.{comes_then, comes_stop, comes_within}
 use Rattle.simulation.proofs.Tests.{among_code}
 use Rattle.simulation.proofs.Frames.{reads_none, ready_does}

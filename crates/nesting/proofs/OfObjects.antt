@@ -11,7 +11,8 @@ use Rattle.machine.specs.Memory.{return}
 use Rattle.machine.specs.Frame.{Ending, full_stop, object, after_object}
 use Rattle.machine.specs.Refusals.{new_depth}
 use Rattle.state.specs.Words.{at_word, depth_word, kind_in, at_in, depth_in, graph_in}
-use Rattle.simulation.specs.Simulation.{Held, held, here, Ready, Reads, on_top}
+use Rattle.simulation.specs.Simulation.{held, here, Ready, Reads, on_top}
+use Rattle.state.specs.declared.Held.{Held}
 use Rattle.simulation.proofs.Compose.{comes_here, comes_then}
 use Rattle.simulation.proofs.Frames.{reads_does}
 use Rattle.nodes.specs.Nodes.{Aimed, Passed, Fills, Steady, Spotted}

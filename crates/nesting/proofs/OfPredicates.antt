@@ -10,7 +10,8 @@ use Rattle.text.specs.Text.{Text}
 use Rattle.token.specs.Kind.{kind_code, comma, semicolon}
 use Rattle.machine.specs.Frame.{Ending, bracket_end, Frame, object, after_object, after_semicolon}
 use Rattle.state.specs.Words.{at_word, depth_word, list_word, level_word, level_size, kind_in, at_in, depth_in, node_in, graph_in}
-use Rattle.simulation.specs.Simulation.{code_among, Held, held, Ready, Reads, on_top}
+use Rattle.simulation.specs.Simulation.{code_among, held, Ready, Reads, on_top}
+use Rattle.state.specs.declared.Held.{Held}
 use Rattle.simulation.proofs.Compose.{comes_then, comes_stop, comes_within}
 use Rattle.nodes.specs.Nodes.{Aimed, Passed, Spotted, PutsTerm, Slot, Verbs, verb_kinds}
 use Rattle.nodes.proofs.Predicates.{verbs_semicolon, ends_object, ends_semicolon}

@@ -12,7 +12,8 @@ use Rattle.text.specs.Text.{Text}
 use Rattle.machine.specs.Frame.{Ending, full_stop, Frame, object, after_object, after_semicolon}
 use Rattle.state.specs.Words.{kind_in, at_in, depth_in, node_in}
 use Rattle.state.specs.Cursor.{Cursor}
-use Rattle.simulation.specs.Simulation.{code_among, Held, held, Ready, Reads, on_top}
+use Rattle.simulation.specs.Simulation.{code_among, held, Ready, Reads, on_top}
+use Rattle.state.specs.declared.Held.{Held}
 use Rattle.simulation.proofs.Compose.{comes_here, comes_then, comes_within}
 use Rattle.nodes.specs.Nodes.{Aimed, Steady, PutsTerm, Verbs, verb_kinds}
 use Rattle.nodes.proofs.Predicates.{verbs_semicolon, ends_object, ends_semicolon}

@@ -12,7 +12,8 @@ use Rattle.token.specs.Kind.{end_kind, unreadable_kind, among, strings, kw_a}
 use Rattle.machine.specs.Frame.{Ending, full_stop, Frame, object, after_semicolon}
 use Rattle.state.specs.Words.{kind_word, at_word, depth_word, level_word, kind_in, at_in, depth_in, node_in}
 use Rattle.state.specs.Cursor.{TokenHere}
-use Rattle.simulation.specs.Simulation.{code_among, Held, held, here, Ready, Reads, on_top}
+use Rattle.simulation.specs.Simulation.{code_among, held, here, Ready, Reads, on_top}
+use Rattle.state.specs.declared.Held.{Held}
 use Rattle.simulation.proofs.Compose.{comes_then}
 use Rattle.simulation.proofs.Tests.{among_code}
 use Rattle.nodes.specs.Nodes.{Aimed, Spotted, PutsTerm, Verbs, verb_kinds, term_kinds}

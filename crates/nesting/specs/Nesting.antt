@@ -6,7 +6,8 @@ use Rattle.token.specs.Kind.{kind_code, strings, comma, semicolon, close_paren}
 use Rattle.machine.specs.Frame.{Ending, bracket_end, Place, Cells, no_cell, cells, Frame, bracket, list, object, after_object, after_semicolon}
 use Rattle.machine.specs.Rules.{after_node, after_properties}
 use Rattle.state.specs.Words.{terms_word, list_word, x_word, y_word, opened_word, last_word, level_word, level_size, kind_in, at_in, depth_in, node_in, list_in}
-use Rattle.simulation.specs.Simulation.{code_among, Held, held, Ready, Reads}
+use Rattle.simulation.specs.Simulation.{code_among, held, Ready, Reads}
+use Rattle.state.specs.declared.Held.{Held}
 use Rattle.nodes.specs.Nodes.{PutsTerm, Slot, Fills, Verbs, Ends, Steady, Settled, Belongs, InList}
 use Rattle.table.specs.Layout.{word_limit}
 

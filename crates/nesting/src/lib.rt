@@ -10,7 +10,7 @@ ghost use Rattle.state.specs.Words.{kind_in, depth_in, node_in, list_in};
 ghost use Rattle.environment.specs.Code.{words_size};
 ghost use Rattle.state.specs.Cursor.{Cursor};
 ghost use Rattle.state.specs.Writes.{placed, opened_at};
-ghost use Rattle.simulation.specs.Simulation.{code_among, Ready, Does, at_call, at_entry, at_exit};
+ghost use Rattle.simulation.specs.Simulation.{code_among, Ready, Does};
 ghost use Rattle.nodes.specs.Nodes.{spot_of, Spotted, Fills, Numbers, PutsTerm, Closes, Steady, term_kinds, verb_kinds};
 ghost use Rattle.token.specs.Kind.{kind_code, strings, kw_a, semicolon};
 ghost use Rattle.nesting.specs.Nesting.{Skips, Leaf, Awaited, Lists, Objects, Properties, Entered, level_x, level_y, Marked, SomeLevels, Deep, Values, Resumes, Contents, Closing, Predicates, Follows, Elements};
@@ -21,9 +21,9 @@ use state::Words;
 use token::Kind;
 
 // Goes behind the semicolons at the cursor.
-fn skip_semicolons(doc: &&[u8], st: &mut [usize; Layout::WORDS])
-    requires { (Cursor doc.now.now st.old × (length st.old ≡ words_size)) × (kind_in st.old ≡ kind_code semicolon) }
-    ensures { Skips doc.now.now st.old st.new }
+fn skip_semicolons(doc: &[u8], st: &mut [usize; Layout::WORDS])
+    requires { (Cursor doc.now st.old × (length st.old ≡ words_size)) × (kind_in st.old ≡ kind_code semicolon) }
+    ensures { Skips doc.now st.old st.new }
 {
     loop {
         nodes::pass(doc, st);
@@ -35,126 +35,76 @@ fn skip_semicolons(doc: &&[u8], st: &mut [usize; Layout::WORDS])
 
 // A node of its own tokens alone, or a predicate. It is called from more than one place, so that the compiler does not take it,
 // with what it holds on the stack, into the recursion.
-pub fn leaf(
-    doc: &&[u8],
-    work: &mut &mut [u8],
-    rows: &mut &mut [u32],
-    terms: &mut &mut [u32],
-    store: &mut &mut [u8],
-    st: &mut [usize; Layout::WORDS],
-) -> u8
-    requires { (Ready doc.now.now (at_call work rows terms store st) × Spotted (at_call work rows terms store st)) × (code_among strings (kind_in st.old) ≡ false → code_among (kw_a ∷ term_kinds) (kind_in st.old) ≡ true) }
-    ensures { Leaf doc.now.now (at_entry work rows terms store st) (at_exit work rows terms store st) result }
+pub fn leaf(doc: &[u8], held: &mut Held<'_>) -> Result<(), Refusal>
+    requires { (Ready doc.now held.old × Spotted held.old) × (code_among strings (kind_in held.old.st) ≡ false → code_among (kw_a ∷ term_kinds) (kind_in held.old.st) ≡ true) }
+    ensures { Leaf doc.now held.old held.new (code result) }
 {
-    if nodes::is_string(st[Words::KIND]) {
-        return rdf_literals::put_string(doc, work, rows, terms, store, st);
+    if nodes::is_string(held.st[Words::KIND]) {
+        return rdf_literals::put_string(doc, held);
     }
-    simple_terms::put_term(doc, work, rows, terms, store, st)
+    simple_terms::put_term(doc, held)
 }
 
 // A node where one is awaited. The level of zeros ends what is read in its brackets.
-fn node(
-    doc: &&[u8],
-    work: &mut &mut [u8],
-    rows: &mut &mut [u32],
-    terms: &mut &mut [u32],
-    store: &mut &mut [u8],
-    st: &mut [usize; Layout::WORDS],
-) -> u8
-    requires { (Ready doc.now.now (at_call work rows terms store st) × Spotted (at_call work rows terms store st)) × Awaited doc.now.now (at_call work rows terms store st) }
-    ensures { Fills doc.now.now (at_entry work rows terms store st) (at_exit work rows terms store st) result × Steady (at_entry work rows terms store st) (at_exit work rows terms store st) result }
+fn node(doc: &[u8], held: &mut Held<'_>) -> Result<(), Refusal>
+    requires { (Ready doc.now held.old × Spotted held.old) × Awaited doc.now held.old }
+    ensures { Fills doc.now held.old held.new (code result) × Steady held.old held.new (code result) }
 {
-    mark(st, 0, 0);
-    value(doc, work, rows, terms, store, st)
+    mark(&mut held.st, 0, 0);
+    value(doc, held)
 }
 
 // Predicates of s and their objects, from a predicate on to what cannot go on with them.
-pub fn properties(
-    doc: &&[u8],
-    work: &mut &mut [u8],
-    rows: &mut &mut [u32],
-    terms: &mut &mut [u32],
-    store: &mut &mut [u8],
-    st: &mut [usize; Layout::WORDS],
-    s: usize,
-) -> u8
-    requires { (Ready doc.now.now (at_call work rows terms store st) × (s < word_limit)) × ((0 < s) × (code_among verb_kinds (kind_in st.old) ≡ true)) }
-    ensures { Properties doc.now.now (at_entry work rows terms store st) (at_exit work rows terms store st) s result }
+pub fn properties(doc: &[u8], held: &mut Held<'_>, s: usize) -> Result<(), Refusal>
+    requires { (Ready doc.now held.old × (s < word_limit)) × ((0 < s) × (code_among verb_kinds (kind_in held.old.st) ≡ true)) }
+    ensures { Properties doc.now held.old held.new s (code result) }
 {
     loop {
-        nodes::aim(st, 0, 0, 0, 0, 0);
-        let c = leaf(doc, work, rows, terms, store, st);
-        if c != 0 {
-            return c;
+        nodes::aim(&mut held.st, 0, 0, 0, 0, 0);
+        leaf(doc, held)?;
+        let p = held.st[Words::NODE];
+        objects(doc, held, s, p)?;
+        if held.st[Words::KIND] != Kind::SEMICOLON {
+            return Ok(());
         }
-        let p = st[Words::NODE];
-        let d = objects(doc, work, rows, terms, store, st, s, p);
-        if d != 0 {
-            return d;
-        }
-        if st[Words::KIND] != Kind::SEMICOLON {
-            return 0;
-        }
-        skip_semicolons(doc, st);
-        if !nodes::is_verb(st[Words::KIND]) {
-            return 0;
+        skip_semicolons(doc, &mut held.st);
+        if !nodes::is_verb(held.st[Words::KIND]) {
+            return Ok(());
         }
     }
 }
 
 // The objects of s and p.
-fn objects(
-    doc: &&[u8],
-    work: &mut &mut [u8],
-    rows: &mut &mut [u32],
-    terms: &mut &mut [u32],
-    store: &mut &mut [u8],
-    st: &mut [usize; Layout::WORDS],
-    s: usize,
-    p: usize,
-) -> u8
-    requires { (Ready doc.now.now (at_call work rows terms store st) × ((s < word_limit) × (p < word_limit))) × ((0 < s) × (0 < p)) }
-    ensures { Objects doc.now.now (at_entry work rows terms store st) (at_exit work rows terms store st) s p result }
+fn objects(doc: &[u8], held: &mut Held<'_>, s: usize, p: usize) -> Result<(), Refusal>
+    requires { (Ready doc.now held.old × ((s < word_limit) × (p < word_limit))) × ((0 < s) × (0 < p)) }
+    ensures { Objects doc.now held.old held.new s p (code result) }
 {
     loop {
-        nodes::aim(st, 0, s, p, 0, 0);
-        let c = node(doc, work, rows, terms, store, st);
-        if c != 0 {
-            return c;
+        nodes::aim(&mut held.st, 0, s, p, 0, 0);
+        node(doc, held)?;
+        if held.st[Words::KIND] != Kind::COMMA {
+            return Ok(());
         }
-        if st[Words::KIND] != Kind::COMMA {
-            return 0;
-        }
-        nodes::pass(doc, st);
+        nodes::pass(doc, &mut held.st);
     }
 }
 
 // The elements of a list, behind its bracket, and its end.
-pub fn elements(
-    doc: &&[u8],
-    work: &mut &mut [u8],
-    rows: &mut &mut [u32],
-    terms: &mut &mut [u32],
-    store: &mut &mut [u8],
-    st: &mut [usize; Layout::WORDS],
-) -> u8
-    requires { (Ready doc.now.now (at_call work rows terms store st) × Spotted (at_call work rows terms store st)) × (0 < depth_in st.old) }
-    ensures { Lists doc.now.now (at_entry work rows terms store st) (at_exit work rows terms store st) result }
+pub fn elements(doc: &[u8], held: &mut Held<'_>) -> Result<(), Refusal>
+    requires { (Ready doc.now held.old × Spotted held.old) × (0 < depth_in held.old.st) }
+    ensures { Lists doc.now held.old held.new (code result) }
 {
-    let x = st[Words::X];
-    let y = st[Words::Y];
-    let opened = st[Words::OPENED];
+    let x = held.st[Words::X];
+    let y = held.st[Words::Y];
+    let opened = held.st[Words::OPENED];
     let mut last: usize = 0;
     loop {
-        nodes::aim(st, 1, x, y, opened, last);
-        if st[Words::KIND] == Kind::CLOSE_PAREN {
-            return simple_terms::close_list(doc, work, rows, terms, store, st);
+        nodes::aim(&mut held.st, 1, x, y, opened, last);
+        if held.st[Words::KIND] == Kind::CLOSE_PAREN {
+            return simple_terms::close_list(doc, held);
         }
-        let cell = st[Words::TERMS] + 1;
-        let c = node(doc, work, rows, terms, store, st);
-        if c != 0 {
-            return c;
-        }
+        let cell = held.st[Words::TERMS] + 1;
+        node(doc, held)?;
         last = cell;
     }
 }
@@ -219,186 +169,122 @@ fn enter_list(st: &mut [usize; Layout::WORDS], at: usize, cell: usize)
 
 // A node where one is awaited; then what is resumed behind it.
 #[cycle(nesting)]
-fn value(
-    doc: &&[u8],
-    work: &mut &mut [u8],
-    rows: &mut &mut [u32],
-    terms: &mut &mut [u32],
-    store: &mut &mut [u8],
-    st: &mut [usize; Layout::WORDS],
-) -> u8
-    requires { (Ready doc.now.now (at_call work rows terms store st) × Spotted (at_call work rows terms store st)) × (Awaited doc.now.now (at_call work rows terms store st) × SomeLevels st.old (depth_in st.old)) }
-    ensures { Values doc.now.now (at_entry work rows terms store st) (at_exit work rows terms store st) result }
+fn value(doc: &[u8], held: &mut Held<'_>) -> Result<(), Refusal>
+    requires { (Ready doc.now held.old × Spotted held.old) × (Awaited doc.now held.old × SomeLevels held.old.st (depth_in held.old.st)) }
+    ensures { Values doc.now held.old held.new (code result) }
 {
-    let kind = st[Words::KIND];
+    let kind = held.st[Words::KIND];
     if is_leaf(kind) {
-        let c = leaf(doc, work, rows, terms, store, st);
-        if c != 0 {
-            return c;
-        }
-        return resume(doc, work, rows, terms, store, st);
+        leaf(doc, held)?;
+        return resume(doc, held);
     }
     if kind == Kind::OPEN_BRACKET {
-        let c = simple_terms::put_bracket(doc, work, rows, terms, store, st);
-        if c != 0 {
-            return c;
-        }
-        return contents(doc, work, rows, terms, store, st);
+        simple_terms::put_bracket(doc, held)?;
+        return contents(doc, held);
     }
     if kind == Kind::OPEN_PAREN {
-        let at = st[Words::AT];
-        let cell = st[Words::TERMS] + 1;
-        let c = simple_terms::put_paren(doc, work, rows, terms, store, st);
-        if c != 0 {
-            return c;
-        }
-        enter_list(st, at, cell);
-        return element(doc, work, rows, terms, store, st);
+        let at = held.st[Words::AT];
+        let cell = held.st[Words::TERMS] + 1;
+        simple_terms::put_paren(doc, held)?;
+        enter_list(&mut held.st, at, cell);
+        return element(doc, held);
     }
-    simulation::unexpected(*doc, st)
+    Err(simulation::unexpected(doc, &held.st))
 }
 
 // What the level of this depth says; nothing where it says that the caller goes on.
 #[cycle(nesting)]
-fn resume(
-    doc: &&[u8],
-    work: &mut &mut [u8],
-    rows: &mut &mut [u32],
-    terms: &mut &mut [u32],
-    store: &mut &mut [u8],
-    st: &mut [usize; Layout::WORDS],
-) -> u8
-    requires { Ready doc.now.now (at_call work rows terms store st) × SomeLevels st.old (depth_in st.old) }
-    ensures { Resumes doc.now.now (at_entry work rows terms store st) (at_exit work rows terms store st) result }
+fn resume(doc: &[u8], held: &mut Held<'_>) -> Result<(), Refusal>
+    requires { Ready doc.now held.old × SomeLevels held.old.st (depth_in held.old.st) }
+    ensures { Resumes doc.now held.old held.new (code result) }
 {
-    if level_x(st) != 0 {
-        return after_object(doc, work, rows, terms, store, st);
+    if level_x(&held.st) != 0 {
+        return after_object(doc, held);
     }
-    let last = level_y(st);
+    let last = level_y(&held.st);
     if last == 0 {
-        return 0;
+        return Ok(());
     }
-    nodes::aim(st, 1, 0, 0, 0, last);
-    element(doc, work, rows, terms, store, st)
+    nodes::aim(&mut held.st, 1, 0, 0, 0, last);
+    element(doc, held)
 }
 
 // What is in a bracket, behind it.
 #[cycle(nesting)]
-fn contents(
-    doc: &&[u8],
-    work: &mut &mut [u8],
-    rows: &mut &mut [u32],
-    terms: &mut &mut [u32],
-    store: &mut &mut [u8],
-    st: &mut [usize; Layout::WORDS],
-) -> u8
-    requires { (Ready doc.now.now (at_call work rows terms store st) × (node_in st.old < word_limit)) × ((0 < node_in st.old) × Deep st.old) }
-    ensures { Contents doc.now.now (at_entry work rows terms store st) (at_exit work rows terms store st) result }
+fn contents(doc: &[u8], held: &mut Held<'_>) -> Result<(), Refusal>
+    requires { (Ready doc.now held.old × (node_in held.old.st < word_limit)) × ((0 < node_in held.old.st) × Deep held.old.st) }
+    ensures { Contents doc.now held.old held.new (code result) }
 {
-    if !nodes::is_verb(st[Words::KIND]) {
-        return close_bracket(doc, work, rows, terms, store, st);
+    if !nodes::is_verb(held.st[Words::KIND]) {
+        return close_bracket(doc, held);
     }
-    let n = st[Words::NODE];
-    mark(st, n, 0);
-    predicate(doc, work, rows, terms, store, st)
+    let n = held.st[Words::NODE];
+    mark(&mut held.st, n, 0);
+    predicate(doc, held)
 }
 
 // The end of a bracket.
 #[cycle(nesting)]
-fn close_bracket(
-    doc: &&[u8],
-    work: &mut &mut [u8],
-    rows: &mut &mut [u32],
-    terms: &mut &mut [u32],
-    store: &mut &mut [u8],
-    st: &mut [usize; Layout::WORDS],
-) -> u8
-    requires { Ready doc.now.now (at_call work rows terms store st) × Deep st.old }
-    ensures { Closing doc.now.now (at_entry work rows terms store st) (at_exit work rows terms store st) result }
+fn close_bracket(doc: &[u8], held: &mut Held<'_>) -> Result<(), Refusal>
+    requires { Ready doc.now held.old × Deep held.old.st }
+    ensures { Closing doc.now held.old held.new (code result) }
 {
-    if st[Words::KIND] != Kind::CLOSE_BRACKET {
-        return simulation::unexpected(*doc, st);
+    if held.st[Words::KIND] != Kind::CLOSE_BRACKET {
+        return Err(simulation::unexpected(doc, &held.st));
     }
-    nodes::leave(doc, st);
-    resume(doc, work, rows, terms, store, st)
+    nodes::leave(doc, &mut held.st);
+    resume(doc, held)
 }
 
 // A predicate of the subject that the level holds; then its first object.
 #[cycle(nesting)]
-fn predicate(
-    doc: &&[u8],
-    work: &mut &mut [u8],
-    rows: &mut &mut [u32],
-    terms: &mut &mut [u32],
-    store: &mut &mut [u8],
-    st: &mut [usize; Layout::WORDS],
-) -> u8
-    requires { (Ready doc.now.now (at_call work rows terms store st) × (level_x st.old (depth_in st.old) < word_limit)) × (((0 < level_x st.old (depth_in st.old)) × (code_among verb_kinds (kind_in st.old) ≡ true)) × Deep st.old) }
-    ensures { Predicates doc.now.now (at_entry work rows terms store st) (at_exit work rows terms store st) result }
+fn predicate(doc: &[u8], held: &mut Held<'_>) -> Result<(), Refusal>
+    requires { (Ready doc.now held.old × (level_x held.old.st (depth_in held.old.st) < word_limit)) × (((0 < level_x held.old.st (depth_in held.old.st)) × (code_among verb_kinds (kind_in held.old.st) ≡ true)) × Deep held.old.st) }
+    ensures { Predicates doc.now held.old held.new (code result) }
 {
-    let s = level_x(st);
-    nodes::aim(st, 0, 0, 0, 0, 0);
-    let c = leaf(doc, work, rows, terms, store, st);
-    if c != 0 {
-        return c;
-    }
-    let p = st[Words::NODE];
-    mark(st, s, p);
-    nodes::aim(st, 0, s, p, 0, 0);
-    value(doc, work, rows, terms, store, st)
+    let s = level_x(&held.st);
+    nodes::aim(&mut held.st, 0, 0, 0, 0, 0);
+    leaf(doc, held)?;
+    let p = held.st[Words::NODE];
+    mark(&mut held.st, s, p);
+    nodes::aim(&mut held.st, 0, s, p, 0, 0);
+    value(doc, held)
 }
 
 // Behind an object in a bracket: one more, or a predicate, or the end.
 #[cycle(nesting)]
-fn after_object(
-    doc: &&[u8],
-    work: &mut &mut [u8],
-    rows: &mut &mut [u32],
-    terms: &mut &mut [u32],
-    store: &mut &mut [u8],
-    st: &mut [usize; Layout::WORDS],
-) -> u8
-    requires { Ready doc.now.now (at_call work rows terms store st) × ((0 < level_x st.old (depth_in st.old)) × SomeLevels st.old (depth_in st.old)) }
-    ensures { Follows doc.now.now (at_entry work rows terms store st) (at_exit work rows terms store st) result }
+fn after_object(doc: &[u8], held: &mut Held<'_>) -> Result<(), Refusal>
+    requires { Ready doc.now held.old × ((0 < level_x held.old.st (depth_in held.old.st)) × SomeLevels held.old.st (depth_in held.old.st)) }
+    ensures { Follows doc.now held.old held.new (code result) }
 {
-    if st[Words::KIND] == Kind::COMMA {
-        nodes::pass(doc, st);
-        let s = level_x(st);
-        let p = level_y(st);
-        nodes::aim(st, 0, s, p, 0, 0);
-        return value(doc, work, rows, terms, store, st);
+    if held.st[Words::KIND] == Kind::COMMA {
+        nodes::pass(doc, &mut held.st);
+        let s = level_x(&held.st);
+        let p = level_y(&held.st);
+        nodes::aim(&mut held.st, 0, s, p, 0, 0);
+        return value(doc, held);
     }
-    if st[Words::KIND] != Kind::SEMICOLON {
-        return close_bracket(doc, work, rows, terms, store, st);
+    if held.st[Words::KIND] != Kind::SEMICOLON {
+        return close_bracket(doc, held);
     }
-    skip_semicolons(doc, st);
-    if nodes::is_verb(st[Words::KIND]) {
-        return predicate(doc, work, rows, terms, store, st);
+    skip_semicolons(doc, &mut held.st);
+    if nodes::is_verb(held.st[Words::KIND]) {
+        return predicate(doc, held);
     }
-    close_bracket(doc, work, rows, terms, store, st)
+    close_bracket(doc, held)
 }
 
 // The next element of a list, or its end.
 #[cycle(nesting)]
-fn element(
-    doc: &&[u8],
-    work: &mut &mut [u8],
-    rows: &mut &mut [u32],
-    terms: &mut &mut [u32],
-    store: &mut &mut [u8],
-    st: &mut [usize; Layout::WORDS],
-) -> u8
-    requires { (Ready doc.now.now (at_call work rows terms store st) × Spotted (at_call work rows terms store st)) × ((list_in st.old ≡ 1) × Deep st.old) }
-    ensures { Elements doc.now.now (at_entry work rows terms store st) (at_exit work rows terms store st) result }
+fn element(doc: &[u8], held: &mut Held<'_>) -> Result<(), Refusal>
+    requires { (Ready doc.now held.old × Spotted held.old) × ((list_in held.old.st ≡ 1) × Deep held.old.st) }
+    ensures { Elements doc.now held.old held.new (code result) }
 {
-    if st[Words::KIND] == Kind::CLOSE_PAREN {
-        let c = simple_terms::close_list(doc, work, rows, terms, store, st);
-        if c != 0 {
-            return c;
-        }
-        return resume(doc, work, rows, terms, store, st);
+    if held.st[Words::KIND] == Kind::CLOSE_PAREN {
+        simple_terms::close_list(doc, held)?;
+        return resume(doc, held);
     }
-    let cell = st[Words::TERMS] + 1;
-    mark(st, 0, cell);
-    value(doc, work, rows, terms, store, st)
+    let cell = held.st[Words::TERMS] + 1;
+    mark(&mut held.st, 0, cell);
+    value(doc, held)
 }

@@ -19,7 +19,8 @@ use Rattle.machine.specs.Call.{first_refusal}
 use Rattle.machine.proofs.Firsts.{first_before, fits_passes, passes_fits}
 use Rattle.state.specs.Words.{kind_word, blanks_word, rows_word, terms_word, used_word, kind_in, depth_in, graph_in}
 use Rattle.state.specs.Represents.{Tables, room_in, Represents}
-use Rattle.simulation.specs.Simulation.{Held, held, tables_of, here, token_refusal, Does}
+use Rattle.simulation.specs.Simulation.{held, tables_of, here, token_refusal, Does}
+use Rattle.state.specs.declared.Held.{Held}
 use Rattle.nodes.specs.Nodes.{Passed}
 use Rattle.table.specs.Layout.{word_limit}
 

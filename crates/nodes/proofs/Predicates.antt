@@ -21,7 +21,8 @@ use Rattle.machine.specs.Refusals.{new_depth}
 use Rattle.state.specs.Words.{x_word, y_word, kind_in, node_in, list_in}
 use Rattle.state.specs.Writes.{placed}
 use Rattle.state.specs.Cursor.{TokenHere}
-use Rattle.simulation.specs.Simulation.{code_among, Held, here, Ready, Reads}
+use Rattle.simulation.specs.Simulation.{code_among, here, Ready, Reads}
+use Rattle.state.specs.declared.Held.{Held}
 use Rattle.simulation.proofs.Tests.{kinds_of, among_any, no_rule, among_code}
 use Rattle.simulation.proofs.Frames.{reads_does}
 use Rattle.nodes.specs.Nodes.{term_rules, term_kinds, verb_kinds, spot_of, PutsTerm, Verbs, Ends}

@@ -24,7 +24,8 @@ use Rattle.state.specs.Words.{terms_word, x_word, y_word, opened_word, last_word
 use Rattle.state.specs.Represents.{Tables}
 use Rattle.state.specs.Writes.{place_of, cells_of, begin, new_element, placed, opened_at, closed}
 use Rattle.state.specs.Cursor.{TokenHere}
-use Rattle.simulation.specs.Simulation.{Held, here, Holding, Ready, Reads, Does, Gives}
+use Rattle.simulation.specs.Simulation.{here, Holding, Ready, Reads, Does, Gives}
+use Rattle.state.specs.declared.Held.{Held}
 use Rattle.simulation.proofs.Tests.{kinds_of, among_any, no_rule, among_code}
 use Rattle.simulation.proofs.Frames.{reads_does}
 use Rattle.nodes.specs.Nodes.{node_rules, term_rules, spot_of, slot_place, object_kinds, term_kinds, Slot, Fills, PutsTerm, Belongs, LastCell, InList}

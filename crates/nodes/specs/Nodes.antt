@@ -14,7 +14,8 @@ use Rattle.state.specs.Cursor.{Cursor, TokenHere, remaining}
 use Rattle.state.specs.Represents.{Tables}
 use Rattle.state.specs.Writes.{place_of, begin, placed, closed}
 use Rattle.state.specs.declared.Spot.{Spot}
-use Rattle.simulation.specs.Simulation.{Held, here, Holding, Reads, Gives}
+use Rattle.simulation.specs.Simulation.{here, Holding, Reads, Gives}
+use Rattle.state.specs.declared.Held.{Held}
 use Rattle.table.specs.Layout.{word_limit}
 
 -- The terms that one token stands for: objects, and predicates.

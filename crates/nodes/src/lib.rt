@@ -12,7 +12,7 @@ ghost use Rattle.machine.specs.Rules.{find_rule};
 ghost use Rattle.state.specs.Words.{depth_in, graph_in};
 ghost use Rattle.state.specs.Cursor.{Cursor, TokenHere};
 ghost use Rattle.state.specs.Writes.{placed, opened_at, closed};
-ghost use Rattle.simulation.specs.Simulation.{code_among, held, here, Ready, Gives, Does};
+ghost use Rattle.simulation.specs.Simulation.{code_among, here, Ready, Gives, Does};
 ghost use Rattle.nodes.specs.Nodes.{term_rules, spot_of, Spotted, Fills, Aimed, Passed, Steady, term_kinds, verb_kinds};
 
 use environment::Layout;
@@ -70,27 +70,27 @@ pub fn aim(
 }
 
 // Goes behind a token that writes nothing.
-pub fn pass(doc: &&[u8], st: &mut [usize; Layout::WORDS])
-    requires { (Cursor doc.now.now st.old × TokenHere doc.now.now st.old) × (length st.old ≡ words_size) }
-    ensures { Passed doc.now.now st.old st.new (depth_in st.old) (graph_in st.old) }
+pub fn pass(doc: &[u8], st: &mut [usize; Layout::WORDS])
+    requires { (Cursor doc.now st.old × TokenHere doc.now st.old) × (length st.old ≡ words_size) }
+    ensures { Passed doc.now st.old st.new (depth_in st.old) (graph_in st.old) }
 {
-    cursor::advance(*doc, st);
+    cursor::advance(doc, st);
 }
 
 // Goes behind a closing bracket.
-pub fn leave(doc: &&[u8], st: &mut [usize; Layout::WORDS])
-    requires { (Cursor doc.now.now st.old × TokenHere doc.now.now st.old) × ((length st.old ≡ words_size) × (0 < depth_in st.old)) }
-    ensures { Passed doc.now.now st.old st.new (depth_in st.old - 1) (graph_in st.old) }
+pub fn leave(doc: &[u8], st: &mut [usize; Layout::WORDS])
+    requires { (Cursor doc.now st.old × TokenHere doc.now st.old) × ((length st.old ≡ words_size) × (0 < depth_in st.old)) }
+    ensures { Passed doc.now st.old st.new (depth_in st.old - 1) (graph_in st.old) }
 {
-    cursor::advance(*doc, st);
+    cursor::advance(doc, st);
     st[Words::DEPTH] = st[Words::DEPTH] - 1;
 }
 
 // Goes behind a brace: rows now stand in the graph g.
-pub fn enter(doc: &&[u8], st: &mut [usize; Layout::WORDS], g: usize)
-    requires { (Cursor doc.now.now st.old × TokenHere doc.now.now st.old) × (length st.old ≡ words_size) }
-    ensures { Passed doc.now.now st.old st.new (depth_in st.old) g }
+pub fn enter(doc: &[u8], st: &mut [usize; Layout::WORDS], g: usize)
+    requires { (Cursor doc.now st.old × TokenHere doc.now st.old) × (length st.old ≡ words_size) }
+    ensures { Passed doc.now st.old st.new (depth_in st.old) g }
 {
-    cursor::advance(*doc, st);
+    cursor::advance(doc, st);
     st[Words::GRAPH] = g;
 }

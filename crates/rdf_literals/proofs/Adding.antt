@@ -13,7 +13,8 @@ use Rattle.machine.specs.Refusals.{new_depth}
 use Rattle.state.specs.Words.{at_word, depth_word, len_word, at_in, depth_in, graph_in}
 use Rattle.state.specs.Cursor.{remaining}
 use Rattle.state.specs.Represents.{Tables, lent_tables, room_in, Represented, room_refusal, Puts}
-use Rattle.simulation.specs.Simulation.{Held, held, tables_of, here, Holding, Same, token_refusal, Does}
+use Rattle.simulation.specs.Simulation.{held, tables_of, here, Holding, Same, token_refusal, Does}
+use Rattle.state.specs.declared.Held.{Held}
 use Rattle.simulation.proofs.Compose.{same_both}
 use Rattle.nodes.specs.Nodes.{Passed}
 use Rattle.nodes.proofs.Moving.{cursor_words, left_words}

@@ -32,8 +32,7 @@ use Rattle.state.specs.Writes.{node_write, begin, placed, opened_at, SpotFits, N
 use Rattle.state.specs.declared.Spot.{Spot}
 use Rattle.state.specs.declared.Node.{Node}
 use Rattle.token_iri.specs.Tests.{token_as, Sound, iri_refusal}
-use Rattle.token_iri.specs.Addresses.{front_of, back_of, Addresses, StandsFor}
-use Rattle.token_iri.specs.declared.Address.{Address}
+use Rattle.token_iri.specs.Addresses.{Answered, front_of, back_of, Addresses, StandsFor}
 use Rattle.token_iri.proofs.Begins.{iriref_begins}
 use Rattle.simulation.specs.Simulation.{code_among, token_refusal}
 use Rattle.rdf_literals.specs.Literals.{between, text_of, Quoted, spot_at, own_spot, Located, Obeys}
@@ -78,7 +77,7 @@ literal_fits k low high doc at len n q work back text tag e h t =
       text_slice = size;
     }
 
-pub address_fits : (a : Address) (token text buffer work back tag : Text) → Located a token text buffer work → back ≡ back_of a token buffer → length tag ≤ document_limit
+pub address_fits : (a : Answered) (token text buffer work back tag : Text) → Located a token text buffer work → back ≡ back_of a token buffer → length tag ≤ document_limit
     → NodeFits (record { kind = 3; start = a.start; end = a.end; form = a.form; text = Escaped }) work back text tag
 unfolding undo bad
 address_fits a token text buffer work back tag l e t =
@@ -120,7 +119,7 @@ module _ (s : Spot) (work work' : Text) (t t' : Tables) (st st' : List ℕ) (r :
   unfolding node_write joined undo
   puts_plain doc at len n back text tag e p = subst (λ (x : Text). Puts (placed s (typed (unescape x) back)) work work' t t' st st' r) e p
 
-  pub puts_address : (a : Address) (token text buffer back tag : Text) → back ≡ back_of a token buffer → Puts (placed s (node_write (record { kind = 3; start = a.start; end = a.end; form = a.form; text = Escaped }) work back text tag s.at)) work work' t t' st st' r
+  pub puts_address : (a : Answered) (token text buffer back tag : Text) → back ≡ back_of a token buffer → Puts (placed s (node_write (record { kind = 3; start = a.start; end = a.end; form = a.form; text = Escaped }) work back text tag s.at)) work work' t t' st st' r
       → Puts (placed s (typed (unescape text) (joined (front_of a work) a.form (back_of a token buffer)))) work work' t t' st st' r
   unfolding node_write undo
   puts_address a token text buffer back tag e p = subst (λ (x : Text). Puts (placed s (typed (unescape text) (joined (front_of a work) a.form x))) work work' t t' st st' r) e p
@@ -134,7 +133,7 @@ module _ (s : Spot) (work work' : Text) (t t' : Tables) (st st' : List ℕ) (r :
 
 -- ---- A datatype that was found
 
-module _ (a : Address) (token text buffer work : Text) where
+module _ (a : Answered) (token text buffer work : Text) where
   pub located_buffer : Located a token text buffer work → a.buffered ≡ true → a.to ≤ length buffer
   located_buffer l b = rw b at l.back_inside
 
@@ -269,7 +268,7 @@ whole x = take_all (length x - 0) x (omega arith)
 pub iri_range : (k : ℕ) → code_among iris k ≡ true → (kind_code IRIREF ≤ k) × (k ≤ kind_code PNAME_LN)
 iri_range k h = each_iri (λ (j : ℕ). (1 ≤ j) × (j ≤ 3)) (omega arith, omega arith) (omega arith, omega arith) (omega arith, omega arith) k h
 
-module _ (doc work : Text) (t : Tables) (st : List ℕ) (buffer : Text) (a : Address) (here_token : TokenHere doc st) (k : code_among iris (kind_in st) ≡ true)
+module _ (doc work : Text) (t : Tables) (st : List ℕ) (buffer : Text) (a : Answered) (here_token : TokenHere doc st) (k : code_among iris (kind_in st) ≡ true)
     (A : Addresses (kind_in st) (take (len_in st) (drop (at_in st) doc)) work st buffer a) where
   abbrev token_text : Text
   token_text = take (len_in st) (drop (at_in st) doc)
@@ -331,7 +330,7 @@ module _ (doc work : Text) (t : Tables) (st : List ℕ) (buffer : Text) (a : Add
         same old m h = typed_same (own_spot x y at) refl (text_of doc at len n) (unescape text) (joined (front_of a work) a.form (back_of a token_text buffer)) token_here m (ap unescape e) (sym ((stands_for old m h).iri z))
 
 -- The same for the slices as they are lent.
-module _ (doc work : Text) (t : Tables) (st : List ℕ) (buffer : Text) (a : Address) (here_token : TokenHere doc st) (k : code_among iris (kind_in st) ≡ true)
+module _ (doc work : Text) (t : Tables) (st : List ℕ) (buffer : Text) (a : Answered) (here_token : TokenHere doc st) (k : code_among iris (kind_in st) ≡ true)
     (A : Addresses (kind_in st) (take (at_in st + len_in st - at_in st) (drop (at_in st) doc)) (take (length work - 0) (drop 0 work)) st buffer a) where
   abbrev lent_token : Text
   lent_token = take (at_in st + len_in st - at_in st) (drop (at_in st) doc)

@@ -26,7 +26,8 @@ use Rattle.state.specs.Cursor.{token_of, remaining, Cursor, TokenHere}
 use Rattle.state.specs.Represents.{Tables, room_refusal}
 use Rattle.state.specs.Writes.{place_of, begin, placed, opened_at}
 use Rattle.cursor.proofs.Seeking.{ahead_token, ahead_none, ahead_end}
-use Rattle.simulation.specs.Simulation.{code_among, Held, here, Holding, Ready, Reads, Does, token_refusal, refusal_here}
+use Rattle.simulation.specs.Simulation.{code_among, here, Holding, Ready, Reads, Does, token_refusal, refusal_here}
+use Rattle.state.specs.declared.Held.{Held}
 use Rattle.simulation.proofs.Tests.{among_code}
 use Rattle.simulation.proofs.Steps.{does_comes, tied_here}
 use Rattle.simulation.proofs.Frames.{found_above, reads_does, reads_none}

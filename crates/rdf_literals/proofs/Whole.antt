@@ -23,7 +23,8 @@ use Rattle.state.specs.Cursor.{Cursor, TokenHere}
 use Rattle.state.specs.Represents.{Tables, room_in, Represented}
 use Rattle.state.specs.Writes.{place_of, placed, opened_at, SpotFits}
 use Rattle.state.specs.declared.Spot.{Spot}
-use Rattle.simulation.specs.Simulation.{code_among, Held, held, tables_of, here, Holding, Ready, Reads, on_top, Does, refusal_here}
+use Rattle.simulation.specs.Simulation.{code_among, held, tables_of, here, Holding, Ready, Reads, on_top, Does, refusal_here}
+use Rattle.state.specs.declared.Held.{Held}
 use Rattle.simulation.proofs.Compose.{same_all, comes_then, comes_stop, comes_within}
 use Rattle.simulation.proofs.Numbers.{next_held}
 use Rattle.simulation.proofs.Steps.{tied_here, here_some}

@@ -11,9 +11,9 @@ use Rattle.state.specs.Words.{terms_word, x_word, y_word, opened_word, last_word
 use Rattle.state.specs.Cursor.{token_of}
 use Rattle.state.specs.Represents.{Tables, room_in, Represents, room_refusal, Wrote}
 use Rattle.state.specs.declared.Spot.{Spot}
-use Rattle.token_iri.specs.Addresses.{front_of, back_of}
-use Rattle.token_iri.specs.declared.Address.{Address}
-use Rattle.simulation.specs.Simulation.{code_among, Held, tables_of, Holding, Same, token_refusal}
+use Rattle.token_iri.specs.Addresses.{Answered, front_of, back_of}
+use Rattle.simulation.specs.Simulation.{code_among, tables_of, Holding, Same, token_refusal}
+use Rattle.state.specs.declared.Held.{Held}
 
 -- What follows a string that is not complete at its own token.
 abbrev pub ties : List Kind
@@ -60,7 +60,7 @@ abbrev pub own_spot : ℕ → ℕ → ℕ → Spot
 own_spot x y at = record { list = false; x = x; y = y; opened = 0; last = 0; at = at }
 
 -- The IRI of a datatype lies within its slices, and is right; so is the text of the literal.
-pub record Located (a : Address) (token text buffer work : Text) : Type 0 where
+pub record Located (a : Answered) (token text buffer work : Text) : Type 0 where
   pub order : a.start ≤ a.end
   pub front : a.end ≤ work_size
   pub back_order : a.from ≤ a.to

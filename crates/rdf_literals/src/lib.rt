@@ -17,7 +17,7 @@ ghost use Rattle.state.specs.Cursor.{token_of, Cursor, TokenHere};
 ghost use Rattle.state.specs.Represents.{lent_tables, Represented, Puts};
 ghost use Rattle.state.specs.Writes.{place_of, placed, opened_at, SpotFits};
 ghost use Rattle.token_iri.specs.Addresses.{front_of, back_of};
-ghost use Rattle.simulation.specs.Simulation.{code_among, here, Ready, Reads, Does, at_call, at_entry, at_exit};
+ghost use Rattle.simulation.specs.Simulation.{code_among, here, Ready, Reads, Does};
 ghost use Rattle.nodes.specs.Nodes.{Spotted, Fills, Settled};
 ghost use Rattle.rdf_literals.specs.Literals.{ties, quotes_of, text_of, Quoted, Located, spot_at, own_x, own_y, own_spot, Adds, Obeys};
 ghost use Rattle.table.specs.Layout.{word_limit};
@@ -113,9 +113,9 @@ fn place_plain(
     at: usize,
     len: usize,
     quotes: usize,
-) -> u8
+) -> Result<(), Refusal>
     requires { Represented work.old (lent_tables rows.old terms.old store.old) st.old × (SpotFits (spot_at st.old at) × Quoted doc.now at len quotes) }
-    ensures { Puts (placed (spot_at st.old at) (typed (text_of doc.now at len quotes) xsd_string)) work.old work.new (lent_tables rows.old terms.old store.old) (lent_tables rows.new terms.new store.new) st.old st.new result }
+    ensures { Puts (placed (spot_at st.old at) (typed (text_of doc.now at len quotes) xsd_string)) work.old work.new (lent_tables rows.old terms.old store.old) (lent_tables rows.new terms.new store.new) st.old st.new (code result) }
 {
     let end = at + len;
     let text = inside(&doc[at..end], quotes);
@@ -154,9 +154,9 @@ fn place_tagged(
     quotes: usize,
     x: usize,
     y: usize,
-) -> u8
+) -> Result<(), Refusal>
     requires { (Represented work.old (lent_tables rows.old terms.old store.old) st.old × (SpotFits (own_spot x y at) × Quoted doc.now at len quotes)) × ((Cursor doc.now st.old × TokenHere doc.now st.old) × (kind_in st.old ≡ kind_code LANGTAG)) }
-    ensures { Obeys doc.now (placed (own_spot x y at) (term (tagged (text_of doc.now at len quotes) (tag (token_of doc.now (kind_in st.old) (at_in st.old) (len_in st.old)))))) work.old work.new (lent_tables rows.old terms.old store.old) (lent_tables rows.new terms.new store.new) st.old st.new result }
+    ensures { Obeys doc.now (placed (own_spot x y at) (term (tagged (text_of doc.now at len quotes) (tag (token_of doc.now (kind_in st.old) (at_in st.old) (len_in st.old)))))) work.old work.new (lent_tables rows.old terms.old store.old) (lent_tables rows.new terms.new store.new) st.old st.new (code result) }
 {
     let end = at + len;
     let text = inside(&doc[at..end], quotes);
@@ -203,9 +203,9 @@ fn place_address(
     st: &mut [usize; Layout::WORDS],
     spot: Spot,
     a: Address,
-) -> u8
-    requires { Represented work.old (lent_tables rows.old terms.old store.old) st.old × (SpotFits spot × Located a token.now text.now buffer.now work.old) }
-    ensures { Puts (placed spot (typed (unescape text.now) (joined (front_of a work.old) a.form (back_of a token.now buffer.now)))) work.old work.new (lent_tables rows.old terms.old store.old) (lent_tables rows.new terms.new store.new) st.old st.new result }
+) -> Result<(), Refusal>
+    requires { Represented work.old (lent_tables rows.old terms.old store.old) st.old × (SpotFits spot × Located (parts_of a) token.now text.now buffer.now work.old) }
+    ensures { Puts (placed spot (typed (unescape text.now) (joined (front_of (parts_of a) work.old) a.form (back_of (parts_of a) token.now buffer.now)))) work.old work.new (lent_tables rows.old terms.old store.old) (lent_tables rows.new terms.new store.new) st.old st.new (code result) }
 {
     let form = a.form;
     let node = Node {
@@ -259,9 +259,9 @@ fn place_written(
     x: usize,
     y: usize,
     buffer: &mut [u8],
-) -> u8
+) -> Result<(), Refusal>
     requires { ((Represented work.old (lent_tables rows.old terms.old store.old) st.old × (SpotFits (own_spot x y at) × Quoted doc.now at len quotes)) × ((Cursor doc.now st.old × TokenHere doc.now st.old) × (code_among iris (kind_in st.old) ≡ true))) × (length buffer.old ≡ iri_limit) }
-    ensures { Obeys doc.now (placed (own_spot x y at) (typed_by (text_of doc.now at len quotes) (token_of doc.now (kind_in st.old) (at_in st.old) (len_in st.old)))) work.old work.new (lent_tables rows.old terms.old store.old) (lent_tables rows.new terms.new store.new) st.old st.new result }
+    ensures { Obeys doc.now (placed (own_spot x y at) (typed_by (text_of doc.now at len quotes) (token_of doc.now (kind_in st.old) (at_in st.old) (len_in st.old)))) work.old work.new (lent_tables rows.old terms.old store.old) (lent_tables rows.new terms.new store.new) st.old st.new (code result) }
 {
     let from = st[Words::AT];
     let to = from + st[Words::LEN];
@@ -306,9 +306,9 @@ fn place_typed(
     quotes: usize,
     x: usize,
     y: usize,
-) -> u8
+) -> Result<(), Refusal>
     requires { (Represented work.old (lent_tables rows.old terms.old store.old) st.old × (SpotFits (own_spot x y at) × Quoted doc.now at len quotes)) × ((Cursor doc.now st.old × TokenHere doc.now st.old) × (code_among iris (kind_in st.old) ≡ true)) }
-    ensures { Obeys doc.now (placed (own_spot x y at) (typed_by (text_of doc.now at len quotes) (token_of doc.now (kind_in st.old) (at_in st.old) (len_in st.old)))) work.old work.new (lent_tables rows.old terms.old store.old) (lent_tables rows.new terms.new store.new) st.old st.new result }
+    ensures { Obeys doc.now (placed (own_spot x y at) (typed_by (text_of doc.now at len quotes) (token_of doc.now (kind_in st.old) (at_in st.old) (len_in st.old)))) work.old work.new (lent_tables rows.old terms.old store.old) (lent_tables rows.new terms.new store.new) st.old st.new (code result) }
 {
     let mut buffer = [0u8; Limits::IRI];
     place_written(
@@ -329,145 +329,149 @@ fn place_typed(
 
 // A string that is complete, the cursor behind it. Where it is refused, the cursor is set back.
 fn put_plain(
-    doc: &&[u8],
-    work: &mut &mut [u8],
-    rows: &mut &mut [u32],
-    terms: &mut &mut [u32],
-    store: &mut &mut [u8],
-    st: &mut [usize; Layout::WORDS],
+    doc: &[u8],
+    held: &mut Held<'_>,
     at: usize,
     len: usize,
     quotes: usize,
-) -> u8
-    requires { Represented work.old.now (lent_tables rows.old.now terms.old.now store.old.now) st.old × (SpotFits (spot_at st.old at) × Quoted doc.now.now at len quotes) }
-    ensures { Adds (placed (spot_at st.old at) (typed (text_of doc.now.now at len quotes) xsd_string)) (at_entry work rows terms store st) (at_exit work rows terms store st) at result }
+) -> Result<(), Refusal>
+    requires { Represented work.old.now (lent_tables rows.old.now terms.old.now store.old.now) held.old.st × (SpotFits (spot_at held.old.st at) × Quoted doc.now at len quotes) }
+    ensures { Adds (placed (spot_at held.old.st at) (typed (text_of doc.now at len quotes) xsd_string)) held.old held.new at (code result) }
 {
-    let r = place_plain(*doc, *work, *rows, *terms, *store, st, at, len, quotes);
+    let r = place_plain(
+        doc,
+        held.work,
+        held.rows,
+        held.terms,
+        held.store,
+        &mut held.st,
+        at,
+        len,
+        quotes,
+    );
     if r != 0 {
-        st[Words::AT] = at;
+        held.st[Words::AT] = at;
         return r;
     }
-    0
+    Ok(())
 }
 
 // The place of a string that is not complete.
-fn put_place(
-    work: &mut &mut [u8],
-    rows: &mut &mut [u32],
-    terms: &mut &mut [u32],
-    store: &mut &mut [u8],
-    st: &mut [usize; Layout::WORDS],
-    at: usize,
-) -> u8
-    requires { Represented work.old.now (lent_tables rows.old.now terms.old.now store.old.now) st.old × SpotFits (spot_at st.old at) }
-    ensures { Adds (opened_at (spot_at st.old at)) (at_entry work rows terms store st) (at_exit work rows terms store st) at result }
+fn put_place(held: &mut Held<'_>, at: usize) -> Result<(), Refusal>
+    requires { Represented work.old.now (lent_tables rows.old.now terms.old.now store.old.now) held.old.st × SpotFits (spot_at held.old.st at) }
+    ensures { Adds (opened_at (spot_at held.old.st at)) held.old held.new at (code result) }
 {
-    let spot = spot_at(st, at);
-    let r = placing::open(*work, *rows, *terms, *store, st, spot);
+    let spot = spot_at(&held.st, at);
+    let r = placing::open(
+        held.work,
+        held.rows,
+        held.terms,
+        held.store,
+        &mut held.st,
+        spot,
+    );
     if r != 0 {
-        st[Words::AT] = at;
+        held.st[Words::AT] = at;
         return r;
     }
-    0
+    Ok(())
 }
 
 fn put_tagged(
-    doc: &&[u8],
-    work: &mut &mut [u8],
-    rows: &mut &mut [u32],
-    terms: &mut &mut [u32],
-    store: &mut &mut [u8],
-    st: &mut [usize; Layout::WORDS],
+    doc: &[u8],
+    held: &mut Held<'_>,
     at: usize,
     len: usize,
     quotes: usize,
     x: usize,
     y: usize,
-) -> u8
-    requires { (Ready doc.now.now (at_call work rows terms store st) × (SpotFits (own_spot x y at) × Quoted doc.now.now at len quotes)) × (kind_in st.old ≡ kind_code LANGTAG) }
-    ensures { Does doc.now.now (placed (own_spot x y at) (term (tagged (text_of doc.now.now at len quotes) (tag (here doc.now.now (at_entry work rows terms store st)))))) (at_entry work rows terms store st) (at_exit work rows terms store st) result }
+) -> Result<(), Refusal>
+    requires { (Ready doc.now held.old × (SpotFits (own_spot x y at) × Quoted doc.now at len quotes)) × (kind_in held.old.st ≡ kind_code LANGTAG) }
+    ensures { Does doc.now (placed (own_spot x y at) (term (tagged (text_of doc.now at len quotes) (tag (here doc.now held.old))))) held.old held.new (code result) }
 {
-    let r = place_tagged(
-        *doc, *work, *rows, *terms, *store, st, at, len, quotes, x, y,
-    );
-    if r != 0 {
-        return r;
-    }
-    nodes::pass(doc, st);
-    0
+    place_tagged(
+        doc,
+        held.work,
+        held.rows,
+        held.terms,
+        held.store,
+        &mut held.st,
+        at,
+        len,
+        quotes,
+        x,
+        y,
+    )?;
+    nodes::pass(doc, &mut held.st);
+    Ok(())
 }
 
 fn put_typed(
-    doc: &&[u8],
-    work: &mut &mut [u8],
-    rows: &mut &mut [u32],
-    terms: &mut &mut [u32],
-    store: &mut &mut [u8],
-    st: &mut [usize; Layout::WORDS],
+    doc: &[u8],
+    held: &mut Held<'_>,
     at: usize,
     len: usize,
     quotes: usize,
     x: usize,
     y: usize,
-) -> u8
-    requires { (Ready doc.now.now (at_call work rows terms store st) × (SpotFits (own_spot x y at) × Quoted doc.now.now at len quotes)) × (code_among iris (kind_in st.old) ≡ true) }
-    ensures { Does doc.now.now (placed (own_spot x y at) (typed_by (text_of doc.now.now at len quotes) (here doc.now.now (at_entry work rows terms store st)))) (at_entry work rows terms store st) (at_exit work rows terms store st) result }
+) -> Result<(), Refusal>
+    requires { (Ready doc.now held.old × (SpotFits (own_spot x y at) × Quoted doc.now at len quotes)) × (code_among iris (kind_in held.old.st) ≡ true) }
+    ensures { Does doc.now (placed (own_spot x y at) (typed_by (text_of doc.now at len quotes) (here doc.now held.old))) held.old held.new (code result) }
 {
-    let r = place_typed(
-        *doc, *work, *rows, *terms, *store, st, at, len, quotes, x, y,
-    );
-    if r != 0 {
-        return r;
-    }
-    nodes::pass(doc, st);
-    0
+    place_typed(
+        doc,
+        held.work,
+        held.rows,
+        held.terms,
+        held.store,
+        &mut held.st,
+        at,
+        len,
+        quotes,
+        x,
+        y,
+    )?;
+    nodes::pass(doc, &mut held.st);
+    Ok(())
 }
 
 // The datatype behind ^^.
 fn put_datatype(
-    doc: &&[u8],
-    work: &mut &mut [u8],
-    rows: &mut &mut [u32],
-    terms: &mut &mut [u32],
-    store: &mut &mut [u8],
-    st: &mut [usize; Layout::WORDS],
+    doc: &[u8],
+    held: &mut Held<'_>,
     at: usize,
     len: usize,
     quotes: usize,
     x: usize,
     y: usize,
-) -> u8
-    requires { Ready doc.now.now (at_call work rows terms store st) × (SpotFits (own_spot x y at) × Quoted doc.now.now at len quotes) }
-    ensures { Reads doc.now.now (datatype (place_of x y) at (text_of doc.now.now at len quotes) ∷ []) [] (at_entry work rows terms store st) (at_exit work rows terms store st) result × Settled (at_entry work rows terms store st) (at_exit work rows terms store st) result }
+) -> Result<(), Refusal>
+    requires { Ready doc.now held.old × (SpotFits (own_spot x y at) × Quoted doc.now at len quotes) }
+    ensures { Reads doc.now (datatype (place_of x y) at (text_of doc.now at len quotes) ∷ []) [] held.old held.new (code result) × Settled held.old held.new (code result) }
 {
-    if is_iri(st[Words::KIND]) {
-        return put_typed(doc, work, rows, terms, store, st, at, len, quotes, x, y);
+    if is_iri(held.st[Words::KIND]) {
+        return put_typed(doc, held, at, len, quotes, x, y);
     }
-    simulation::unexpected(*doc, st)
+    Err(simulation::unexpected(doc, &held.st))
 }
 
 // The tag, or ^^ and the datatype.
 fn put_suffix(
-    doc: &&[u8],
-    work: &mut &mut [u8],
-    rows: &mut &mut [u32],
-    terms: &mut &mut [u32],
-    store: &mut &mut [u8],
-    st: &mut [usize; Layout::WORDS],
+    doc: &[u8],
+    held: &mut Held<'_>,
     at: usize,
     len: usize,
     quotes: usize,
     x: usize,
     y: usize,
-) -> u8
-    requires { (Ready doc.now.now (at_call work rows terms store st) × (SpotFits (own_spot x y at) × Quoted doc.now.now at len quotes)) × (code_among ties (kind_in st.old) ≡ true) }
-    ensures { Reads doc.now.now (suffix (place_of x y) at (text_of doc.now.now at len quotes) ∷ []) [] (at_entry work rows terms store st) (at_exit work rows terms store st) result × Settled (at_entry work rows terms store st) (at_exit work rows terms store st) result }
+) -> Result<(), Refusal>
+    requires { (Ready doc.now held.old × (SpotFits (own_spot x y at) × Quoted doc.now at len quotes)) × (code_among ties (kind_in held.old.st) ≡ true) }
+    ensures { Reads doc.now (suffix (place_of x y) at (text_of doc.now at len quotes) ∷ []) [] held.old held.new (code result) × Settled held.old held.new (code result) }
 {
-    if st[Words::KIND] == Kind::LANGTAG {
-        return put_tagged(doc, work, rows, terms, store, st, at, len, quotes, x, y);
+    if held.st[Words::KIND] == Kind::LANGTAG {
+        return put_tagged(doc, held, at, len, quotes, x, y);
     }
-    nodes::pass(doc, st);
-    put_datatype(doc, work, rows, terms, store, st, at, len, quotes, x, y)
+    nodes::pass(doc, &mut held.st);
+    put_datatype(doc, held, at, len, quotes, x, y)
 }
 
 // Whether an escape of the string at the cursor names no character.
@@ -481,32 +485,22 @@ fn is_bad(doc: &[u8], st: &[usize; Layout::WORDS]) -> bool
 }
 
 // The string at the cursor, with its tag or datatype: 0, or the number of the refusal.
-pub fn put_string(
-    doc: &&[u8],
-    work: &mut &mut [u8],
-    rows: &mut &mut [u32],
-    terms: &mut &mut [u32],
-    store: &mut &mut [u8],
-    st: &mut [usize; Layout::WORDS],
-) -> u8
-    requires { (Ready doc.now.now (at_call work rows terms store st) × Spotted (at_call work rows terms store st)) × (code_among strings (kind_in st.old) ≡ true) }
-    ensures { Fills doc.now.now (at_entry work rows terms store st) (at_exit work rows terms store st) result × Settled (at_entry work rows terms store st) (at_exit work rows terms store st) result }
+pub fn put_string(doc: &[u8], held: &mut Held<'_>) -> Result<(), Refusal>
+    requires { (Ready doc.now held.old × Spotted held.old) × (code_among strings (kind_in held.old.st) ≡ true) }
+    ensures { Fills doc.now held.old held.new (code result) × Settled held.old held.new (code result) }
 {
-    if is_bad(*doc, st) {
-        return Answer::ESCAPE;
+    if is_bad(doc, &held.st) {
+        return Err(Refusal::Escape);
     }
-    let at = st[Words::AT];
-    let len = st[Words::LEN];
-    let quotes = quotes_of(st[Words::KIND]);
-    nodes::pass(doc, st);
-    if !is_tie(st[Words::KIND]) {
-        return put_plain(doc, work, rows, terms, store, st, at, len, quotes);
+    let at = held.st[Words::AT];
+    let len = held.st[Words::LEN];
+    let quotes = quotes_of(held.st[Words::KIND]);
+    nodes::pass(doc, &mut held.st);
+    if !is_tie(held.st[Words::KIND]) {
+        return put_plain(doc, held, at, len, quotes);
     }
-    let x = own_x(st);
-    let y = own_y(st);
-    let r = put_place(work, rows, terms, store, st, at);
-    if r != 0 {
-        return r;
-    }
-    put_suffix(doc, work, rows, terms, store, st, at, len, quotes, x, y)
+    let x = own_x(&held.st);
+    let y = own_y(&held.st);
+    put_place(held, at)?;
+    put_suffix(doc, held, at, len, quotes, x, y)
 }

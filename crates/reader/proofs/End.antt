@@ -19,7 +19,8 @@ use Rattle.machine.specs.Step.{Outcome, accepted, refused}
 use Rattle.machine.specs.Read.{Answer, refusal, success, reported, mode_of, read_tokens}
 use Rattle.state.specs.Words.{rows_word, terms_word, used_word, at_in}
 use Rattle.state.proofs.Counted.{counted_run}
-use Rattle.simulation.specs.Simulation.{Held, tables_of, Holding, goes}
+use Rattle.simulation.specs.Simulation.{tables_of, Holding, goes}
+use Rattle.state.specs.declared.Held.{Held}
 use Rattle.reader.specs.declared.Reading.{Reading}
 use Rattle.statements.specs.Statements.{ReadsAll}
 use Rattle.reader.specs.Reader.{LentSlices, lent_slices, lengths, Gives}

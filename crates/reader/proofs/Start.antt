@@ -28,7 +28,8 @@ use Rattle.machine.specs.Memory.{start_memory}
 use Rattle.machine.specs.Read.{bad_base}
 use Rattle.state.specs.Words.{counts_of, blanks_word, clear_word, depth_word, graph_word, kind_word, rows_word, terms_word, used_word}
 use Rattle.state.specs.Cursor.{Sought}
-use Rattle.simulation.specs.Simulation.{Held, Holding, tables_of, Ready}
+use Rattle.simulation.specs.Simulation.{Holding, tables_of, Ready}
+use Rattle.state.specs.declared.Held.{Held}
 use Rattle.reader.specs.Stages.{Checked, Started}
 
 -- ---- The base

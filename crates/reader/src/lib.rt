@@ -5,7 +5,7 @@
 ghost use Rattle.std.specs.Prelude.{◌≡◌, ◌≤◌, length, replicate};
 ghost use Rattle.environment.specs.Code.{words_size};
 ghost use Rattle.machine.specs.Read.{mode_of, read_tokens};
-ghost use Rattle.simulation.specs.Simulation.{held, Ready};
+ghost use Rattle.simulation.specs.Simulation.{Ready};
 ghost use Rattle.statements.specs.Statements.{ReadsAll};
 ghost use Rattle.reader.specs.Reader.{lent_slices, lengths, Gives, Contract};
 ghost use Rattle.reader.specs.Stages.{Checked, Started, Cleared, Finishes};

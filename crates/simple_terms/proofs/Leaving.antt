@@ -17,7 +17,8 @@ use Rattle.state.specs.Words.{kind_word, depth_word, graph_word, at_word, len_wo
 use Rattle.state.specs.Cursor.{Cursor, TokenHere}
 use Rattle.state.specs.Represents.{Tables, lent_tables, Puts}
 use Rattle.state.specs.Writes.{placed, closed}
-use Rattle.simulation.specs.Simulation.{Held, held, tables_of, here, Ready, Same, Gives}
+use Rattle.simulation.specs.Simulation.{held, tables_of, here, Ready, Same, Gives}
+use Rattle.state.specs.declared.Held.{Held}
 use Rattle.nodes.specs.Nodes.{term_kinds, spot_of, Spotted, Numbers, Closes, Passed}
 use Rattle.nodes.proofs.Moving.{token_words, cursor_words}
 use Rattle.nodes.proofs.Passing.{represents_words}

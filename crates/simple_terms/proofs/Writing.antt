@@ -19,8 +19,7 @@ use Rattle.environment.specs.Environment.{Environment}
 use Rattle.dataset.specs.Terms.{iri, blank, label, bracket, xsd_integer, xsd_decimal, xsd_double, xsd_boolean}
 use Rattle.machine.specs.Memory.{Memory, Write, term, new_term, typed, iri_term}
 use Rattle.token_iri.specs.Tests.{token_as, Sound}
-use Rattle.token_iri.specs.Addresses.{front_of, back_of, StandsFor, Addresses}
-use Rattle.token_iri.specs.declared.Address.{Address}
+use Rattle.token_iri.specs.Addresses.{Answered, front_of, back_of, StandsFor, Addresses}
 use Rattle.state.specs.Words.{at_in, depth_in}
 use Rattle.state.specs.Represents.{Tables, room_in, Represents, Represented, Puts}
 use Rattle.state.specs.Writes.{node_write, placed, SpotFits, NodeFits}
@@ -144,24 +143,24 @@ typed_as s text work work' t t' st st' r d e q p = subst (λ (x : Text). Puts (p
 
 -- ---- IRIs
 
-abbrev pub node_of : Address → Node
+abbrev pub node_of : Answered → Node
 node_of a = record { kind = 1; start = a.start; end = a.end; form = a.form; text = Plain }
 
-module _ (kind : ℕ) (token work : Text) (st : List ℕ) (buffer : Text) (a : Address) (ad : Addresses kind token work st buffer a) where
+module _ (kind : ℕ) (token work : Text) (st : List ℕ) (buffer : Text) (a : Answered) (ad : Addresses kind token work st buffer a) where
   pub back_in_buffer : a.buffered ≡ true → a.to ≤ length buffer
   back_in_buffer e = rw e at ad.back_inside
 
   pub back_in_token : a.buffered ≡ false → a.to ≤ length token
   back_in_token e = rw e at ad.back_inside
 
-module _ (a : Address) (token buffer : Text) where
+module _ (a : Answered) (token buffer : Text) where
   pub back_buffer : a.buffered ≡ true → take (a.to - a.from) (drop a.from buffer) ≡ back_of a token buffer
   back_buffer e = rw e
 
   pub back_token : a.buffered ≡ false → take (a.to - a.from) (drop a.from token) ≡ back_of a token buffer
   back_token e = rw e
 
-module _ (kind : ℕ) (token work buffer : Text) (t : Tables) (st : List ℕ) (a : Address) (ad : Addresses kind token (take (length work - 0) (drop 0 work)) st buffer a) (begun : kind ≡ kind_code IRIREF → get_or token 0 0 ≡ 60) where
+module _ (kind : ℕ) (token work buffer : Text) (t : Tables) (st : List ℕ) (a : Answered) (ad : Addresses kind token (take (length work - 0) (drop 0 work)) st buffer a) (begun : kind ≡ kind_code IRIREF → get_or token 0 0 ≡ 60) where
   abbrev name : Token
   name = token_as kind (at_in st) token
 

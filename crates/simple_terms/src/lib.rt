@@ -13,7 +13,7 @@ ghost use Rattle.state.specs.Words.{kind_in, at_in, depth_in, graph_in};
 ghost use Rattle.state.specs.Cursor.{Cursor, TokenHere};
 ghost use Rattle.state.specs.Represents.{lent_tables, Puts};
 ghost use Rattle.state.specs.Writes.{node_write, placed, opened_at, NodeFits};
-ghost use Rattle.simulation.specs.Simulation.{code_among, Ready, Does, at_call, at_entry, at_exit};
+ghost use Rattle.simulation.specs.Simulation.{code_among, Ready, Does};
 ghost use Rattle.nodes.specs.Nodes.{term_kinds, spot_of, Spotted, Numbers, PutsTerm, Closes, Passed};
 ghost use Rattle.simple_terms.specs.Leaves.{spot_in, datatype_of, PutReady, PutsToken, PutsNode};
 
@@ -38,9 +38,9 @@ fn spot_here(st: &[usize; Layout::WORDS]) -> Spot
 }
 
 // Goes behind an opening bracket.
-fn deepen(doc: &&[u8], st: &mut [usize; Layout::WORDS])
-    requires { (Cursor doc.now.now st.old × TokenHere doc.now.now st.old) × ((length st.old ≡ words_size) × (depth_in st.old < depth_limit)) }
-    ensures { Passed doc.now.now st.old st.new (depth_in st.old + 1) (graph_in st.old) }
+fn deepen(doc: &[u8], st: &mut [usize; Layout::WORDS])
+    requires { (Cursor doc.now st.old × TokenHere doc.now st.old) × ((length st.old ≡ words_size) × (depth_in st.old < depth_limit)) }
+    ensures { Passed doc.now st.old st.new (depth_in st.old + 1) (graph_in st.old) }
 {
     st[Words::DEPTH] = st[Words::DEPTH] + 1;
     nodes::pass(doc, st);
@@ -56,9 +56,9 @@ fn place_node(
     node: Node,
     back: &[u8],
     text: &[u8],
-) -> u8
+) -> Result<(), Refusal>
     requires { PutReady work.old (lent_tables rows.old terms.old store.old) st.old × NodeFits node work.old back.now text.now text.now }
-    ensures { Puts (placed (spot_in st.old) (node_write node work.old back.now text.now text.now (at_in st.old))) work.old work.new (lent_tables rows.old terms.old store.old) (lent_tables rows.new terms.new store.new) st.old st.new result }
+    ensures { Puts (placed (spot_in st.old) (node_write node work.old back.now text.now text.now (at_in st.old))) work.old work.new (lent_tables rows.old terms.old store.old) (lent_tables rows.new terms.new store.new) st.old st.new (code result) }
 {
     let spot = spot_here(st);
     placing::place(work, rows, terms, store, st, spot, node, back, text, text)
@@ -71,9 +71,9 @@ fn place_bracket(
     terms: &mut [u32],
     store: &mut [u8],
     st: &mut [usize; Layout::WORDS],
-) -> u8
+) -> Result<(), Refusal>
     requires { PutReady work.old (lent_tables rows.old terms.old store.old) st.old }
-    ensures { Puts (placed (spot_in st.old) (new_term (blank (bracket (at_in st.old))))) work.old work.new (lent_tables rows.old terms.old store.old) (lent_tables rows.new terms.new store.new) st.old st.new result }
+    ensures { Puts (placed (spot_in st.old) (new_term (blank (bracket (at_in st.old))))) work.old work.new (lent_tables rows.old terms.old store.old) (lent_tables rows.new terms.new store.new) st.old st.new (code result) }
 {
     let byte = [0u8; 1];
     let none = &byte[..0];
@@ -103,9 +103,9 @@ fn place_type(
     store: &mut [u8],
     st: &mut [usize; Layout::WORDS],
     token: &[u8],
-) -> u8
+) -> Result<(), Refusal>
     requires { PutReady work.old (lent_tables rows.old terms.old store.old) st.old × (length token.now ≤ document_limit) }
-    ensures { Puts (placed (spot_in st.old) (term (iri rdf_type))) work.old work.new (lent_tables rows.old terms.old store.old) (lent_tables rows.new terms.new store.new) st.old st.new result }
+    ensures { Puts (placed (spot_in st.old) (term (iri rdf_type))) work.old work.new (lent_tables rows.old terms.old store.old) (lent_tables rows.new terms.new store.new) st.old st.new (code result) }
 {
     place_node(
         work,
@@ -133,9 +133,9 @@ fn place_label(
     store: &mut [u8],
     st: &mut [usize; Layout::WORDS],
     token: &[u8],
-) -> u8
+) -> Result<(), Refusal>
     requires { PutReady work.old (lent_tables rows.old terms.old store.old) st.old × ((length token.now ≤ document_limit) × (2 < length token.now)) }
-    ensures { Puts (placed (spot_in st.old) (term (blank (label (drop 2 token.now))))) work.old work.new (lent_tables rows.old terms.old store.old) (lent_tables rows.new terms.new store.new) st.old st.new result }
+    ensures { Puts (placed (spot_in st.old) (term (blank (label (drop 2 token.now))))) work.old work.new (lent_tables rows.old terms.old store.old) (lent_tables rows.new terms.new store.new) st.old st.new (code result) }
 {
     place_node(
         work,
@@ -189,9 +189,9 @@ fn place_literal(
     st: &mut [usize; Layout::WORDS],
     token: &[u8],
     kind: usize,
-) -> u8
+) -> Result<(), Refusal>
     requires { PutReady work.old (lent_tables rows.old terms.old store.old) st.old × (length token.now ≤ document_limit) }
-    ensures { Puts (placed (spot_in st.old) (typed token.now (datatype_of kind))) work.old work.new (lent_tables rows.old terms.old store.old) (lent_tables rows.new terms.new store.new) st.old st.new result }
+    ensures { Puts (placed (spot_in st.old) (typed token.now (datatype_of kind))) work.old work.new (lent_tables rows.old terms.old store.old) (lent_tables rows.new terms.new store.new) st.old st.new (code result) }
 {
     let name = datatype(kind);
     let n = datatype_size(kind);
@@ -223,15 +223,12 @@ fn place_address(
     token: &[u8],
     kind: usize,
     buffer: &mut [u8],
-) -> u8
+) -> Result<(), Refusal>
     requires { PutReady work.old (lent_tables rows.old terms.old store.old) st.old × (((kind_code IRIREF ≤ kind) × (kind ≤ kind_code PNAME_LN)) × ((kind ≡ kind_code IRIREF → get_or token.now 0 0 ≡ 60) × (length token.now ≤ document_limit))) × (length buffer.old ≡ iri_limit) }
-    ensures { PutsToken (token_as kind (at_in st.old) token.now) (placed (spot_in st.old) (iri_term (token_as kind (at_in st.old) token.now))) work.old work.new (lent_tables rows.old terms.old store.old) (lent_tables rows.new terms.new store.new) st.old st.new result }
+    ensures { PutsToken (token_as kind (at_in st.old) token.now) (placed (spot_in st.old) (iri_term (token_as kind (at_in st.old) token.now))) work.old work.new (lent_tables rows.old terms.old store.old) (lent_tables rows.new terms.new store.new) st.old st.new (code result) }
 {
     let a = token_iri::address_of(token, kind, &work[0..], st, buffer);
-    let refused = a.refused;
-    if refused != 0 {
-        return refused;
-    }
+    a.refused?;
     let from = a.from;
     let to = a.to;
     let form = a.form;
@@ -256,9 +253,9 @@ fn place_iri(
     st: &mut [usize; Layout::WORDS],
     token: &[u8],
     kind: usize,
-) -> u8
+) -> Result<(), Refusal>
     requires { PutReady work.old (lent_tables rows.old terms.old store.old) st.old × (((kind_code IRIREF ≤ kind) × (kind ≤ kind_code PNAME_LN)) × ((kind ≡ kind_code IRIREF → get_or token.now 0 0 ≡ 60) × (length token.now ≤ document_limit))) }
-    ensures { PutsToken (token_as kind (at_in st.old) token.now) (placed (spot_in st.old) (iri_term (token_as kind (at_in st.old) token.now))) work.old work.new (lent_tables rows.old terms.old store.old) (lent_tables rows.new terms.new store.new) st.old st.new result }
+    ensures { PutsToken (token_as kind (at_in st.old) token.now) (placed (spot_in st.old) (iri_term (token_as kind (at_in st.old) token.now))) work.old work.new (lent_tables rows.old terms.old store.old) (lent_tables rows.new terms.new store.new) st.old st.new (code result) }
 {
     let mut buffer = [0u8; Limits::IRI];
     place_address(work, rows, terms, store, st, token, kind, &mut buffer)
@@ -272,9 +269,9 @@ fn place_term(
     terms: &mut [u32],
     store: &mut [u8],
     st: &mut [usize; Layout::WORDS],
-) -> u8
+) -> Result<(), Refusal>
     requires { PutReady work.old (lent_tables rows.old terms.old store.old) st.old × ((Cursor doc.now st.old × TokenHere doc.now st.old) × (code_among (kw_a ∷ term_kinds) (kind_in st.old) ≡ true)) }
-    ensures { PutsNode doc.now work.old work.new (lent_tables rows.old terms.old store.old) (lent_tables rows.new terms.new store.new) st.old st.new result }
+    ensures { PutsNode doc.now work.old work.new (lent_tables rows.old terms.old store.old) (lent_tables rows.new terms.new store.new) st.old st.new (code result) }
 {
     let kind = st[Words::KIND];
     let at = st[Words::AT];
@@ -292,89 +289,70 @@ fn place_term(
 }
 
 // A term of one token, other than a string: its node is at its place.
-pub fn put_term(
-    doc: &&[u8],
-    work: &mut &mut [u8],
-    rows: &mut &mut [u32],
-    terms: &mut &mut [u32],
-    store: &mut &mut [u8],
-    st: &mut [usize; Layout::WORDS],
-) -> u8
-    requires { (Ready doc.now.now (at_call work rows terms store st) × Spotted (at_call work rows terms store st)) × (code_among (kw_a ∷ term_kinds) (kind_in st.old) ≡ true) }
-    ensures { PutsTerm doc.now.now (at_entry work rows terms store st) (at_exit work rows terms store st) result }
+pub fn put_term(doc: &[u8], held: &mut Held<'_>) -> Result<(), Refusal>
+    requires { (Ready doc.now held.old × Spotted held.old) × (code_among (kw_a ∷ term_kinds) (kind_in held.old.st) ≡ true) }
+    ensures { PutsTerm doc.now held.old held.new (code result) }
 {
-    let r = place_term(*doc, *work, *rows, *terms, *store, st);
-    if r != 0 {
-        return r;
-    }
-    nodes::pass(doc, st);
-    0
+    place_term(
+        doc,
+        held.work,
+        held.rows,
+        held.terms,
+        held.store,
+        &mut held.st,
+    )?;
+    nodes::pass(doc, &mut held.st);
+    Ok(())
 }
 
 // A bracket opens: its node is at its place.
-pub fn put_bracket(
-    doc: &&[u8],
-    work: &mut &mut [u8],
-    rows: &mut &mut [u32],
-    terms: &mut &mut [u32],
-    store: &mut &mut [u8],
-    st: &mut [usize; Layout::WORDS],
-) -> u8
-    requires { (Ready doc.now.now (at_call work rows terms store st) × Spotted (at_call work rows terms store st)) × (kind_in st.old ≡ kind_code open_bracket) }
-    ensures { Numbers doc.now.now (placed (spot_of (at_entry work rows terms store st)) (new_term (blank (bracket (at_in st.old))))) (at_entry work rows terms store st) (at_exit work rows terms store st) result }
+pub fn put_bracket(doc: &[u8], held: &mut Held<'_>) -> Result<(), Refusal>
+    requires { (Ready doc.now held.old × Spotted held.old) × (kind_in held.old.st ≡ kind_code open_bracket) }
+    ensures { Numbers doc.now (placed (spot_of held.old) (new_term (blank (bracket (at_in held.old.st))))) held.old held.new (code result) }
 {
-    if Limits::DEPTH <= st[Words::DEPTH] {
-        return Answer::DEPTH;
+    if Limits::DEPTH <= held.st[Words::DEPTH] {
+        return Err(Refusal::Depth);
     }
-    let r = place_bracket(*work, *rows, *terms, *store, st);
-    if r != 0 {
-        return r;
-    }
-    deepen(doc, st);
-    0
+    place_bracket(held.work, held.rows, held.terms, held.store, &mut held.st)?;
+    deepen(doc, &mut held.st);
+    Ok(())
 }
 
 // A list opens: its place is known.
-pub fn put_paren(
-    doc: &&[u8],
-    work: &mut &mut [u8],
-    rows: &mut &mut [u32],
-    terms: &mut &mut [u32],
-    store: &mut &mut [u8],
-    st: &mut [usize; Layout::WORDS],
-) -> u8
-    requires { (Ready doc.now.now (at_call work rows terms store st) × Spotted (at_call work rows terms store st)) × (kind_in st.old ≡ kind_code open_paren) }
-    ensures { Does doc.now.now (opened_at (spot_of (at_entry work rows terms store st))) (at_entry work rows terms store st) (at_exit work rows terms store st) result }
+pub fn put_paren(doc: &[u8], held: &mut Held<'_>) -> Result<(), Refusal>
+    requires { (Ready doc.now held.old × Spotted held.old) × (kind_in held.old.st ≡ kind_code open_paren) }
+    ensures { Does doc.now (opened_at (spot_of held.old)) held.old held.new (code result) }
 {
-    if Limits::DEPTH <= st[Words::DEPTH] {
-        return Answer::DEPTH;
+    if Limits::DEPTH <= held.st[Words::DEPTH] {
+        return Err(Refusal::Depth);
     }
-    let spot = spot_here(st);
-    let r = placing::open(*work, *rows, *terms, *store, st, spot);
-    if r != 0 {
-        return r;
-    }
-    deepen(doc, st);
-    0
+    let spot = spot_here(&held.st);
+    placing::open(
+        held.work,
+        held.rows,
+        held.terms,
+        held.store,
+        &mut held.st,
+        spot,
+    )?;
+    deepen(doc, &mut held.st);
+    Ok(())
 }
 
 // A list closes.
-pub fn close_list(
-    doc: &&[u8],
-    work: &mut &mut [u8],
-    rows: &mut &mut [u32],
-    terms: &mut &mut [u32],
-    store: &mut &mut [u8],
-    st: &mut [usize; Layout::WORDS],
-) -> u8
-    requires { (Ready doc.now.now (at_call work rows terms store st) × Spotted (at_call work rows terms store st)) × ((kind_in st.old ≡ kind_code close_paren) × (0 < depth_in st.old)) }
-    ensures { Closes doc.now.now (at_entry work rows terms store st) (at_exit work rows terms store st) result }
+pub fn close_list(doc: &[u8], held: &mut Held<'_>) -> Result<(), Refusal>
+    requires { (Ready doc.now held.old × Spotted held.old) × ((kind_in held.old.st ≡ kind_code close_paren) × (0 < depth_in held.old.st)) }
+    ensures { Closes doc.now held.old held.new (code result) }
 {
-    let spot = spot_here(st);
-    let r = placing::close(*work, *rows, *terms, *store, st, spot);
-    if r != 0 {
-        return r;
-    }
-    nodes::leave(doc, st);
-    0
+    let spot = spot_here(&held.st);
+    placing::close(
+        held.work,
+        held.rows,
+        held.terms,
+        held.store,
+        &mut held.st,
+        spot,
+    )?;
+    nodes::leave(doc, &mut held.st);
+    Ok(())
 }

@@ -7,7 +7,8 @@ use denote.Ref.{MutBor, at_last}
 use Rattle.text.specs.Text.{Text}
 use Rattle.machine.specs.Frame.{Open}
 use Rattle.state.specs.Represents.{room_in}
-use Rattle.simulation.specs.Simulation.{Held, tables_of, Ready, Same, Comes}
+use Rattle.simulation.specs.Simulation.{tables_of, Ready, Same, Comes}
+use Rattle.state.specs.declared.Held.{Held}
 
 at_both : (x y z : MutBor (List ℕ)) → z ≡ at_last y z.now → y ≡ at_last x y.now → z ≡ at_last x z.now
 at_both x y z e f = e ∙ ap (λ (r : MutBor (List ℕ)). at_last r z.now) f

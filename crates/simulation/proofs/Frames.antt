@@ -16,7 +16,8 @@ use Rattle.machine.specs.Rules.{Rule, ◌⇒◌, find_rule, above, frame_rules, 
 use Rattle.state.specs.Words.{kind_in}
 use Rattle.state.specs.Cursor.{TokenHere}
 use Rattle.state.specs.Represents.{Tables}
-use Rattle.simulation.specs.Simulation.{Held, here, Holding, Ready, Reads, Does, refusal_here}
+use Rattle.simulation.specs.Simulation.{here, Holding, Ready, Reads, Does, refusal_here}
+use Rattle.state.specs.declared.Held.{Held}
 use Rattle.simulation.proofs.Steps.{does_ready, does_comes, refused_comes, tied_here}
 
 module _ (t : Token) (tied : Bool) (K : List Frame) (k : Kind) where

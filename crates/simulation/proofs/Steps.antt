@@ -26,7 +26,8 @@ use Rattle.state.specs.Words.{kind_in, at_in, len_in, depth_in}
 use Rattle.state.specs.Cursor.{remaining, TokenHere}
 use Rattle.state.specs.Represents.{Tables, room_in}
 use Rattle.cursor.proofs.Seeking.{ahead_token, ahead_none, ahead_end}
-use Rattle.simulation.specs.Simulation.{Held, tables_of, here, Holding, goes, Ready, Comes, token_tests, token_refusal, Does, escaped_kind, refusal_here}
+use Rattle.simulation.specs.Simulation.{tables_of, here, Holding, goes, Ready, Comes, token_tests, token_refusal, Does, escaped_kind, refusal_here}
+use Rattle.state.specs.declared.Held.{Held}
 use Rattle.simulation.proofs.Tests.{among_code}
 use Rattle.simulation.proofs.Compose.{same_all, room_same}
 use Rattle.limits.specs.Limits.{depth_limit}

@@ -22,7 +22,8 @@ use Rattle.machine.proofs.Firsts.{zero_none, number_some}
 use Rattle.state.specs.Words.{kind_in, at_in, len_in, depth_in}
 use Rattle.state.specs.Cursor.{remaining, TokenHere}
 use Rattle.state.specs.Represents.{Tables, room_in}
-use Rattle.simulation.specs.Simulation.{Held, tables_of, here, Holding, goes, Ready, Same, Comes, Turns, refusal_here, token_refusal, Does}
+use Rattle.simulation.specs.Simulation.{tables_of, here, Holding, goes, Ready, Same, Comes, Turns, refusal_here, token_refusal, Does}
+use Rattle.state.specs.declared.Held.{Held}
 use Rattle.simulation.proofs.Compose.{same_all, same_both, room_same}
 use Rattle.simulation.proofs.Steps.{goes_step, tied_here, stopped_here, stopped_there, here_some, step_on, step_stop}
 use Rattle.simulation.proofs.Frames.{ready_does}

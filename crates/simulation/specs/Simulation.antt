@@ -1,6 +1,5 @@
 -- What the routines of the reader say of the machine: it goes on from what is open before to what is open after, or is refused.
 use Rattle.std.specs.Prelude.{◌≡◌, List, [], ◌∷◌, ◌++◌, Bool, false, ◌&&◌, ◌||◌, ℕ, ◌+◌, ◌≤◌, ◌<◌, eqb, length, get_or, take, drop}
-use denote.Triple.Both.{Both}
 use denote.Ref.{MutBor, at_last}
 use Rattle.text.specs.Text.{Text, cond}
 use Rattle.limits.specs.Limits.{depth_limit}
@@ -20,34 +19,13 @@ use Rattle.machine.specs.Step.{Room, Test, first_refusal, Outcome, refused, run}
 use Rattle.state.specs.Words.{list_word, kind_in, at_in, len_in, depth_in, node_in}
 use Rattle.state.specs.Cursor.{token_of, Cursor, remaining}
 use Rattle.state.specs.Represents.{Tables, lent_tables, room_in, Represents, Represented}
+use Rattle.state.specs.declared.Held.{Held}
 
--- The lent slices behind their references, and the array.
-pub record Held : Type 0 where
-  pub work : MutBor (List ℕ)
-  pub rows : MutBor (List ℕ)
-  pub terms : MutBor (List ℕ)
-  pub store : MutBor (List ℕ)
-  pub st : List ℕ
-
+-- The lent slices behind their references, with this array.
 abbrev pub held : MutBor (List ℕ) → MutBor (List ℕ) → MutBor (List ℕ) → MutBor (List ℕ) → List ℕ → Held
 held work rows terms store st = record { work = work; rows = rows; terms = terms; store = store; st = st }
 
--- The same behind a routine's references: as it is called, and when it has begun and ended.
-abbrev Reference : Type 0
-Reference = MutBor (MutBor (List ℕ))
-
-abbrev pub at_call : Reference → Reference → Reference → Reference → MutBor (List ℕ) → Held
-at_call work rows terms store st = held work.now rows.now terms.now store.now st.now
-
-abbrev Ends : Type 0
-Ends = Both Reference Reference
-
-abbrev pub at_entry : Ends → Ends → Ends → Ends → Both (MutBor (List ℕ)) (MutBor (List ℕ)) → Held
-at_entry work rows terms store st = at_call work.entry rows.entry terms.entry store.entry st.entry
-
-abbrev pub at_exit : Ends → Ends → Ends → Ends → Both (MutBor (List ℕ)) (MutBor (List ℕ)) → Held
-at_exit work rows terms store st = at_call work.exit rows.exit terms.exit store.exit st.exit
-
+-- The tables behind the references.
 abbrev pub tables_of : Held → Tables
 tables_of h = lent_tables h.rows.now h.terms.now h.store.now
 

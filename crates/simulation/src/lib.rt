@@ -3,6 +3,7 @@
 #![tactic(auto)]
 
 ghost use Rattle.std.specs.Prelude.{◌≡◌, ◌+◌, ◌≤◌, length, get_or};
+ghost use Rattle.limits.specs.Refusal.{number};
 ghost use Rattle.environment.specs.Code.{words_size};
 ghost use Rattle.token.specs.Kind.{kind_of_code, among, IRIREF, strings};
 ghost use Rattle.state.specs.Words.{kind_word, at_word, len_word};
@@ -10,7 +11,7 @@ ghost use Rattle.state.specs.Cursor.{Cursor};
 ghost use Rattle.simulation.specs.Simulation.{refusal_here, escaped_kind};
 
 use environment::Layout;
-use limits::Answer;
+use limits::Refusal;
 use state::Words;
 use token::Kind;
 
@@ -26,21 +27,20 @@ pub fn has_escapes(kind: usize) -> bool
 }
 
 // 6, 7 or 8.
-pub fn unexpected(doc: &[u8], st: &[usize; Layout::WORDS]) -> u8
+pub fn unexpected(doc: &[u8], st: &[usize; Layout::WORDS]) -> Refusal
     requires { Cursor doc.now st.now × (length st.now ≡ words_size) }
-    ensures { result ≡ refusal_here doc.now st.now }
+    ensures { number result ≡ refusal_here doc.now st.now }
 {
     let kind = st[Words::KIND];
     if kind == Kind::UNREADABLE {
-        return Answer::TOKEN;
+        return Refusal::Token;
     }
     if has_escapes(kind) {
         let at = st[Words::AT];
         let end = at + st[Words::LEN];
         if escape::has_bad_escape(&doc[at..end]) {
-            return Answer::ESCAPE;
+            return Refusal::Escape;
         }
-        return Answer::GRAMMAR;
     }
-    Answer::GRAMMAR
+    Refusal::Grammar
 }

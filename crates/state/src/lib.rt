@@ -80,6 +80,16 @@ pub struct Spot {
     pub at: usize,
 }
 
+// The lent slices and the array, which every reader is handed together.
+#[derive(Drop)]
+pub struct Held<'a> {
+    pub work: &'a mut [u8],
+    pub rows: &'a mut [u32],
+    pub terms: &'a mut [u32],
+    pub store: &'a mut [u8],
+    pub st: [usize; Layout::WORDS],
+}
+
 // A node, by its kind. The IRI, of the node or its datatype, is a part of the work slice before a back of this form.
 #[derive(Clone, Copy)]
 pub struct Node {

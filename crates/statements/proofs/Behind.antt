@@ -16,7 +16,8 @@ use Rattle.grammar.specs.Productions.{Mode}
 use Rattle.machine.specs.Frame.{Ending, full_stop, Place, top, subject_before, object_of, element_of, Frame, label_or_subject, verb, verb_or_end, object, Open, statement}
 use Rattle.machine.specs.Rules.{Rule, ◌⇒◌, find_rule, end_rules, verb_rules, frame_rules}
 use Rattle.state.specs.Words.{x_word, kind_in, at_in, list_in}
-use Rattle.simulation.specs.Simulation.{code_among, Held, Ready, Turns, on_top}
+use Rattle.simulation.specs.Simulation.{code_among, Ready, Turns, on_top}
+use Rattle.state.specs.declared.Held.{Held}
 use Rattle.simulation.proofs.Tests.{kinds_of, among_any, among_code}
 use Rattle.simulation.proofs.Turning.{turns_comes, turns_then}
 use Rattle.nodes.specs.Nodes.{Ends, verb_kinds}

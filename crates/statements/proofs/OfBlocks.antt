@@ -19,7 +19,8 @@ use Rattle.machine.specs.Memory.{Write, return, ◌>>=◌, enter}
 use Rattle.machine.specs.Frame.{Ending, brace, Place, subject_before, Frame, triples_or_end, Open, statement}
 use Rattle.machine.specs.Rules.{find_rule, subject_rules, end_rules, frame_rules, rules}
 use Rattle.state.specs.Words.{x_word, kind_in, at_in, depth_in, graph_in}
-use Rattle.simulation.specs.Simulation.{Held, held, here, Ready, Turns, refusal_here}
+use Rattle.simulation.specs.Simulation.{held, here, Ready, Turns, refusal_here}
+use Rattle.state.specs.declared.Held.{Held}
 use Rattle.simulation.proofs.Tests.{kinds_of, among_any, among_code, no_rule}
 use Rattle.simulation.proofs.Frames.{found_above, none_above}
 use Rattle.simulation.proofs.Turning.{turns_here, turns_then, turns_stop, turns_none}

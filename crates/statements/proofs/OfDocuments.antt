@@ -11,7 +11,8 @@ use Rattle.grammar.specs.Productions.{Mode, trig, turtle}
 use Rattle.machine.specs.Frame.{statement}
 use Rattle.machine.specs.Read.{mode_of}
 use Rattle.state.specs.Words.{kind_in, at_in}
-use Rattle.simulation.specs.Simulation.{code_among, Held, Ready, Turns}
+use Rattle.simulation.specs.Simulation.{code_among, Ready, Turns}
+use Rattle.state.specs.declared.Held.{Held}
 use Rattle.simulation.proofs.Turning.{turns_here, turns_then}
 use Rattle.simulation.proofs.Steps.{goes_ended}
 use Rattle.nesting.proofs.Aiming.{less_left}

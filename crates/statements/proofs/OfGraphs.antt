@@ -11,7 +11,8 @@ use Rattle.grammar.specs.Productions.{Mode, trig}
 use Rattle.machine.specs.Frame.{graph_body, label_or_subject, statement}
 use Rattle.machine.specs.Rules.{rules}
 use Rattle.state.specs.Words.{kind_in, depth_in}
-use Rattle.simulation.specs.Simulation.{Held, held, Ready, refusal_here}
+use Rattle.simulation.specs.Simulation.{held, Ready, refusal_here}
+use Rattle.state.specs.declared.Held.{Held}
 use Rattle.simulation.proofs.Tests.{among_code}
 use Rattle.simulation.proofs.Turning.{turns_then, turns_none}
 use Rattle.simulation.proofs.Steps.{here_some}

@@ -22,7 +22,8 @@ use Rattle.machine.specs.Refusals.{new_depth}
 use Rattle.machine.specs.Step.{awaited_by}
 use Rattle.state.specs.Words.{kind_in, depth_in, graph_in}
 use Rattle.state.specs.Cursor.{Cursor, TokenHere}
-use Rattle.simulation.specs.Simulation.{Held, held, here, Ready, Turns}
+use Rattle.simulation.specs.Simulation.{held, here, Ready, Turns}
+use Rattle.state.specs.declared.Held.{Held}
 use Rattle.simulation.proofs.Frames.{ready_does}
 use Rattle.simulation.proofs.Turning.{turns_does}
 use Rattle.simulation.proofs.Steps.{tied_here}

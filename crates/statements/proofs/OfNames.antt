@@ -25,7 +25,8 @@ use Rattle.machine.specs.Refusals.{new_depth}
 use Rattle.state.specs.Words.{at_word, kind_in, at_in, depth_in, node_in, graph_in}
 use Rattle.state.specs.Writes.{placed}
 use Rattle.state.specs.Cursor.{Cursor, TokenHere}
-use Rattle.simulation.specs.Simulation.{code_among, Held, held, here, Ready, Reads, on_top, Turns, refusal_here}
+use Rattle.simulation.specs.Simulation.{code_among, held, here, Ready, Reads, on_top, Turns, refusal_here}
+use Rattle.state.specs.declared.Held.{Held}
 use Rattle.simulation.proofs.Tests.{kinds_of, among_any, among_code, no_rule}
 use Rattle.simulation.proofs.Frames.{reads_does, reads_none}
 use Rattle.simulation.proofs.Turning.{turns_comes, turns_then, turns_stop}

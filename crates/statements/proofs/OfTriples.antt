@@ -20,7 +20,8 @@ use Rattle.machine.specs.Frame.{full_stop, Place, top, subject_before, label_or_
 use Rattle.machine.specs.Rules.{find_rule, subject_rules, document_rules, end_rules, above, rules}
 use Rattle.machine.specs.Read.{mode_of}
 use Rattle.state.specs.Words.{x_word, kind_in, depth_in, graph_in, list_in}
-use Rattle.simulation.specs.Simulation.{code_among, Held, held, here, Ready, Turns, refusal_here}
+use Rattle.simulation.specs.Simulation.{code_among, held, here, Ready, Turns, refusal_here}
+use Rattle.state.specs.declared.Held.{Held}
 use Rattle.simulation.proofs.Tests.{kinds_of, among_any, among_code, no_rule}
 use Rattle.simulation.proofs.Turning.{turns_then, turns_stop, turns_none}
 use Rattle.simulation.proofs.Steps.{here_some}

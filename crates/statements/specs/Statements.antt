@@ -12,7 +12,8 @@ use Rattle.machine.specs.Step.{awaited_by, accepted, refused, at_end}
 use Rattle.state.specs.Words.{kind_in, at_in, list_in}
 use Rattle.state.specs.Cursor.{TokenHere}
 use Rattle.state.specs.Represents.{Tables}
-use Rattle.simulation.specs.Simulation.{code_among, Held, here, Holding, goes, Same, Turns}
+use Rattle.simulation.specs.Simulation.{code_among, here, Holding, goes, Same, Turns}
+use Rattle.state.specs.declared.Held.{Held}
 use Rattle.directives.specs.Directives.{directive_kinds}
 
 -- The triples in braces were read, with the closing one.

@@ -8,7 +8,7 @@ ghost use Rattle.grammar.specs.Productions.{trig};
 ghost use Rattle.machine.specs.Read.{mode_of};
 ghost use Rattle.state.specs.Words.{kind_in};
 ghost use Rattle.state.specs.Writes.{placed, opened_at};
-ghost use Rattle.simulation.specs.Simulation.{code_among, Ready, Does, at_call, at_entry, at_exit};
+ghost use Rattle.simulation.specs.Simulation.{code_among, Ready, Does};
 ghost use Rattle.nodes.specs.Nodes.{spot_of, Spotted, Numbers, PutsTerm, term_kinds, verb_kinds};
 ghost use Rattle.token.specs.Kind.{kind_code, end_kind, kw_a, GRAPH};
 ghost use Rattle.directives.specs.Directives.{directive_kinds};
@@ -30,128 +30,80 @@ fn is_directive(kind: usize) -> bool
 }
 
 // The triples in braces, behind the opening one.
-fn block(
-    doc: &&[u8],
-    work: &mut &mut [u8],
-    rows: &mut &mut [u32],
-    terms: &mut &mut [u32],
-    store: &mut &mut [u8],
-    st: &mut [usize; Layout::WORDS],
-) -> u8
-    requires { Ready doc.now.now (at_call work rows terms store st) }
-    ensures { Block doc.now.now (at_entry work rows terms store st) (at_exit work rows terms store st) result }
+fn block(doc: &[u8], held: &mut Held<'_>) -> Result<(), Refusal>
+    requires { Ready doc.now held.old }
+    ensures { Block doc.now held.old held.new (code result) }
 {
     loop {
-        if st[Words::KIND] == Kind::CLOSE_BRACE {
-            nodes::enter(doc, st, 0);
-            return 0;
+        if held.st[Words::KIND] == Kind::CLOSE_BRACE {
+            nodes::enter(doc, &mut held.st, 0);
+            return Ok(());
         }
-        let c = subjects::subject(doc, work, rows, terms, store, st);
-        if c != 0 {
-            return c;
+        subjects::subject(doc, held)?;
+        subjects::predicates(doc, held)?;
+        if held.st[Words::KIND] == Kind::CLOSE_BRACE {
+            nodes::enter(doc, &mut held.st, 0);
+            return Ok(());
         }
-        let d = subjects::predicates(doc, work, rows, terms, store, st);
-        if d != 0 {
-            return d;
+        if held.st[Words::KIND] != Kind::DOT {
+            return Err(simulation::unexpected(doc, &held.st));
         }
-        if st[Words::KIND] == Kind::CLOSE_BRACE {
-            nodes::enter(doc, st, 0);
-            return 0;
-        }
-        if st[Words::KIND] != Kind::DOT {
-            return simulation::unexpected(*doc, st);
-        }
-        nodes::pass(doc, st);
+        nodes::pass(doc, &mut held.st);
     }
 }
 
 // A graph in braces, behind its label.
-fn graph(
-    doc: &&[u8],
-    work: &mut &mut [u8],
-    rows: &mut &mut [u32],
-    terms: &mut &mut [u32],
-    store: &mut &mut [u8],
-    st: &mut [usize; Layout::WORDS],
-    n: usize,
-) -> u8
-    requires { Ready doc.now.now (at_call work rows terms store st) × (n < word_limit) }
-    ensures { Graph doc.now.now (at_entry work rows terms store st) (at_exit work rows terms store st) n result }
+fn graph(doc: &[u8], held: &mut Held<'_>, n: usize) -> Result<(), Refusal>
+    requires { Ready doc.now held.old × (n < word_limit) }
+    ensures { Graph doc.now held.old held.new n (code result) }
 {
-    if st[Words::KIND] != Kind::OPEN_BRACE {
-        return simulation::unexpected(*doc, st);
+    if held.st[Words::KIND] != Kind::OPEN_BRACE {
+        return Err(simulation::unexpected(doc, &held.st));
     }
-    nodes::enter(doc, st, n);
-    block(doc, work, rows, terms, store, st)
+    nodes::enter(doc, &mut held.st, n);
+    block(doc, held)
 }
 
 // The label behind GRAPH, and its graph.
-fn named_graph(
-    doc: &&[u8],
-    work: &mut &mut [u8],
-    rows: &mut &mut [u32],
-    terms: &mut &mut [u32],
-    store: &mut &mut [u8],
-    st: &mut [usize; Layout::WORDS],
-) -> u8
-    requires { Ready doc.now.now (at_call work rows terms store st) × (kind_in st.old ≡ kind_code GRAPH) }
-    ensures { Statement trig doc.now.now (at_entry work rows terms store st) (at_exit work rows terms store st) result }
+fn named_graph(doc: &[u8], held: &mut Held<'_>) -> Result<(), Refusal>
+    requires { Ready doc.now held.old × (kind_in held.old.st ≡ kind_code GRAPH) }
+    ensures { Statement trig doc.now held.old held.new (code result) }
 {
-    nodes::pass(doc, st);
-    nodes::aim(st, 0, 0, 0, 0, 0);
-    if subjects::is_label(st[Words::KIND]) {
-        let c = nesting::leaf(doc, work, rows, terms, store, st);
-        if c != 0 {
-            return c;
-        }
-        let n = st[Words::NODE];
-        return graph(doc, work, rows, terms, store, st, n);
+    nodes::pass(doc, &mut held.st);
+    nodes::aim(&mut held.st, 0, 0, 0, 0, 0);
+    if subjects::is_label(held.st[Words::KIND]) {
+        nesting::leaf(doc, held)?;
+        let n = held.st[Words::NODE];
+        return graph(doc, held, n);
     }
-    if st[Words::KIND] != Kind::OPEN_BRACKET {
-        return simulation::unexpected(*doc, st);
+    if held.st[Words::KIND] != Kind::OPEN_BRACKET {
+        return Err(simulation::unexpected(doc, &held.st));
     }
-    let d = simple_terms::put_bracket(doc, work, rows, terms, store, st);
-    if d != 0 {
-        return d;
+    simple_terms::put_bracket(doc, held)?;
+    let g = held.st[Words::NODE];
+    if held.st[Words::KIND] != Kind::CLOSE_BRACKET {
+        return Err(simulation::unexpected(doc, &held.st));
     }
-    let g = st[Words::NODE];
-    if st[Words::KIND] != Kind::CLOSE_BRACKET {
-        return simulation::unexpected(*doc, st);
-    }
-    nodes::leave(doc, st);
-    graph(doc, work, rows, terms, store, st, g)
+    nodes::leave(doc, &mut held.st);
+    graph(doc, held, g)
 }
 
 // Triples outside braces, or a graph behind its label.
-fn triples(
-    doc: &&[u8],
-    work: &mut &mut [u8],
-    rows: &mut &mut [u32],
-    terms: &mut &mut [u32],
-    store: &mut &mut [u8],
-    st: &mut [usize; Layout::WORDS],
-    mode: u8,
-) -> u8
-    requires { (Ready doc.now.now (at_call work rows terms store st) × (mode ≤ 1)) × Plain mode (kind_in st.old) }
-    ensures { Statement (mode_of mode) doc.now.now (at_entry work rows terms store st) (at_exit work rows terms store st) result }
+fn triples(doc: &[u8], held: &mut Held<'_>, mode: u8) -> Result<(), Refusal>
+    requires { (Ready doc.now held.old × (mode ≤ 1)) × Plain mode (kind_in held.old.st) }
+    ensures { Statement (mode_of mode) doc.now held.old held.new (code result) }
 {
-    let c = subjects::subject(doc, work, rows, terms, store, st);
-    if c != 0 {
-        return c;
+    subjects::subject(doc, held)?;
+    if is_graph_label(&held.st, mode) {
+        let n = held.st[Words::X];
+        return graph(doc, held, n);
     }
-    if is_graph_label(st, mode) {
-        let n = st[Words::X];
-        return graph(doc, work, rows, terms, store, st, n);
+    subjects::predicates(doc, held)?;
+    if held.st[Words::KIND] != Kind::DOT {
+        return Err(simulation::unexpected(doc, &held.st));
     }
-    let d = subjects::predicates(doc, work, rows, terms, store, st);
-    if d != 0 {
-        return d;
-    }
-    if st[Words::KIND] != Kind::DOT {
-        return simulation::unexpected(*doc, st);
-    }
-    nodes::pass(doc, st);
-    0
+    nodes::pass(doc, &mut held.st);
+    Ok(())
 }
 
 // Whether a graph comes behind the subject that was read.
@@ -168,52 +120,33 @@ fn is_graph_label(st: &[usize; Layout::WORDS], mode: u8) -> bool
 }
 
 // A statement, a directive or a graph.
-fn one_statement(
-    doc: &&[u8],
-    work: &mut &mut [u8],
-    rows: &mut &mut [u32],
-    terms: &mut &mut [u32],
-    store: &mut &mut [u8],
-    st: &mut [usize; Layout::WORDS],
-    mode: u8,
-) -> u8
-    requires { (Ready doc.now.now (at_call work rows terms store st) × (mode ≤ 1)) × (kind_in st.old ≡ end_kind → ⊥) }
-    ensures { Statement (mode_of mode) doc.now.now (at_entry work rows terms store st) (at_exit work rows terms store st) result }
+fn one_statement(doc: &[u8], held: &mut Held<'_>, mode: u8) -> Result<(), Refusal>
+    requires { (Ready doc.now held.old × (mode ≤ 1)) × (kind_in held.old.st ≡ end_kind → ⊥) }
+    ensures { Statement (mode_of mode) doc.now held.old held.new (code result) }
 {
-    let kind = st[Words::KIND];
+    let kind = held.st[Words::KIND];
     if is_directive(kind) {
-        return directives::directive(doc, work, rows, terms, store, st);
+        return directives::directive(doc, held);
     }
     if mode == 0 {
         if kind == Kind::OPEN_BRACE {
-            return graph(doc, work, rows, terms, store, st, 0);
+            return graph(doc, held, 0);
         }
         if kind == Kind::GRAPH {
-            return named_graph(doc, work, rows, terms, store, st);
+            return named_graph(doc, held);
         }
-        return triples(doc, work, rows, terms, store, st, mode);
+        return triples(doc, held, mode);
     }
-    triples(doc, work, rows, terms, store, st, mode)
+    triples(doc, held, mode)
 }
 
 // All statements, to the end of the document.
-pub fn statements(
-    doc: &&[u8],
-    work: &mut &mut [u8],
-    rows: &mut &mut [u32],
-    terms: &mut &mut [u32],
-    store: &mut &mut [u8],
-    st: &mut [usize; Layout::WORDS],
-    mode: u8,
-) -> u8
-    requires { Ready doc.now.now (at_call work rows terms store st) × (mode ≤ 1) }
-    ensures { ReadsAll (mode_of mode) doc.now.now (at_entry work rows terms store st) (at_exit work rows terms store st) result }
+pub fn statements(doc: &[u8], held: &mut Held<'_>, mode: u8) -> Result<(), Refusal>
+    requires { Ready doc.now held.old × (mode ≤ 1) }
+    ensures { ReadsAll (mode_of mode) doc.now held.old held.new (code result) }
 {
-    while st[Words::KIND] != Kind::END {
-        let refusal = one_statement(doc, work, rows, terms, store, st, mode);
-        if refusal != 0 {
-            return refusal;
-        }
+    while held.st[Words::KIND] != Kind::END {
+        one_statement(doc, held, mode)?;
     }
-    0
+    Ok(())
 }

@@ -18,7 +18,8 @@ use Rattle.machine.specs.Rules.{find_rule, after_node, after_properties, end_rul
 use Rattle.state.specs.Words.{kind_word, at_word, kind_in, at_in, depth_in, node_in, graph_in}
 use Rattle.state.specs.Cursor.{TokenHere}
 use Rattle.state.specs.Writes.{placed}
-use Rattle.simulation.specs.Simulation.{code_among, Held, held, here, Ready, Reads, on_top, Turns, refusal_here}
+use Rattle.simulation.specs.Simulation.{code_among, held, here, Ready, Reads, on_top, Turns, refusal_here}
+use Rattle.state.specs.declared.Held.{Held}
 use Rattle.simulation.proofs.Tests.{among_code}
 use Rattle.simulation.proofs.Steps.{tied_here, here_some}
 use Rattle.simulation.proofs.Frames.{ready_does, reads_none}

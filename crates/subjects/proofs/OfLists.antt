@@ -15,7 +15,8 @@ use Rattle.machine.specs.Rules.{after_node, list_place}
 use Rattle.state.specs.Words.{terms_word, kind_word, at_word, depth_word, x_word, y_word, kind_in, at_in, depth_in, node_in}
 use Rattle.state.specs.Cursor.{TokenHere}
 use Rattle.state.specs.Writes.{opened_at}
-use Rattle.simulation.specs.Simulation.{Held, held, here, Ready, Reads, on_top, Turns, Does}
+use Rattle.simulation.specs.Simulation.{held, here, Ready, Reads, on_top, Turns, Does}
+use Rattle.state.specs.declared.Held.{Held}
 use Rattle.simulation.proofs.Steps.{tied_here}
 use Rattle.simulation.proofs.Frames.{ready_does}
 use Rattle.simulation.proofs.Turning.{turns_comes, turns_then, turns_stop, turns_does}

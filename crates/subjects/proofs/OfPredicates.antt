@@ -5,7 +5,8 @@ use mathlib.Core.Bool.{true, false}
 use Prim.Native.Nat.{ℕ}
 use lib.ListN.{get_or}
 use Rattle.text.specs.Text.{Text}
-use Rattle.simulation.specs.Simulation.{code_among, Held, here, Ready, on_top, refusal_here}
+use Rattle.simulation.specs.Simulation.{code_among, here, Ready, on_top, refusal_here}
+use Rattle.state.specs.declared.Held.{Held}
 use Rattle.simulation.proofs.Compose.{comes_here}
 use Rattle.simulation.proofs.Steps.{here_some}
 use Rattle.simulation.proofs.Frames.{reads_none}

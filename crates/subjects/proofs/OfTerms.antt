@@ -18,7 +18,8 @@ use Rattle.machine.specs.Rules.{after_node}
 use Rattle.state.specs.Words.{kind_word, at_word, list_word, kind_in, at_in, node_in}
 use Rattle.state.specs.Cursor.{TokenHere}
 use Rattle.state.specs.Writes.{placed}
-use Rattle.simulation.specs.Simulation.{code_among, Held, held, here, Ready, Turns, refusal_here}
+use Rattle.simulation.specs.Simulation.{code_among, held, here, Ready, Turns, refusal_here}
+use Rattle.state.specs.declared.Held.{Held}
 use Rattle.simulation.proofs.Tests.{among_code}
 use Rattle.simulation.proofs.Steps.{tied_here, here_some}
 use Rattle.simulation.proofs.Frames.{ready_does}

@@ -20,7 +20,8 @@ use Rattle.simulation.proofs.Frames.{found_above}
 use Rattle.nodes.specs.Nodes.{term_rules, term_kinds}
 use Rattle.nodes.proofs.Slots.{found_made, found_front}
 use Rattle.grammar.specs.Productions.{Mode}
-use Rattle.simulation.specs.Simulation.{Held, held, here}
+use Rattle.simulation.specs.Simulation.{held, here}
+use Rattle.state.specs.declared.Held.{Held}
 use Rattle.machine.specs.Refusals.{new_depth}
 use Rattle.state.specs.Words.{kind_word, at_word, len_word, list_word, kind_in, depth_in}
 use Rattle.nodes.proofs.Moving.{token_words}

@@ -12,7 +12,8 @@ use Rattle.machine.specs.Rules.{find_rule, after_node, after_properties, list_pl
 use Rattle.machine.specs.Step.{awaited_by, refused, at_end}
 use Rattle.state.specs.Words.{x_word, kind_in, at_in, list_in}
 use Rattle.state.specs.Cursor.{TokenHere}
-use Rattle.simulation.specs.Simulation.{code_among, Held, here, Turns}
+use Rattle.simulation.specs.Simulation.{code_among, here, Turns}
+use Rattle.state.specs.declared.Held.{Held}
 use Rattle.nodes.specs.Nodes.{Verbs, Ends, verb_kinds}
 use Rattle.nesting.specs.Nesting.{Listed}
 use Rattle.table.specs.Layout.{word_limit}

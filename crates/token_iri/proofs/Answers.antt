@@ -28,18 +28,17 @@ use Rattle.environment.specs.declared.Found.{Found}
 use Rattle.environment.specs.declared.Found.TheVariants.{At, Missing}
 use Rattle.dataset.specs.Constructors.{inner, iri_of, nothing, awaiting}
 use Rattle.token_iri.specs.Tests.{token_as, Sound, iri_refusal, outcome}
-use Rattle.token_iri.specs.Addresses.{refused_address, front_of, back_of, with_form, Addresses, WritesReference, LocalFrom}
-use Rattle.token_iri.specs.declared.Address.{Address}
+use Rattle.token_iri.specs.Addresses.{Answered, refused_address, front_of, back_of, with_form, Addresses, WritesReference, LocalFrom}
 use Rattle.token_iri.proofs.Between.{inside_good, inside_read, scheme_inside}
 use Rattle.token_iri.proofs.Bases.{outcome_written}
 use Rattle.token_iri.proofs.Refused.{iriref_iri, iri_bad, iri_no_base, iri_long, iri_written, name_missing, name_iri, name_refused}
 
 -- A refused token.
-pub refused : (kind : ℕ) (token work : Text) (st : List ℕ) (buffer : Text) (n : ℕ) (r : Address) → 0 < n → r ≡ refused_address n
+pub refused : (kind : ℕ) (token work : Text) (st : List ℕ) (buffer : Text) (n : ℕ) (r : Answered) → 0 < n → r ≡ refused_address n
     → (Usable work st → Sound (environment_in work st) → (kind ≡ kind_code IRIREF → get_or token 0 0 ≡ 60) → (at : ℕ) → n ≡ iri_refusal (awaiting nothing (environment_in work st)) (token_as kind at token))
     → Addresses kind token work st buffer r
 refused kind token work st buffer n r h e f =
-    subst (λ (x : Address). Addresses kind token work st buffer x) (sym e)
+    subst (λ (x : Answered). Addresses kind token work st buffer x) (sym e)
     (record {
       order = omega arith;
       inside = omega arith;
@@ -51,7 +50,7 @@ refused kind token work st buffer n r h e f =
 -- ---- An IRIREF
 
 module _ (token work : Text) (st : List ℕ) (buffer : Text) where
-  pub refused_bad : (b : Bool) (r : Address) → b ≡ bad_escape token → b ≡ true → r ≡ refused_address 7 → Addresses (kind_code IRIREF) token work st buffer r
+  pub refused_bad : (b : Bool) (r : Answered) → b ≡ bad_escape token → b ≡ true → r ≡ refused_address 7 → Addresses (kind_code IRIREF) token work st buffer r
   refused_bad b r eb h e = refused (kind_code IRIREF) token work st buffer 7 r (omega arith) e (λ u s g at. iri_bad (environment_in work st) at token nothing refl (sym eb ∙ h))
 
   module _ (b : Bool) (eb : b ≡ bad_escape token) (good : b ≡ false) (text : Text) (et : text ≡ inner 1 token) where
@@ -69,7 +68,7 @@ module _ (token work : Text) (st : List ℕ) (buffer : Text) where
       unfolding outcome
       long_outcome l base = rw (own_scheme, lt-ltb iri_limit (length (unescape (inner 1 token))) (omega (arith, own_length)))
 
-      pub refused_long : iri_limit < n → (r : Address) → r ≡ refused_address 11 → Addresses (kind_code IRIREF) token work st buffer r
+      pub refused_long : iri_limit < n → (r : Answered) → r ≡ refused_address 11 → Addresses (kind_code IRIREF) token work st buffer r
       refused_long l r e =
           refused 1 token work st buffer 11 r (omega arith) e
           (λ u s g at. iri_long (environment_in work st) at token nothing refl right (long_outcome l (environment_in work st).base))
@@ -105,12 +104,12 @@ module _ (token work : Text) (st : List ℕ) (buffer : Text) where
       is_outcome : Usable work st → Sound (environment_in work st) → get_or token 0 0 ≡ 60 → a ≡ outcome (environment_in work st).base (unescape (inner 1 token))
       is_outcome u s g = (w.resolves u s (ap bad_escape et ∙ inside_good token g right)).is ∙ ap (λ (x : Text). outcome (environment_in work st).base (unescape x)) et
 
-      pub refused_no_base : a ≡ NoBase → (r : Address) → r ≡ refused_address 10 → Addresses (kind_code IRIREF) token work st buffer r
+      pub refused_no_base : a ≡ NoBase → (r : Answered) → r ≡ refused_address 10 → Addresses (kind_code IRIREF) token work st buffer r
       refused_no_base ea r e =
           refused 1 token work st buffer 10 r (omega arith) e
           (λ u s g at. iri_no_base (environment_in work st) at token nothing refl right (sym ea ∙ is_outcome u s (g refl)))
 
-      pub refused_over : a ≡ Long → (r : Address) → r ≡ refused_address 11 → Addresses (kind_code IRIREF) token work st buffer r
+      pub refused_over : a ≡ Long → (r : Answered) → r ≡ refused_address 11 → Addresses (kind_code IRIREF) token work st buffer r
       refused_over ea r e =
           refused 1 token work st buffer 11 r (omega arith) e
           (λ u s g at. iri_long (environment_in work st) at token nothing refl right (sym ea ∙ is_outcome u s (g refl)))
@@ -152,11 +151,11 @@ unfolding FoundIn
 found_none p work st f h e = subst (FoundIn p (environment_in work st) work) e h
 
 module _ (kind : ℕ) (token work : Text) (st : List ℕ) (buffer : Text) where
-  pub refused_unusable : (r : Address) → length work < work_size → r ≡ refused_address 9 → Addresses kind token work st buffer r
+  pub refused_unusable : (r : Answered) → length work < work_size → r ≡ refused_address 9 → Addresses kind token work st buffer r
   refused_unusable r h e = refused kind token work st buffer 9 r (omega arith) e (λ u s g at. absurd (omega (arith, u.room)))
 
   module _ (least : kind_code PNAME_NS ≤ kind) (most : kind ≤ kind_code PNAME_LN) (i : ℕ) (colon : i ≡ before (is ":") token) (f : Found) (look : work_size ≤ length work → FoundIn (take i token) (environment_in work st) work f) where
-    pub refused_missing : f ≡ Missing → (r : Address) → r ≡ refused_address 9 → Addresses kind token work st buffer r
+    pub refused_missing : f ≡ Missing → (r : Answered) → r ≡ refused_address 9 → Addresses kind token work st buffer r
     refused_missing ef r e =
         refused kind token work st buffer 9 r (omega arith) e
         (λ u s g at. name_missing (environment_in work st) kind at token least most i colon (found_none (take i token) work st f (look u.room) ef))
@@ -176,7 +175,7 @@ module _ (kind : ℕ) (token work : Text) (st : List ℕ) (buffer : Text) where
           length-append (take n (drop start work)) (unreserve (drop 1 (drop i token)))
           ∙ rw (length-take-le n (drop start work) (omega (arith, bounds.0, room, length-drop start work)), em, back_is)
 
-      pub refused_joined : iri_limit - n < m → (r : Address) → r ≡ refused_address 11 → Addresses kind token work st buffer r
+      pub refused_joined : iri_limit - n < m → (r : Answered) → r ≡ refused_address 11 → Addresses kind token work st buffer r
       refused_joined h r e =
           refused kind token work st buffer 11 r (omega arith) e
           (λ u s g at. over (name_refused (environment_in work st) kind at token least most i colon (take n (drop start work)) is_found))
@@ -205,7 +204,7 @@ module _ (kind : ℕ) (token work : Text) (st : List ℕ) (buffer : Text) where
           within : {x : ℕ} → cond (ltb iri_limit (length (take n (drop start work) ++ unreserve (drop 1 (drop i token))))) 11 0 ≡ x → 0 ≡ x
           within q = rw (joined_size, le-ltb iri_limit (n + m) (omega (arith, bounds.1))) at q
 
-pub as_kind : (kind : ℕ) (token work : Text) (st : List ℕ) (buffer : Text) (r : Address) → kind ≡ kind_code IRIREF → Addresses (kind_code IRIREF) token work st buffer r → Addresses kind token work st buffer r
+pub as_kind : (kind : ℕ) (token work : Text) (st : List ℕ) (buffer : Text) (r : Answered) → kind ≡ kind_code IRIREF → Addresses (kind_code IRIREF) token work st buffer r → Addresses kind token work st buffer r
 as_kind kind token work st buffer r e a = subst (λ (k : ℕ). Addresses k token work st buffer r) (sym e) a
 
 -- ---- Forms that read the same
@@ -215,7 +214,7 @@ abbrev pub Reads : Form → Form → Text → Type 0
 Reads f g back = (undo f back ≡ undo g back) × (bad f back ≡ bad g back)
 
 -- An address with its back in another form that reads the same.
-pub in_form : (kind : ℕ) (token work : Text) (st : List ℕ) (buffer : Text) (a : Address) (f : Form) → Reads f a.form (back_of a token buffer) → Addresses kind token work st buffer a
+pub in_form : (kind : ℕ) (token work : Text) (st : List ℕ) (buffer : Text) (a : Answered) (f : Form) → Reads f a.form (back_of a token buffer) → Addresses kind token work st buffer a
     → Addresses kind token work st buffer (with_form a f)
 unfolding joined
 in_form kind token work st buffer a f q A = record {

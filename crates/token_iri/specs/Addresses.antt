@@ -1,7 +1,9 @@
 -- What the code answers for an IRIREF or a prefixed name, and what the directives leave.
-use Rattle.std.specs.Prelude.{◌≡◌, List, false, ℕ, ◌-◌, ◌≤◌, length, get_or, take, drop}
+use Rattle.std.specs.Prelude.{◌≡◌, Result, Ok, Err, List, Bool, false, ℕ, ◌-◌, ◌≤◌, length, get_or, take, drop}
 use Rattle.text.specs.Text.{Text, cond}
 use Rattle.limits.specs.Limits.{iri_limit, work_size}
+use Rattle.limits.specs.Refusal.{number}
+use Rattle.limits.specs.declared.Refusal.{Refusal}
 use Rattle.token.specs.Kind.{kind_code, IRIREF}
 use Rattle.token.specs.Tokens.{Token}
 use Rattle.escape.specs.Escape.{bad_escape, unescape}
@@ -17,18 +19,35 @@ use Rattle.dataset.specs.Constructors.{iri_of, nothing, new_base, namespace_of, 
 use Rattle.token_iri.specs.Tests.{token_as, Sound, iri_refusal, namespace_refusal, outcome}
 use Rattle.token_iri.specs.declared.Address.{Address}
 
--- The front and the back of the IRI.
-abbrev pub front_of : Address → Text → Text
-front_of r work = take (r.end - r.start) (drop r.start work)
+-- What is answered: the number of a refusal, 0 for none, and the parts of the IRI, which are empty where it is refused.
+pub record Answered : Type 0 where
+  pub refused : ℕ
+  pub start : ℕ
+  pub end : ℕ
+  pub form : Form
+  pub from : ℕ
+  pub to : ℕ
+  pub buffered : Bool
 
-abbrev pub back_of : Address → Text → Text → Text
-back_of r token buffer = take (r.to - r.from) (drop r.from (cond r.buffered buffer token))
+abbrev pub parts_of : Address → Answered
+parts_of a = record { refused = 0; start = a.start; end = a.end; form = a.form; from = a.from; to = a.to; buffered = a.buffered }
 
-abbrev pub refused_address : ℕ → Address
+abbrev pub refused_address : ℕ → Answered
 refused_address n = record { refused = n; start = 0; end = 0; form = Plain; from = 0; to = 0; buffered = false }
 
+abbrev pub answered : Result Address Refusal → Answered
+answered (Ok a) = parts_of a
+answered (Err r) = refused_address (number r)
+
+-- The front and the back of the IRI.
+abbrev pub front_of : Answered → Text → Text
+front_of r work = take (r.end - r.start) (drop r.start work)
+
+abbrev pub back_of : Answered → Text → Text → Text
+back_of r token buffer = take (r.to - r.from) (drop r.from (cond r.buffered buffer token))
+
 -- The refusal, or the IRI that the token stands for.
-pub record StandsFor (e : Environment) (t : Token) (r : Address) (front back : Text) : Type 0 where
+pub record StandsFor (e : Environment) (t : Token) (r : Answered) (front back : Text) : Type 0 where
   pub refusal : r.refused ≡ iri_refusal (awaiting nothing e) t
   pub iri : r.refused ≡ 0 → iri_of e t ≡ joined front r.form back
   pub right : r.refused ≡ 0 → bad r.form back ≡ false
@@ -36,7 +55,7 @@ pub record StandsFor (e : Environment) (t : Token) (r : Address) (front back : T
 
 -- The parts lie within their slices, also where the token is refused. An IRIREF begins with "<": behind a backslash the
 -- escapes of its inside would be others than those of the whole.
-pub record Addresses (kind : ℕ) (token work : Text) (st : List ℕ) (buffer : Text) (r : Address) : Type 0 where
+pub record Addresses (kind : ℕ) (token work : Text) (st : List ℕ) (buffer : Text) (r : Answered) : Type 0 where
   pub order : r.start ≤ r.end
   pub inside : r.end ≤ work_size
   pub back_order : r.from ≤ r.to
@@ -45,7 +64,7 @@ pub record Addresses (kind : ℕ) (token work : Text) (st : List ℕ) (buffer : 
       → StandsFor (environment_in work st) (token_as kind at token) r (front_of r work) (back_of r token buffer)
 
 -- The same address with its back in a form that reads the same.
-abbrev pub with_form : Address → Form → Address
+abbrev pub with_form : Answered → Form → Answered
 with_form a f = record { refused = a.refused; start = a.start; end = a.end; form = f; from = a.from; to = a.to; buffered = a.buffered }
 
 -- The reference s, without bad escapes, is resolved into the front of the buffer.

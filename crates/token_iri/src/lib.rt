@@ -5,6 +5,7 @@
 ghost use Rattle.std.specs.Prelude.{◌≡◌, false, not, ◌&&◌, ◌+◌, ◌≤◌, ◌<◌, length, get_or};
 ghost use Rattle.text.specs.Text.{Text, is, empty};
 ghost use Rattle.limits.specs.Limits.{iri_limit, prefix_limit};
+ghost use Rattle.limits.specs.Refusal.{code};
 ghost use Rattle.token.specs.Kind.{kind_code, IRIREF, PNAME_NS, PNAME_LN};
 ghost use Rattle.escape.specs.Escape.{unescape};
 ghost use Rattle.spelling.specs.Form.{undo};
@@ -13,39 +14,23 @@ ghost use Rattle.iri.specs.Code.{before};
 ghost use Rattle.environment.specs.Code.{environment_in, Usable};
 ghost use Rattle.dataset.specs.Constructors.{inner};
 ghost use Rattle.token_iri.specs.Tests.{Sound};
-ghost use Rattle.token_iri.specs.Addresses.{refused_address, Addresses, WritesReference, LocalFrom, GoodReference, DeclaresNamespace, DeclaresBase};
+ghost use Rattle.token_iri.specs.Addresses.{answered, Addresses, WritesReference, LocalFrom, GoodReference, DeclaresNamespace, DeclaresBase};
 
 use environment::{Declared, Found, Layout};
 use iri::Resolution;
-use limits::{Answer, Limits};
+use limits::{Limits, Refusal};
 use spelling::Form;
 use token::Kind;
 
-// The IRI is work[start..end] before a back of this form, which is from..to of the buffer or of the token. Where
-// `refused` is not 0 it is the refusal's number, and the parts are empty.
+// The IRI is work[start..end] before a back of this form, which is from..to of the buffer or of the token.
 #[derive(Clone, Copy)]
 pub struct Address {
-    pub refused: u8,
     pub start: usize,
     pub end: usize,
     pub form: Form,
     pub from: usize,
     pub to: usize,
     pub buffered: bool,
-}
-
-fn refuse(number: u8) -> Address
-    ensures { result ≡ refused_address number }
-{
-    Address {
-        refused: number,
-        start: 0,
-        end: 0,
-        form: Form::Plain,
-        from: 0,
-        to: 0,
-        buffered: false,
-    }
 }
 
 // What stands between < and >.
@@ -110,42 +95,40 @@ fn reference_address(
     work: &[u8],
     st: &[usize; Layout::WORDS],
     buffer: &mut [u8],
-) -> Address
+) -> Result<Address, Refusal>
     requires { length buffer.old ≡ iri_limit }
-    ensures { Addresses (kind_code IRIREF) token.now work.now st.now buffer.new result }
+    ensures { Addresses (kind_code IRIREF) token.now work.now st.now buffer.new (answered result) }
 {
     if escape::has_bad_escape(token) {
-        return refuse(Answer::ESCAPE);
+        return Err(Refusal::Escape);
     }
     let text = inside(token);
     let form = spelling::simplest(Form::Escaped, text);
     if with_scheme(form, text) {
         if Limits::IRI < spelling::undone_length(form, text) {
-            return refuse(Answer::IRI_LENGTH);
+            return Err(Refusal::IriLength);
         }
-        return Address {
-            refused: 0,
+        return Ok(Address {
             start: 0,
             end: 0,
             form: form,
             from: 1,
             to: token.len() - 1,
             buffered: false,
-        };
+        });
     }
     let a = write_reference(text, work, st, buffer);
     match a {
-        Resolution::NoBase => refuse(Answer::NO_BASE),
-        Resolution::Long => refuse(Answer::IRI_LENGTH),
-        Resolution::Written(k) => Address {
-            refused: 0,
+        Resolution::NoBase => Err(Refusal::NoBase),
+        Resolution::Long => Err(Refusal::IriLength),
+        Resolution::Written(k) => Ok(Address {
             start: 0,
             end: 0,
             form: Form::Plain,
             from: 0,
             to: k,
             buffered: true,
-        },
+        }),
     }
 }
 
@@ -175,32 +158,36 @@ fn local_start(s: &[u8], at: usize) -> usize
 }
 
 // The namespace stays in the work slice, the local part in the token.
-fn name_address(token: &[u8], kind: usize, work: &[u8], st: &[usize; Layout::WORDS]) -> Address
+fn name_address(
+    token: &[u8],
+    kind: usize,
+    work: &[u8],
+    st: &[usize; Layout::WORDS],
+) -> Result<Address, Refusal>
     requires { (kind_code PNAME_NS ≤ kind) × (kind ≤ kind_code PNAME_LN) }
-    ensures { (buffer : Text) → Addresses kind token.now work.now st.now buffer result }
+    ensures { (buffer : Text) → Addresses kind token.now work.now st.now buffer (answered result) }
 {
     if work.len() < Limits::WORK {
-        return refuse(Answer::PREFIX);
+        return Err(Refusal::Prefix);
     }
     let at = colon(token);
     let found = environment::look_up(work, st, &token[..at]);
     let Found::At(start, n) = found else {
-        return refuse(Answer::PREFIX);
+        return Err(Refusal::Prefix);
     };
     let from = local_start(token, at);
     let form = spelling::simplest(Form::Reserved, &token[from..]);
     if Limits::IRI - n < spelling::undone_length(form, &token[from..]) {
-        return refuse(Answer::IRI_LENGTH);
+        return Err(Refusal::IriLength);
     }
-    Address {
-        refused: 0,
+    Ok(Address {
         start: start,
         end: start + n,
         form: form,
         from: from,
         to: token.len(),
         buffered: false,
-    }
+    })
 }
 
 // The IRI of an IRIREF or of a prefixed name, or the first of the refusals 7, 9, 10 and 11.
@@ -210,9 +197,9 @@ pub fn address_of(
     work: &[u8],
     st: &[usize; Layout::WORDS],
     buffer: &mut [u8],
-) -> Address
+) -> Result<Address, Refusal>
     requires { ((kind_code IRIREF ≤ kind) × (kind ≤ kind_code PNAME_LN)) × (length buffer.old ≡ iri_limit) }
-    ensures { Addresses kind token.now work.now st.now buffer.new result }
+    ensures { Addresses kind token.now work.now st.now buffer.new (answered result) }
 {
     if kind == Kind::IRIREF {
         return reference_address(token, work, st, buffer);
@@ -227,21 +214,21 @@ fn declare_written(
     work: &mut [u8],
     st: &mut [usize; Layout::WORDS],
     buffer: &mut [u8],
-) -> u8
+) -> Result<(), Refusal>
     requires { (length buffer.old ≡ iri_limit) × ((length prefix.now ≤ prefix_limit) × (GoodReference token.now × (Usable work.old st.old × Sound (environment_in work.old st.old)))) }
-    ensures { DeclaresNamespace token.now prefix.now work.old work.new st.old st.new result }
+    ensures { DeclaresNamespace token.now prefix.now work.old work.new st.old st.new (code result) }
 {
     let text = inside(token);
     let a = write_reference(text, &work[0..], st, buffer);
     match a {
-        Resolution::NoBase => Answer::NO_BASE,
-        Resolution::Long => Answer::IRI_LENGTH,
+        Resolution::NoBase => Err(Refusal::NoBase),
+        Resolution::Long => Err(Refusal::IriLength),
         Resolution::Written(k) => {
             let d = environment::declare(work, st, prefix, &buffer[..k]);
             match d {
-                Declared::Done => 0,
-                Declared::TooLong => Answer::IRI_LENGTH,
-                Declared::TooMany => Answer::PREFIXES,
+                Declared::Done => Ok(()),
+                Declared::TooLong => Err(Refusal::IriLength),
+                Declared::TooMany => Err(Refusal::Prefixes),
             }
         }
     }
@@ -253,12 +240,12 @@ pub fn declare_namespace(
     prefix: &[u8],
     work: &mut [u8],
     st: &mut [usize; Layout::WORDS],
-) -> u8
+) -> Result<(), Refusal>
     requires { (get_or token.now 0 0 ≡ 60) × ((length prefix.now ≤ prefix_limit) × (Usable work.old st.old × Sound (environment_in work.old st.old))) }
-    ensures { DeclaresNamespace token.now prefix.now work.old work.new st.old st.new result }
+    ensures { DeclaresNamespace token.now prefix.now work.old work.new st.old st.new (code result) }
 {
     if escape::has_bad_escape(token) {
-        return Answer::ESCAPE;
+        return Err(Refusal::Escape);
     }
     let mut buffer = [0u8; Limits::IRI];
     declare_written(token, prefix, work, st, &mut buffer)
@@ -270,31 +257,35 @@ fn set_written(
     work: &mut [u8],
     st: &mut [usize; Layout::WORDS],
     buffer: &mut [u8],
-) -> u8
+) -> Result<(), Refusal>
     requires { (length buffer.old ≡ iri_limit) × (GoodReference token.now × (Usable work.old st.old × Sound (environment_in work.old st.old))) }
-    ensures { DeclaresBase token.now work.old work.new st.old st.new result }
+    ensures { DeclaresBase token.now work.old work.new st.old st.new (code result) }
 {
     let text = inside(token);
     let a = write_reference(text, &work[0..], st, buffer);
     match a {
-        Resolution::NoBase => Answer::NO_BASE,
-        Resolution::Long => Answer::IRI_LENGTH,
+        Resolution::NoBase => Err(Refusal::NoBase),
+        Resolution::Long => Err(Refusal::IriLength),
         Resolution::Written(k) => {
             if environment::set_base(work, st, &buffer[..k]) {
-                return 0;
+                return Ok(());
             }
-            Answer::IRI_LENGTH
+            Err(Refusal::IriLength)
         }
     }
 }
 
 // Sets the base to the IRI of an IRIREF: 0, or the first of the refusals 7, 10 and 11.
-pub fn declare_base(token: &[u8], work: &mut [u8], st: &mut [usize; Layout::WORDS]) -> u8
+pub fn declare_base(
+    token: &[u8],
+    work: &mut [u8],
+    st: &mut [usize; Layout::WORDS],
+) -> Result<(), Refusal>
     requires { (get_or token.now 0 0 ≡ 60) × (Usable work.old st.old × Sound (environment_in work.old st.old)) }
-    ensures { DeclaresBase token.now work.old work.new st.old st.new result }
+    ensures { DeclaresBase token.now work.old work.new st.old st.new (code result) }
 {
     if escape::has_bad_escape(token) {
-        return Answer::ESCAPE;
+        return Err(Refusal::Escape);
     }
     let mut buffer = [0u8; Limits::IRI];
     set_written(token, work, st, &mut buffer)

@@ -7,8 +7,8 @@ returns-then-kind-eq-UNREADABLE c = search here_unread
 pub returns-then-has_bad_escape : goal.returns-then-has_bad_escape
 returns-then-has_bad_escape c = search here_seven
 
-pub returns-then-has_escapes : goal.returns-then-has_escapes
-returns-then-has_escapes c = search here_eight
+pub returns-else-has_bad_escape : goal.returns-else-has_bad_escape
+returns-else-has_bad_escape c = search here_eight
 
-pub returns : goal.returns
-returns c = search here_plain
+pub returns-else-has_escapes : goal.returns-else-has_escapes
+returns-else-has_escapes c = search here_plain
