@@ -3,11 +3,12 @@
 
 ghost use Rattle.std.specs.Prelude.{◌≡◌, length};
 ghost use Rattle.table.specs.Tables.{or_zero};
+ghost use Rattle.limits.specs.Refusal.{code};
 ghost use Rattle.machine.specs.Read.{bad_base, first_checks};
 ghost use Rattle.machine.specs.Step.{first_refusal};
 ghost use Rattle.checks.specs.Checks.{lent_work};
 
-use limits::{Answer, Limits};
+use limits::{Limits, Refusal};
 
 pub fn is_bad_base(base: &[u8]) -> bool
     ensures { result ≡ bad_base base.now }
@@ -24,21 +25,21 @@ pub fn is_bad_base(base: &[u8]) -> bool
     !iri::is_base(base)
 }
 
-// The number of the first of them that refuses the call; 0 where none does.
-pub fn first_check(document: &[u8], mode: u8, base: &[u8], work: &[u8]) -> u8
-    ensures { result ≡ or_zero (first_refusal (first_checks document.now mode base.now (lent_work (length work.now)))) }
+// The first of them that refuses the call.
+pub fn first_check(document: &[u8], mode: u8, base: &[u8], work: &[u8]) -> Result<(), Refusal>
+    ensures { code result ≡ or_zero (first_refusal (first_checks document.now mode base.now (lent_work (length work.now)))) }
 {
     if Limits::DOCUMENT < document.len() {
-        return Answer::DOCUMENT_LENGTH;
+        return Err(Refusal::DocumentLength);
     }
     if 1 < mode {
-        return Answer::MODE;
+        return Err(Refusal::Mode);
     }
     if is_bad_base(base) {
-        return Answer::BASE;
+        return Err(Refusal::Base);
     }
     if work.len() < Limits::WORK {
-        return Answer::WORK;
+        return Err(Refusal::Work);
     }
-    0
+    Ok(())
 }

@@ -3,6 +3,7 @@
 #![tactic(auto)]
 
 ghost use Rattle.std.specs.Prelude.{◌≡◌, true, ◌-◌, length, get_or, take, drop};
+ghost use Rattle.limits.specs.Refusal.{code};
 ghost use Rattle.token.specs.Kind.{kind_code, IRIREF};
 ghost use Rattle.machine.specs.Frame.{prefix_name, namespace_of, new_base, last_dot, directive};
 ghost use Rattle.environment.specs.Code.{words_size};
@@ -13,8 +14,8 @@ ghost use Rattle.simulation.specs.Simulation.{code_among, Ready};
 ghost use Rattle.directives.specs.Directives.{directive_kinds, Able, Prefix, Prefixed, Finishes, Directs};
 
 use environment::Layout;
-use limits::{Answer, Limits};
-use state::Words;
+use limits::{Limits, Refusal};
+use state::{Held, Words};
 use token::Kind;
 
 // The dot behind @prefix or @base.
@@ -139,13 +140,13 @@ pub fn directive(doc: &[u8], held: &mut Held<'_>) -> Result<(), Refusal>
     let kind = held.st[Words::KIND];
     nodes::pass(doc, &mut held.st);
     if kind == Kind::AT_PREFIX {
-        return prefix_part(doc, work, st, true);
+        return prefix_part(doc, &mut held.work, &mut held.st, true);
     }
     if kind == Kind::PREFIX {
-        return prefix_part(doc, work, st, false);
+        return prefix_part(doc, &mut held.work, &mut held.st, false);
     }
     if kind == Kind::AT_BASE {
-        return base_part(doc, work, st, true);
+        return base_part(doc, &mut held.work, &mut held.st, true);
     }
-    base_part(doc, work, st, false)
+    base_part(doc, &mut held.work, &mut held.st, false)
 }

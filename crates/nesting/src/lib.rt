@@ -4,6 +4,7 @@
 
 ghost use Rattle.std.specs.Prelude.{◌≡◌, ◌∷◌, true, false, ◌||◌, ◌≤◌, ◌<◌, length, get_or};
 ghost use Rattle.limits.specs.Limits.{depth_limit};
+ghost use Rattle.limits.specs.Refusal.{code};
 ghost use Rattle.dataset.specs.Terms.{blank, bracket};
 ghost use Rattle.machine.specs.Memory.{new_term};
 ghost use Rattle.state.specs.Words.{kind_in, depth_in, node_in, list_in};
@@ -17,7 +18,8 @@ ghost use Rattle.nesting.specs.Nesting.{Skips, Leaf, Awaited, Lists, Objects, Pr
 ghost use Rattle.table.specs.Layout.{word_limit};
 
 use environment::Layout;
-use state::Words;
+use limits::Refusal;
+use state::{Held, Words};
 use token::Kind;
 
 // Goes behind the semicolons at the cursor.

@@ -4,6 +4,7 @@
 
 ghost use Rattle.std.specs.Prelude.{◌≡◌, [], ◌∷◌, true, ◌+◌, ◌≤◌, ◌<◌, length, get_or, take, drop};
 ghost use Rattle.limits.specs.Limits.{iri_limit};
+ghost use Rattle.limits.specs.Refusal.{code};
 ghost use Rattle.token.specs.Kind.{kind_code, strings, iris, LANGTAG};
 ghost use Rattle.escape.specs.Escape.{unescape, bad_escape};
 ghost use Rattle.spelling.specs.Form.{joined};
@@ -16,16 +17,16 @@ ghost use Rattle.state.specs.Words.{terms_word, kind_in, at_in, len_in};
 ghost use Rattle.state.specs.Cursor.{token_of, Cursor, TokenHere};
 ghost use Rattle.state.specs.Represents.{lent_tables, Represented, Puts};
 ghost use Rattle.state.specs.Writes.{place_of, placed, opened_at, SpotFits};
-ghost use Rattle.token_iri.specs.Addresses.{front_of, back_of};
-ghost use Rattle.simulation.specs.Simulation.{code_among, here, Ready, Reads, Does};
+ghost use Rattle.token_iri.specs.Addresses.{front_of, back_of, parts_of};
+ghost use Rattle.simulation.specs.Simulation.{code_among, here, Ready, Reads, Does, tables_of};
 ghost use Rattle.nodes.specs.Nodes.{Spotted, Fills, Settled};
 ghost use Rattle.rdf_literals.specs.Literals.{ties, quotes_of, text_of, Quoted, Located, spot_at, own_x, own_y, own_spot, Adds, Obeys};
 ghost use Rattle.table.specs.Layout.{word_limit};
 
 use environment::Layout;
-use limits::{Answer, Limits};
+use limits::{Limits, Refusal};
 use spelling::Form;
-use state::{Node, Spot, Words};
+use state::{Held, Node, Spot, Words};
 use token::Kind;
 use token_iri::Address;
 
@@ -266,10 +267,7 @@ fn place_written(
     let from = st[Words::AT];
     let to = from + st[Words::LEN];
     let kind = st[Words::KIND];
-    let a = token_iri::address_of(&doc[from..to], kind, &work[0..], st, buffer);
-    if a.refused != 0 {
-        return a.refused;
-    }
+    let a = token_iri::address_of(&doc[from..to], kind, &work[0..], st, buffer)?;
     let end = at + len;
     let text = inside(&doc[at..end], quotes);
     let spot = Spot {
@@ -335,10 +333,10 @@ fn put_plain(
     len: usize,
     quotes: usize,
 ) -> Result<(), Refusal>
-    requires { Represented work.old.now (lent_tables rows.old.now terms.old.now store.old.now) held.old.st × (SpotFits (spot_at held.old.st at) × Quoted doc.now at len quotes) }
+    requires { Represented held.old.work.now (tables_of held.old) held.old.st × (SpotFits (spot_at held.old.st at) × Quoted doc.now at len quotes) }
     ensures { Adds (placed (spot_at held.old.st at) (typed (text_of doc.now at len quotes) xsd_string)) held.old held.new at (code result) }
 {
-    let r = place_plain(
+    if let Err(refusal) = place_plain(
         doc,
         held.work,
         held.rows,
@@ -348,31 +346,29 @@ fn put_plain(
         at,
         len,
         quotes,
-    );
-    if r != 0 {
+    ) {
         held.st[Words::AT] = at;
-        return r;
+        return Err(refusal);
     }
     Ok(())
 }
 
 // The place of a string that is not complete.
 fn put_place(held: &mut Held<'_>, at: usize) -> Result<(), Refusal>
-    requires { Represented work.old.now (lent_tables rows.old.now terms.old.now store.old.now) held.old.st × SpotFits (spot_at held.old.st at) }
+    requires { Represented held.old.work.now (tables_of held.old) held.old.st × SpotFits (spot_at held.old.st at) }
     ensures { Adds (opened_at (spot_at held.old.st at)) held.old held.new at (code result) }
 {
     let spot = spot_at(&held.st, at);
-    let r = placing::open(
+    if let Err(refusal) = placing::open(
         held.work,
         held.rows,
         held.terms,
         held.store,
         &mut held.st,
         spot,
-    );
-    if r != 0 {
+    ) {
         held.st[Words::AT] = at;
-        return r;
+        return Err(refusal);
     }
     Ok(())
 }

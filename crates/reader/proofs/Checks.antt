@@ -16,8 +16,7 @@ use Rattle.machine.proofs.Firsts.{Passes, passes_none, zero_passes, number_some}
 use Rattle.machine.specs.Read.{Answer, untouched, first_checks, read_tokens, read_utf8, read_checked, read}
 use Rattle.checks.specs.Checks.{lent_work}
 use Rattle.environment.proofs.Directives.{whole}
-use Rattle.reader.specs.declared.Reading.{Reading}
-use Rattle.reader.specs.Reader.{LentSlices, lengths, Gives}
+use Rattle.reader.specs.Reader.{Reading, LentSlices, lengths, Gives}
 use Rattle.reader.specs.Stages.{Checked, Cleared}
 
 abbrev answer : ℕ → ℕ → Reading

@@ -16,8 +16,7 @@ use Rattle.machine.specs.Step.{Outcome, accepted, refused, run, first_refusal}
 use Rattle.machine.specs.Read.{Lent, Answer, reported, room_of, mode_of, start_state, first_checks, read, read_checked, read_utf8, read_tokens}
 use Rattle.machine.proofs.Demands.{zero_meets, meets_answer}
 use Rattle.machine.proofs.Sizes.{rows_at_most, terms_at_most, store_at_most}
-use Rattle.reader.specs.Reader.{LentSlices, lengths, Contract}
-use Rattle.reader.specs.declared.Reading.{Reading}
+use Rattle.reader.specs.Reader.{LentSlices, lengths, Contract, Reading}
 
 pub record Small (a : Answer) : Type 0 where
   pub rows : a.row_count ≤ 4294967295

@@ -21,10 +21,9 @@ use Rattle.state.specs.Words.{rows_word, terms_word, used_word, at_in}
 use Rattle.state.proofs.Counted.{counted_run}
 use Rattle.simulation.specs.Simulation.{tables_of, Holding, goes}
 use Rattle.state.specs.declared.Held.{Held}
-use Rattle.reader.specs.declared.Reading.{Reading}
 use Rattle.statements.specs.Statements.{ReadsAll}
-use Rattle.reader.specs.Reader.{LentSlices, lent_slices, lengths, Gives}
-use Rattle.reader.specs.Stages.{Checked, Started, Finishes}
+use Rattle.reader.specs.Reader.{Reading, LentSlices, lent_slices, lengths, Gives}
+use Rattle.reader.specs.Stages.{held_slices, Checked, Started, Finishes}
 use Rattle.reader.proofs.Start.{holds_start}
 
 -- Words in front of what was there before.
@@ -34,10 +33,6 @@ in_front xs old new k e f g = sym (take-append-drop k xs) ∙ (rw (e, f, g))
 terms_length : (m : Memory) → length (terms_words m.terms) ≡ term_size * length m.terms
 unfolding terms_words
 terms_length m = words_length m.terms 0 0 m.terms
-
--- What the slices of h hold, behind their references.
-abbrev held_slices : Held → LentSlices
-held_slices h = lent_slices h.work.now h.rows.now h.terms.now h.store.now
 
 module _ (doc base work : Text) (mode : ℕ) (a b : Held) (n : ℕ) (K : Checked doc base work) (S : Started doc base work a.work.now a.st) (R : ReadsAll (mode_of mode) doc a b n)
     (after : LentSlices) (r : Reading) (F : Finishes (length doc) n b.st (held_slices b) after r) where

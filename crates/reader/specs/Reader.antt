@@ -1,8 +1,10 @@
 -- The contract of the reader's call: its answer, and what the lent slices hold after it, are what `read` says.
-use Rattle.std.specs.Prelude.{◌≡◌, List, ℕ, length}
+use Rattle.std.specs.Prelude.{◌≡◌, Result, Ok, Err, List, ℕ, length}
 use Rattle.text.specs.Text.{Text}
+use Rattle.limits.specs.Refusal.{number}
 use Rattle.machine.specs.Read.{Lent, lends, Answer, contents, read}
-use Rattle.reader.specs.declared.Reading.{Reading}
+use Rattle.reader.specs.declared.Accepted.{Accepted}
+use Rattle.reader.specs.declared.Refused.{Refused}
 
 -- What the lent slices hold, rows and terms in words.
 pub record LentSlices : Type 0 where
@@ -16,6 +18,18 @@ lent_slices work rows terms store = record { work = work; rows = rows; terms = t
 
 abbrev pub lengths : LentSlices → Lent
 lengths s = lends (length s.work) (length s.rows) (length s.terms) (length s.store)
+
+-- The answer in numbers: that of the refusal, or 0; the position; and how many rows, terms and store bytes there are.
+pub record Reading : Type 0 where
+  pub number : ℕ
+  pub position : ℕ
+  pub rows : ℕ
+  pub terms : ℕ
+  pub store : ℕ
+
+abbrev pub reading : Result Accepted Refused → Reading
+reading (Ok a) = record { number = 0; position = a.position; rows = a.rows; terms = a.terms; store = a.store }
+reading (Err e) = record { number = number e.refusal; position = e.position; rows = 0; terms = 0; store = 0 }
 
 -- The call gives the answer a, and leaves in each slice what a says, by what it held before.
 pub record Gives (a : Answer) (old new : LentSlices) (r : Reading) : Type 0 where

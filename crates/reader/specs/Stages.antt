@@ -10,8 +10,8 @@ use Rattle.environment.specs.Code.{environment_in, Usable}
 use Rattle.machine.specs.Read.{bad_base}
 use Rattle.state.specs.Words.{rows_word, terms_word, used_word, blanks_word, at_in, depth_in, graph_in}
 use Rattle.state.specs.Cursor.{Cursor, remaining}
-use Rattle.reader.specs.declared.Reading.{Reading}
-use Rattle.reader.specs.Reader.{LentSlices}
+use Rattle.state.specs.declared.Held.{Held}
+use Rattle.reader.specs.Reader.{LentSlices, lent_slices, Reading}
 
 -- 1 and 3 to 5 do not refuse the call.
 pub record Checked (doc base work : Text) : Type 0 where
@@ -34,6 +34,10 @@ pub record Started (doc base old work : Text) (st : List ℕ) : Type 0 where
   pub graph : graph_in st ≡ 0
   pub cursor : Cursor doc st
   pub tokens : lexemes doc ≡ remaining doc st
+
+-- What the slices hold behind their references.
+abbrev pub held_slices : Held → LentSlices
+held_slices h = lent_slices h.work.now h.rows.now h.terms.now h.store.now
 
 -- Zeros in all slices.
 pub record Cleared (old new : LentSlices) : Type 0 where

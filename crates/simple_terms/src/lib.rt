@@ -1,9 +1,10 @@
-// The leaves of the reader's recursion: what one token writes, and the cursor behind it. They take the reader's thin
-// references; what they call takes plain slices.
+// The leaves of the reader's recursion: what one token writes, and the cursor behind it. They take what is
+// lent together; what they call takes its slices.
 #![tactic(auto)]
 
 ghost use Rattle.std.specs.Prelude.{◌≡◌, ◌∷◌, true, ◌+◌, ◌≤◌, ◌<◌, length, get_or, take, drop};
 ghost use Rattle.limits.specs.Limits.{document_limit, iri_limit, depth_limit};
+ghost use Rattle.limits.specs.Refusal.{code};
 ghost use Rattle.token.specs.Kind.{kind_code, IRIREF, PNAME_LN, kw_a, open_bracket, open_paren, close_paren};
 ghost use Rattle.environment.specs.Code.{words_size};
 ghost use Rattle.dataset.specs.Terms.{iri, blank, label, bracket, rdf_type};
@@ -18,9 +19,9 @@ ghost use Rattle.nodes.specs.Nodes.{term_kinds, spot_of, Spotted, Numbers, PutsT
 ghost use Rattle.simple_terms.specs.Leaves.{spot_in, datatype_of, PutReady, PutsToken, PutsNode};
 
 use environment::Layout;
-use limits::{Answer, Limits};
+use limits::{Limits, Refusal};
 use spelling::Form;
-use state::{Node, Spot, Words};
+use state::{Held, Node, Spot, Words};
 use token::Kind;
 
 // Where the next node belongs.
@@ -227,8 +228,7 @@ fn place_address(
     requires { PutReady work.old (lent_tables rows.old terms.old store.old) st.old × (((kind_code IRIREF ≤ kind) × (kind ≤ kind_code PNAME_LN)) × ((kind ≡ kind_code IRIREF → get_or token.now 0 0 ≡ 60) × (length token.now ≤ document_limit))) × (length buffer.old ≡ iri_limit) }
     ensures { PutsToken (token_as kind (at_in st.old) token.now) (placed (spot_in st.old) (iri_term (token_as kind (at_in st.old) token.now))) work.old work.new (lent_tables rows.old terms.old store.old) (lent_tables rows.new terms.new store.new) st.old st.new (code result) }
 {
-    let a = token_iri::address_of(token, kind, &work[0..], st, buffer);
-    a.refused?;
+    let a = token_iri::address_of(token, kind, &work[0..], st, buffer)?;
     let from = a.from;
     let to = a.to;
     let form = a.form;

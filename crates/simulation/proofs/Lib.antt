@@ -4,3 +4,4 @@ pub mod Steps
 pub mod Frames
 pub mod Turning
 pub mod Numbers
+pub mod Errors

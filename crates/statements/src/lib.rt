@@ -6,6 +6,7 @@ ghost use Rattle.dataset.specs.Terms.{blank, bracket};
 ghost use Rattle.machine.specs.Memory.{new_term};
 ghost use Rattle.grammar.specs.Productions.{trig};
 ghost use Rattle.machine.specs.Read.{mode_of};
+ghost use Rattle.limits.specs.Refusal.{code};
 ghost use Rattle.state.specs.Words.{kind_in};
 ghost use Rattle.state.specs.Writes.{placed, opened_at};
 ghost use Rattle.simulation.specs.Simulation.{code_among, Ready, Does};
@@ -17,7 +18,8 @@ ghost use Rattle.statements.specs.Statements.{Block, Graph, Statement, Plain, gr
 ghost use Rattle.table.specs.Layout.{word_limit};
 
 use environment::Layout;
-use state::Words;
+use limits::Refusal;
+use state::{Held, Words};
 use token::Kind;
 
 fn is_directive(kind: usize) -> bool

@@ -4,6 +4,7 @@
 ghost use Rattle.std.specs.Prelude.{◌≡◌, ◌∷◌, true, ◌≤◌, ◌<◌, length, get_or};
 ghost use Rattle.dataset.specs.Terms.{blank, bracket};
 ghost use Rattle.machine.specs.Memory.{new_term};
+ghost use Rattle.limits.specs.Refusal.{code};
 ghost use Rattle.state.specs.Words.{x_word, kind_in};
 ghost use Rattle.state.specs.Writes.{placed, opened_at};
 ghost use Rattle.simulation.specs.Simulation.{code_among, Ready, Does};
@@ -14,7 +15,8 @@ ghost use Rattle.subjects.specs.Subjects.{label_kinds, Subject, Predicates};
 ghost use Rattle.table.specs.Layout.{word_limit};
 
 use environment::Layout;
-use state::Words;
+use limits::Refusal;
+use state::{Held, Words};
 use token::Kind;
 
 // Whether a token of this kind is a graph's label, or a subject, by itself.

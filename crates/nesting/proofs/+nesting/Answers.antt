@@ -1,3 +1,4 @@
+use Rattle.simulation.proofs.Errors.{handed_on, numbered}
 use mathlib.Core.Path.{refl, sym, ◌∙◌}
 use native.Mathlib.Omega.{arith}
 use Rattle.token.specs.Kind.{kind_code, comma, close_bracket}
@@ -15,31 +16,31 @@ use Rattle.nesting.proofs.OfNodes.{leaf_call, leaf_stop, leaf_settled, leaf_done
 use Rattle.nesting.proofs.+nesting.Goals as goal
 
 pub after_object-pass-requires : goal.after_object-pass-requires
-after_object-pass-requires t c = pass_call _ _ (kind_code comma) c.requires.0 c.if-st-eq-COMMA.true (λ h. omega arith) (λ h. omega arith)
+after_object-pass-requires t c = pass_call _ _ (kind_code comma) c.requires.0 c.if-held-eq-COMMA.true (λ h. omega arith) (λ h. omega arith)
 
 pub after_object-level_x-s-requires : goal.after_object-level_x-s-requires
-after_object-level_x-s-requires t c = mark_call _ _ ((comma_reads _ _ _ _ _ _ _ c.requires.0 c.if-st-eq-COMMA.true c.pass.ensures 1 1 bracket_end).ready refl)
+after_object-level_x-s-requires t c = mark_call _ _ ((comma_reads _ _ _ _ _ _ _ c.requires.0 c.if-held-eq-COMMA.true c.pass.ensures 1 1 bracket_end).ready refl)
 
 pub after_object-level_y-p-requires : goal.after_object-level_y-p-requires
-after_object-level_y-p-requires t c = mark_call _ _ ((comma_reads _ _ _ _ _ _ _ c.requires.0 c.if-st-eq-COMMA.true c.pass.ensures 1 1 bracket_end).ready refl)
+after_object-level_y-p-requires t c = mark_call _ _ ((comma_reads _ _ _ _ _ _ _ c.requires.0 c.if-held-eq-COMMA.true c.pass.ensures 1 1 bracket_end).ready refl)
 
 pub after_object-aim-requires : goal.after_object-aim-requires
-after_object-aim-requires t c = ready_words _ _ ((comma_reads _ _ _ _ _ _ _ c.requires.0 c.if-st-eq-COMMA.true c.pass.ensures 1 1 bracket_end).ready refl)
+after_object-aim-requires t c = ready_words _ _ ((comma_reads _ _ _ _ _ _ _ c.requires.0 c.if-held-eq-COMMA.true c.pass.ensures 1 1 bracket_end).ready refl)
 
 pub after_object-value-requires : goal.after_object-value-requires
-after_object-value-requires t c = let l = comma_call _ _ _ _ _ _ c.requires.0 _ _ c.if-st-eq-COMMA.true c.pass.ensures _ _ c.level_x-s.ensures c.level_y-p.ensures c.aim.ensures c.requires.1.0 c.requires.1.1 in (omega (arith, comma_later _ _ _ _ _ _ c.requires.0 _ _ c.if-st-eq-COMMA.true c.pass.ensures _ _ c.level_x-s.ensures c.level_y-p.ensures c.aim.ensures c.requires.1.0 c.requires.1.1, l.0.0.cursor.inside, c.decreases), l)
+after_object-value-requires t c = let l = comma_call _ _ _ _ _ _ c.requires.0 _ _ c.if-held-eq-COMMA.true c.pass.ensures _ _ c.level_x-s.ensures c.level_y-p.ensures c.aim.ensures c.requires.1.0 c.requires.1.1 in (omega (arith, comma_later _ _ _ _ _ _ c.requires.0 _ _ c.if-held-eq-COMMA.true c.pass.ensures _ _ c.level_x-s.ensures c.level_y-p.ensures c.aim.ensures c.requires.1.0 c.requires.1.1, l.0.0.cursor.inside, c.decreases), l)
 
-pub after_object-returns-then-st-eq-COMMA : goal.after_object-returns-then-st-eq-COMMA
-after_object-returns-then-st-eq-COMMA t c = comma_value _ _ _ _ _ _ c.requires.0 _ _ c.if-st-eq-COMMA.true c.pass.ensures _ _ c.level_x-s.ensures c.level_y-p.ensures c.aim.ensures c.requires.1.0 c.requires.1.1 _ _ c.value.ensures
+pub after_object-returns-then-held-eq-COMMA : goal.after_object-returns-then-held-eq-COMMA
+after_object-returns-then-held-eq-COMMA t c = comma_value _ _ _ _ _ _ c.requires.0 _ _ c.if-held-eq-COMMA.true c.pass.ensures _ _ c.level_x-s.ensures c.level_y-p.ensures c.aim.ensures c.requires.1.0 c.requires.1.1 _ _ c.value.ensures
 
 pub after_object-close_bracket-requires : goal.after_object-close_bracket-requires
 after_object-close_bracket-requires t c = (omega (arith, c.decreases), (c.requires.0, follows_deep _ _ _ _ _ _ c.requires.0 c.requires.1.0 c.requires.1.1))
 
-pub after_object-returns-then-st-ne-SEMICOLON : goal.after_object-returns-then-st-ne-SEMICOLON
-after_object-returns-then-st-ne-SEMICOLON t c = follows_close _ _ _ _ _ _ c.requires.0 c.if-st-eq-COMMA.false c.if-st-ne-SEMICOLON.true _ _ c.close_bracket.ensures
+pub after_object-returns-then-held-ne-SEMICOLON : goal.after_object-returns-then-held-ne-SEMICOLON
+after_object-returns-then-held-ne-SEMICOLON t c = follows_close _ _ _ _ _ _ c.requires.0 c.if-held-eq-COMMA.false c.if-held-ne-SEMICOLON.true _ _ c.close_bracket.ensures
 
 pub after_object-skip_semicolons-requires : goal.after_object-skip_semicolons-requires
-after_object-skip_semicolons-requires t c = ((c.requires.0.cursor, ready_words _ _ c.requires.0), c.if-st-ne-SEMICOLON.false)
+after_object-skip_semicolons-requires t c = ((c.requires.0.cursor, ready_words _ _ c.requires.0), c.if-held-ne-SEMICOLON.false)
 
 pub after_object-predicate-requires : goal.after_object-predicate-requires
 after_object-predicate-requires t c = let l = semicolon_predicate_call _ _ _ _ _ _ c.requires.0 _ c.skip_semicolons.ensures c.requires.1.0 c.requires.1.1 (sym c.is_verb.ensures ∙ c.if-is_verb.true) in (omega (arith, c.skip_semicolons.ensures.later, l.0.0.cursor.inside, c.decreases), l)
@@ -56,17 +57,17 @@ after_object-returns t c = semicolon_close _ _ _ _ _ _ c.requires.0 _ c.skip_sem
 pub close_bracket-unexpected-requires : goal.close_bracket-unexpected-requires
 close_bracket-unexpected-requires t c = unexpected_call _ _ c.requires.0
 
-pub close_bracket-returns-then-st-ne-CLOSE_BRACKET : goal.close_bracket-returns-then-st-ne-CLOSE_BRACKET
-close_bracket-returns-then-st-ne-CLOSE_BRACKET t c = closing_none _ _ _ _ _ _ c.requires.0 _ c.if-st-ne-CLOSE_BRACKET.true c.unexpected.ensures
+pub close_bracket-returns-then-held-ne-CLOSE_BRACKET : goal.close_bracket-returns-then-held-ne-CLOSE_BRACKET
+close_bracket-returns-then-held-ne-CLOSE_BRACKET t c = closing_none _ _ _ _ _ _ c.requires.0 _ c.if-held-ne-CLOSE_BRACKET.true c.unexpected.ensures
 
 pub close_bracket-leave-requires : goal.close_bracket-leave-requires
-close_bracket-leave-requires t c = leave_call _ _ (kind_code close_bracket) c.requires.0 c.if-st-ne-CLOSE_BRACKET.false (λ h. omega arith) (λ h. omega arith) c.requires.1.0
+close_bracket-leave-requires t c = leave_call _ _ (kind_code close_bracket) c.requires.0 c.if-held-ne-CLOSE_BRACKET.false (λ h. omega arith) (λ h. omega arith) c.requires.1.0
 
 pub close_bracket-resume-requires : goal.close_bracket-resume-requires
-close_bracket-resume-requires t c = let l = left_call _ _ _ _ _ _ c.requires.0 _ c.if-st-ne-CLOSE_BRACKET.false c.requires.1.0 c.leave.ensures c.requires.1 in (omega (arith, c.leave.ensures.later, l.0.cursor.inside, c.decreases), l)
+close_bracket-resume-requires t c = let l = left_call _ _ _ _ _ _ c.requires.0 _ c.if-held-ne-CLOSE_BRACKET.false c.requires.1.0 c.leave.ensures c.requires.1 in (omega (arith, c.leave.ensures.later, l.0.cursor.inside, c.decreases), l)
 
 pub close_bracket-returns : goal.close_bracket-returns
-close_bracket-returns t c = closing_resumes _ _ _ _ _ _ c.requires.0 _ c.if-st-ne-CLOSE_BRACKET.false c.requires.1.0 c.leave.ensures _ _ c.resume.ensures
+close_bracket-returns t c = closing_resumes _ _ _ _ _ _ c.requires.0 _ c.if-held-ne-CLOSE_BRACKET.false c.requires.1.0 c.leave.ensures _ _ c.resume.ensures
 
 pub contents-close_bracket-requires : goal.contents-close_bracket-requires
 contents-close_bracket-requires t c = (omega (arith, c.decreases), (c.requires.0.0, c.requires.1.1))
@@ -83,17 +84,17 @@ contents-predicate-requires t c = let l = contents_call _ _ _ _ _ _ c.requires.0
 pub contents-returns : goal.contents-returns
 contents-returns t c = contents_predicate _ _ _ _ _ _ c.requires.0.0 _ _ refl c.mark.ensures c.requires.1.1.0 _ _ c.predicate.ensures
 
-pub element-close_list-c-requires : goal.element-close_list-c-requires
-element-close_list-c-requires t c = (c.requires.0, (c.if-st-eq-CLOSE_PAREN.true, c.requires.1.1.0))
+pub element-close_list-requires : goal.element-close_list-requires
+element-close_list-requires t c = (c.requires.0, (c.if-held-eq-CLOSE_PAREN.true, c.requires.1.1.0))
 
-pub element-returns-then-c-ne0 : goal.element-returns-then-c-ne0
-element-returns-then-c-ne0 t c = element_stop _ _ c.requires.0.0 c.if-st-eq-CLOSE_PAREN.true _ _ c.close_list-c.ensures c.if-c-ne0.true
+pub element-returns-in_err-close_list : goal.element-returns-in_err-close_list
+element-returns-in_err-close_list t c = rw (handed_on _ _ c.from_residual.ensures) (element_stop _ _ c.requires.0.0 c.if-held-eq-CLOSE_PAREN.true _ _ c.in_err-close_list.ensures (numbered _))
 
 pub element-resume-requires : goal.element-resume-requires
-element-resume-requires t c = let l = closed_call _ _ c.requires.0.0 c.if-st-eq-CLOSE_PAREN.true _ _ c.close_list-c.ensures c.if-c-ne0.false c.requires.1.1 in (omega (arith, closed_later _ _ c.requires.0.0 c.if-st-eq-CLOSE_PAREN.true _ _ c.close_list-c.ensures c.if-c-ne0.false, l.0.cursor.inside, c.decreases), l)
+element-resume-requires t c = let l = closed_call _ _ c.requires.0.0 c.if-held-eq-CLOSE_PAREN.true _ _ c.in_ok-close_list.ensures refl c.requires.1.1 in (omega (arith, closed_later _ _ c.requires.0.0 c.if-held-eq-CLOSE_PAREN.true _ _ c.in_ok-close_list.ensures refl, l.0.cursor.inside, c.decreases), l)
 
-pub element-returns-then-st-eq-CLOSE_PAREN : goal.element-returns-then-st-eq-CLOSE_PAREN
-element-returns-then-st-eq-CLOSE_PAREN t c = element_resumes _ _ c.requires.0.0 c.if-st-eq-CLOSE_PAREN.true _ _ c.close_list-c.ensures c.if-c-ne0.false c.requires.1.1.0 _ _ c.resume.ensures
+pub element-returns-then-held-eq-CLOSE_PAREN : goal.element-returns-then-held-eq-CLOSE_PAREN
+element-returns-then-held-eq-CLOSE_PAREN t c = element_resumes _ _ c.requires.0.0 c.if-held-eq-CLOSE_PAREN.true _ _ c.in_ok-close_list.ensures refl c.requires.1.1.0 _ _ c.resume.ensures
 
 pub element-overflow_add-cell : goal.element-overflow_add-cell
 element-overflow_add-cell t c = omega (arith, next_small _ _ c.requires.0.0)
@@ -102,10 +103,10 @@ pub element-mark-requires : goal.element-mark-requires
 element-mark-requires t c = mark_call _ _ c.requires.0.0
 
 pub element-value-requires : goal.element-value-requires
-element-value-requires t c = let l = element_call _ _ _ _ _ _ _ c.requires.0.0 c.if-st-eq-CLOSE_PAREN.false c.requires.1.0 c.requires.1.1 _ refl c.mark.ensures c.requires.0.1 in (omega (arith, mark_before _ _ _ _ c.mark.ensures at_word (omega arith), c.decreases), l)
+element-value-requires t c = let l = element_call _ _ _ _ _ _ _ c.requires.0.0 c.if-held-eq-CLOSE_PAREN.false c.requires.1.0 c.requires.1.1 _ refl c.mark.ensures c.requires.0.1 in (omega (arith, mark_before _ _ _ _ c.mark.ensures at_word (omega arith), c.decreases), l)
 
 pub element-returns : goal.element-returns
-element-returns t c = element_value _ _ _ _ _ _ _ c.requires.0.0 c.if-st-eq-CLOSE_PAREN.false c.requires.1.0 c.requires.1.1 _ refl c.mark.ensures _ _ c.value.ensures
+element-returns t c = element_value _ _ _ _ _ _ _ c.requires.0.0 c.if-held-eq-CLOSE_PAREN.false c.requires.1.0 c.requires.1.1 _ refl c.mark.ensures _ _ c.value.ensures
 
 pub predicate-level_x-s-requires : goal.predicate-level_x-s-requires
 predicate-level_x-s-requires t c = mark_call _ _ c.requires.0.0
@@ -113,23 +114,23 @@ predicate-level_x-s-requires t c = mark_call _ _ c.requires.0.0
 pub predicate-aim-requires : goal.predicate-aim-requires
 predicate-aim-requires t c = ready_words _ _ c.requires.0.0
 
-pub predicate-leaf-c-requires : goal.predicate-leaf-c-requires
-predicate-leaf-c-requires t c = verb_call _ _ _ _ _ _ _ c.requires.0.0 c.requires.1.0.1 c.aim.ensures
+pub predicate-leaf-requires : goal.predicate-leaf-requires
+predicate-leaf-requires t c = verb_call _ _ _ _ _ _ _ c.requires.0.0 c.requires.1.0.1 c.aim.ensures
 
-pub predicate-returns-then-c-ne0 : goal.predicate-returns-then-c-ne0
-predicate-returns-then-c-ne0 t c = predicate_stop _ _ _ _ _ _ _ c.requires.0.0 c.requires.1.0.1 c.aim.ensures _ _ c.leaf-c.ensures.puts c.if-c-ne0.true
+pub predicate-returns-in_err-leaf : goal.predicate-returns-in_err-leaf
+predicate-returns-in_err-leaf t c = rw (handed_on _ _ c.from_residual.ensures) (predicate_stop _ _ _ _ _ _ _ c.requires.0.0 c.requires.1.0.1 c.aim.ensures _ _ c.in_err-leaf.ensures.puts (numbered _))
 
 pub predicate-mark-requires : goal.predicate-mark-requires
-predicate-mark-requires t c = mark_call _ _ (verb_done _ _ _ _ _ _ _ c.requires.0.0 c.requires.1.0.1 c.aim.ensures _ _ c.leaf-c.ensures.puts c.if-c-ne0.false).ready
+predicate-mark-requires t c = mark_call _ _ (verb_done _ _ _ _ _ _ _ c.requires.0.0 c.requires.1.0.1 c.aim.ensures _ _ c.in_ok-leaf.ensures.puts refl).ready
 
 pub predicate-aim-requires-2 : goal.predicate-aim-requires-2
-predicate-aim-requires-2 t c = c.mark.ensures.words ∙ ready_words _ _ (verb_done _ _ _ _ _ _ _ c.requires.0.0 c.requires.1.0.1 c.aim.ensures _ _ c.leaf-c.ensures.puts c.if-c-ne0.false).ready
+predicate-aim-requires-2 t c = c.mark.ensures.words ∙ ready_words _ _ (verb_done _ _ _ _ _ _ _ c.requires.0.0 c.requires.1.0.1 c.aim.ensures _ _ c.in_ok-leaf.ensures.puts refl).ready
 
 pub predicate-value-requires : goal.predicate-value-requires
-predicate-value-requires t c = let l = predicate_value_call _ _ _ _ _ _ _ c.requires.0.0 c.requires.1.0.1 c.aim.ensures _ _ _ _ _ _ c.leaf-c.ensures.puts c.if-c-ne0.false _ _ c.level_x-s.ensures refl _ _ c.mark.ensures c.aim-2.ensures c.requires.0.1 c.requires.1.0.0 c.requires.1.1.0 c.requires.1.1.1 in (omega (arith, predicate_later _ _ _ _ _ _ _ c.requires.0.0 c.requires.1.0.1 c.aim.ensures _ _ _ _ _ _ c.leaf-c.ensures.puts c.if-c-ne0.false _ _ c.level_x-s.ensures refl _ _ c.mark.ensures c.aim-2.ensures, l.0.0.cursor.inside, c.decreases), l)
+predicate-value-requires t c = let l = predicate_value_call _ _ _ _ _ _ _ c.requires.0.0 c.requires.1.0.1 c.aim.ensures _ _ _ _ _ _ c.in_ok-leaf.ensures.puts refl _ _ c.level_x-s.ensures refl _ _ c.mark.ensures c.aim-2.ensures c.requires.0.1 c.requires.1.0.0 c.requires.1.1.0 c.requires.1.1.1 in (omega (arith, predicate_later _ _ _ _ _ _ _ c.requires.0.0 c.requires.1.0.1 c.aim.ensures _ _ _ _ _ _ c.in_ok-leaf.ensures.puts refl _ _ c.level_x-s.ensures refl _ _ c.mark.ensures c.aim-2.ensures, l.0.0.cursor.inside, c.decreases), l)
 
 pub predicate-returns : goal.predicate-returns
-predicate-returns t c = predicate_value _ _ _ _ _ _ _ c.requires.0.0 c.requires.1.0.1 c.aim.ensures _ _ _ _ _ _ c.leaf-c.ensures.puts c.if-c-ne0.false _ _ c.level_x-s.ensures refl _ _ c.mark.ensures c.aim-2.ensures c.requires.0.1 c.requires.1.0.0 c.requires.1.1.0 _ _ c.value.ensures
+predicate-returns t c = predicate_value _ _ _ _ _ _ _ c.requires.0.0 c.requires.1.0.1 c.aim.ensures _ _ _ _ _ _ c.in_ok-leaf.ensures.puts refl _ _ c.level_x-s.ensures refl _ _ c.mark.ensures c.aim-2.ensures c.requires.0.1 c.requires.1.0.0 c.requires.1.1.0 _ _ c.value.ensures
 
 pub resume-level_x-requires : goal.resume-level_x-requires
 resume-level_x-requires t c = mark_call _ _ c.requires.0
@@ -155,47 +156,47 @@ resume-element-requires t c = let l = resumes_call _ _ _ _ _ _ c.requires.0 (sym
 pub resume-returns : goal.resume-returns
 resume-returns t c = resumes_list _ _ _ _ _ _ c.requires.0 (sym c.level_x.ensures ∙ c.if-level_x-ne0.false) (λ h. c.if-last-eq0.false (c.level_y-last.ensures ∙ h)) _ _ c.level_y-last.ensures c.aim.ensures _ _ c.element.ensures
 
-pub value-leaf-c-requires : goal.value-leaf-c-requires
-value-leaf-c-requires t c = (c.requires.0, leaf_call (kind_in c.args.st.now) _ c.is_leaf.ensures c.if-is_leaf.true)
+pub value-leaf-requires : goal.value-leaf-requires
+value-leaf-requires t c = (c.requires.0, leaf_call (kind_in c.args.held.now.st) _ c.is_leaf.ensures c.if-is_leaf.true)
 
-pub value-returns-then-c-ne0 : goal.value-returns-then-c-ne0
-value-returns-then-c-ne0 t c = leaf_stop _ _ _ _ (leaf_settled _ _ c.requires.0.0 _ _ _ c.is_leaf.ensures c.if-is_leaf.true c.leaf-c.ensures) c.if-c-ne0.true
+pub value-returns-in_err-leaf : goal.value-returns-in_err-leaf
+value-returns-in_err-leaf t c = rw (handed_on _ _ c.from_residual.ensures) (leaf_stop _ _ _ _ (leaf_settled _ _ c.requires.0.0 _ _ _ c.is_leaf.ensures c.if-is_leaf.true c.in_err-leaf.ensures) (numbered _))
 
 pub value-resume-requires : goal.value-resume-requires
-value-resume-requires t c = let l = leaf_done _ _ _ _ (leaf_settled _ _ c.requires.0.0 _ _ _ c.is_leaf.ensures c.if-is_leaf.true c.leaf-c.ensures) c.if-c-ne0.false c.requires.1.0 c.requires.1.1 in (omega (arith, (leaf_settled _ _ c.requires.0.0 _ _ _ c.is_leaf.ensures c.if-is_leaf.true c.leaf-c.ensures).1.steady.later c.if-c-ne0.false, l.0.cursor.inside, c.decreases), l)
+value-resume-requires t c = let l = leaf_done _ _ _ _ (leaf_settled _ _ c.requires.0.0 _ _ _ c.is_leaf.ensures c.if-is_leaf.true c.in_ok-leaf.ensures) refl c.requires.1.0 c.requires.1.1 in (omega (arith, (leaf_settled _ _ c.requires.0.0 _ _ _ c.is_leaf.ensures c.if-is_leaf.true c.in_ok-leaf.ensures).1.steady.later refl, l.0.cursor.inside, c.decreases), l)
 
 pub value-returns-then-is_leaf : goal.value-returns-then-is_leaf
-value-returns-then-is_leaf t c = leaf_resumes _ _ _ _ (leaf_settled _ _ c.requires.0.0 _ _ _ c.is_leaf.ensures c.if-is_leaf.true c.leaf-c.ensures) c.if-c-ne0.false _ _ c.resume.ensures
+value-returns-then-is_leaf t c = leaf_resumes _ _ _ _ (leaf_settled _ _ c.requires.0.0 _ _ _ c.is_leaf.ensures c.if-is_leaf.true c.in_ok-leaf.ensures) refl _ _ c.resume.ensures
 
-pub value-put_bracket-c-requires : goal.value-put_bracket-c-requires
-value-put_bracket-c-requires t c = (c.requires.0, c.if-kind-eq-OPEN_BRACKET.true)
+pub value-put_bracket-requires : goal.value-put_bracket-requires
+value-put_bracket-requires t c = (c.requires.0, c.if-kind-eq-OPEN_BRACKET.true)
 
-pub value-returns-then-c-ne0-2 : goal.value-returns-then-c-ne0-2
-value-returns-then-c-ne0-2 t c = bracket_stop _ _ c.requires.0.0 c.if-kind-eq-OPEN_BRACKET.true _ _ c.put_bracket-c.ensures c.if-c-ne0-2.true
+pub value-returns-in_err-put_bracket : goal.value-returns-in_err-put_bracket
+value-returns-in_err-put_bracket t c = rw (handed_on _ _ c.from_residual-in_err-put_bracket.ensures) (bracket_stop _ _ c.requires.0.0 c.if-kind-eq-OPEN_BRACKET.true _ _ c.in_err-put_bracket.ensures (numbered _))
 
 pub value-contents-requires : goal.value-contents-requires
-value-contents-requires t c = let l = bracket_call _ _ c.requires.0.0 c.if-kind-eq-OPEN_BRACKET.true _ _ c.put_bracket-c.ensures c.if-c-ne0-2.false c.requires.1.1 in (omega (arith, bracket_later _ _ c.requires.0.0 c.if-kind-eq-OPEN_BRACKET.true _ _ c.put_bracket-c.ensures c.if-c-ne0-2.false, l.0.0.cursor.inside, c.decreases), l)
+value-contents-requires t c = let l = bracket_call _ _ c.requires.0.0 c.if-kind-eq-OPEN_BRACKET.true _ _ c.in_ok-put_bracket.ensures refl c.requires.1.1 in (omega (arith, bracket_later _ _ c.requires.0.0 c.if-kind-eq-OPEN_BRACKET.true _ _ c.in_ok-put_bracket.ensures refl, l.0.0.cursor.inside, c.decreases), l)
 
 pub value-returns-then-kind-eq-OPEN_BRACKET : goal.value-returns-then-kind-eq-OPEN_BRACKET
-value-returns-then-kind-eq-OPEN_BRACKET t c = bracket_contents _ _ c.requires.0.0 c.if-kind-eq-OPEN_BRACKET.true _ _ c.put_bracket-c.ensures c.if-c-ne0-2.false _ _ c.contents.ensures
+value-returns-then-kind-eq-OPEN_BRACKET t c = bracket_contents _ _ c.requires.0.0 c.if-kind-eq-OPEN_BRACKET.true _ _ c.in_ok-put_bracket.ensures refl _ _ c.contents.ensures
 
 pub value-overflow_add-cell : goal.value-overflow_add-cell
 value-overflow_add-cell t c = omega (arith, next_small _ _ c.requires.0.0)
 
-pub value-put_paren-c-requires : goal.value-put_paren-c-requires
-value-put_paren-c-requires t c = (c.requires.0, c.if-kind-eq-OPEN_PAREN.true)
+pub value-put_paren-requires : goal.value-put_paren-requires
+value-put_paren-requires t c = (c.requires.0, c.if-kind-eq-OPEN_PAREN.true)
 
-pub value-returns-then-c-ne0-3 : goal.value-returns-then-c-ne0-3
-value-returns-then-c-ne0-3 t c = list_stop _ _ c.requires.0.0 c.if-kind-eq-OPEN_PAREN.true _ _ _ _ _ _ c.put_paren-c.ensures c.if-c-ne0-3.true
+pub value-returns-in_err-put_paren : goal.value-returns-in_err-put_paren
+value-returns-in_err-put_paren t c = rw (handed_on _ _ c.from_residual-in_err-put_paren.ensures) (list_stop _ _ c.requires.0.0 c.if-kind-eq-OPEN_PAREN.true _ _ _ _ _ _ c.in_err-put_paren.ensures (numbered _))
 
 pub value-enter_list-requires : goal.value-enter_list-requires
-value-enter_list-requires t c = ready_words _ _ (list_open _ _ c.requires.0.0 c.if-kind-eq-OPEN_PAREN.true _ _ _ _ _ _ c.put_paren-c.ensures c.if-c-ne0-3.false)
+value-enter_list-requires t c = ready_words _ _ (list_open _ _ c.requires.0.0 c.if-kind-eq-OPEN_PAREN.true _ _ _ _ _ _ c.in_ok-put_paren.ensures refl)
 
 pub value-element-requires : goal.value-element-requires
-value-element-requires t c = let l = list_call _ _ c.requires.0.0 c.if-kind-eq-OPEN_PAREN.true _ _ _ _ _ _ c.put_paren-c.ensures c.if-c-ne0-3.false _ _ _ refl refl c.enter_list.ensures c.requires.0.1 c.requires.1.1 in (omega (arith, list_later _ _ c.requires.0.0 c.if-kind-eq-OPEN_PAREN.true _ _ _ _ _ _ c.put_paren-c.ensures c.if-c-ne0-3.false _ _ _ refl refl c.enter_list.ensures, l.0.0.cursor.inside, c.decreases), l)
+value-element-requires t c = let l = list_call _ _ c.requires.0.0 c.if-kind-eq-OPEN_PAREN.true _ _ _ _ _ _ c.in_ok-put_paren.ensures refl _ _ _ refl refl c.enter_list.ensures c.requires.0.1 c.requires.1.1 in (omega (arith, list_later _ _ c.requires.0.0 c.if-kind-eq-OPEN_PAREN.true _ _ _ _ _ _ c.in_ok-put_paren.ensures refl _ _ _ refl refl c.enter_list.ensures, l.0.0.cursor.inside, c.decreases), l)
 
 pub value-returns-then-kind-eq-OPEN_PAREN : goal.value-returns-then-kind-eq-OPEN_PAREN
-value-returns-then-kind-eq-OPEN_PAREN t c = list_elements _ _ c.requires.0.0 c.if-kind-eq-OPEN_PAREN.true _ _ _ _ _ _ c.put_paren-c.ensures c.if-c-ne0-3.false _ _ _ refl refl c.enter_list.ensures _ _ c.element.ensures
+value-returns-then-kind-eq-OPEN_PAREN t c = list_elements _ _ c.requires.0.0 c.if-kind-eq-OPEN_PAREN.true _ _ _ _ _ _ c.in_ok-put_paren.ensures refl _ _ _ refl refl c.enter_list.ensures _ _ c.element.ensures
 
 pub value-unexpected-requires : goal.value-unexpected-requires
 value-unexpected-requires t c = unexpected_call _ _ c.requires.0.0

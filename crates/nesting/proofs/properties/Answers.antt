@@ -1,3 +1,4 @@
+use Rattle.simulation.proofs.Errors.{handed_on, numbered}
 use mathlib.Core.Path.{refl, sym, ◌∙◌}
 use Rattle.simulation.specs.Simulation.{held}
 use Rattle.nesting.proofs.OfProperties.{properties_start, properties_stop, objects_call, properties_stop_2, properties_end, skips_call, properties_end_2, properties_again, properties_less}
@@ -5,35 +6,35 @@ use Rattle.nesting.proofs.OfVerbs.{verb_call}
 use Rattle.nesting.proofs.Aiming.{ready_words}
 use Rattle.nesting.proofs.properties.Goals as goal
 
-pub loop-s-init : goal.loop-s-init
-loop-s-init c = search properties_start
+pub loop-p-init : goal.loop-p-init
+loop-p-init c = search properties_start
 
 pub aim-requires : goal.aim-requires
-aim-requires c = ready_words _ (held c.loop-s.work c.loop-s.rows c.loop-s.terms c.loop-s.store c.loop-s.st) c.loop-s.invariant.ready
+aim-requires c = ready_words _ c.loop-p.held c.loop-p.invariant.ready
 
-pub leaf-c-requires : goal.leaf-c-requires
-leaf-c-requires c = verb_call _ _ _ _ _ _ _ c.loop-s.invariant.ready c.loop-s.invariant.verb c.aim.ensures
+pub leaf-requires : goal.leaf-requires
+leaf-requires c = verb_call _ _ _ _ _ _ _ c.loop-p.invariant.ready c.loop-p.invariant.verb c.aim.ensures
 
-pub returns-then-c-ne0 : goal.returns-then-c-ne0
-returns-then-c-ne0 c = search properties_stop
+pub returns-in_err-leaf : goal.returns-in_err-leaf
+returns-in_err-leaf c = rw (handed_on _ _ c.from_residual.ensures) (properties_stop _ _ _ _ _ _ _ _ _ c.loop-p.invariant c.aim.ensures _ _ c.in_err-leaf.ensures.puts (numbered _))
 
-pub objects-d-requires : goal.objects-d-requires
-objects-d-requires c = objects_call _ _ _ _ _ _ _ _ _ c.loop-s.invariant c.aim.ensures _ _ c.leaf-c.ensures.puts c.if-c-ne0.false c.requires.0.1 c.requires.1.0 _ refl
+pub objects-requires : goal.objects-requires
+objects-requires c = objects_call _ _ _ _ _ _ _ _ _ c.loop-p.invariant c.aim.ensures _ _ c.in_ok-leaf.ensures.puts refl c.requires.0.1 c.requires.1.0 _ refl
 
-pub returns-then-d-ne0 : goal.returns-then-d-ne0
-returns-then-d-ne0 c = properties_stop_2 _ _ _ _ _ _ _ _ _ c.loop-s.invariant c.aim.ensures _ _ c.leaf-c.ensures.puts c.if-c-ne0.false _ _ _ refl c.objects-d.ensures c.if-d-ne0.true
+pub returns-in_err-objects : goal.returns-in_err-objects
+returns-in_err-objects c = rw (handed_on _ _ c.from_residual-in_err-objects.ensures) (properties_stop_2 _ _ _ _ _ _ _ _ _ c.loop-p.invariant c.aim.ensures _ _ c.in_ok-leaf.ensures.puts refl _ _ _ refl c.in_err-objects.ensures (numbered _))
 
-pub returns-then-st-ne-SEMICOLON : goal.returns-then-st-ne-SEMICOLON
-returns-then-st-ne-SEMICOLON c = properties_end _ _ _ _ _ _ _ _ _ c.loop-s.invariant c.aim.ensures _ _ c.leaf-c.ensures.puts c.if-c-ne0.false _ _ _ refl c.objects-d.ensures c.if-d-ne0.false c.if-st-ne-SEMICOLON.true
+pub returns-then-held-ne-SEMICOLON : goal.returns-then-held-ne-SEMICOLON
+returns-then-held-ne-SEMICOLON c = properties_end _ _ _ _ _ _ _ _ _ c.loop-p.invariant c.aim.ensures _ _ c.in_ok-leaf.ensures.puts refl _ _ _ refl c.in_ok-objects.ensures refl c.if-held-ne-SEMICOLON.true
 
 pub skip_semicolons-requires : goal.skip_semicolons-requires
-skip_semicolons-requires c = skips_call _ _ _ _ _ _ _ _ _ c.loop-s.invariant c.aim.ensures _ _ c.leaf-c.ensures.puts c.if-c-ne0.false _ _ _ refl c.objects-d.ensures c.if-d-ne0.false c.if-st-ne-SEMICOLON.false
+skip_semicolons-requires c = skips_call _ _ _ _ _ _ _ _ _ c.loop-p.invariant c.aim.ensures _ _ c.in_ok-leaf.ensures.puts refl _ _ _ refl c.in_ok-objects.ensures refl c.if-held-ne-SEMICOLON.false
 
 pub returns-then-not-is_verb : goal.returns-then-not-is_verb
-returns-then-not-is_verb c = properties_end_2 _ _ _ _ _ _ _ _ _ c.loop-s.invariant c.aim.ensures _ _ c.leaf-c.ensures.puts c.if-c-ne0.false _ _ _ _ _ _ _ _ refl c.objects-d.ensures c.if-d-ne0.false c.skip_semicolons.ensures (sym c.is_verb.ensures ∙ c.if-not-is_verb.true)
+returns-then-not-is_verb c = properties_end_2 _ _ _ _ _ _ _ _ _ c.loop-p.invariant c.aim.ensures _ _ c.in_ok-leaf.ensures.puts refl _ _ _ _ _ _ _ _ refl c.in_ok-objects.ensures refl c.skip_semicolons.ensures (sym c.is_verb.ensures ∙ c.if-not-is_verb.true)
 
-pub loop-s-smaller : goal.loop-s-smaller
-loop-s-smaller c = properties_less _ _ _ _ _ _ _ _ _ c.loop-s.invariant c.aim.ensures _ _ c.leaf-c.ensures.puts c.if-c-ne0.false _ _ _ _ _ _ _ _ refl c.objects-d.ensures c.if-d-ne0.false c.skip_semicolons.ensures
+pub loop-p-smaller : goal.loop-p-smaller
+loop-p-smaller c = properties_less _ _ _ _ _ _ _ _ _ c.loop-p.invariant c.aim.ensures _ _ c.in_ok-leaf.ensures.puts refl _ _ _ _ _ _ _ _ refl c.in_ok-objects.ensures refl c.skip_semicolons.ensures
 
-pub loop-s-preserved : goal.loop-s-preserved
-loop-s-preserved c = properties_again _ _ _ _ _ _ _ _ _ c.loop-s.invariant c.aim.ensures _ _ c.leaf-c.ensures.puts c.if-c-ne0.false _ _ _ _ _ _ _ _ refl c.objects-d.ensures c.if-d-ne0.false c.skip_semicolons.ensures (sym c.is_verb.ensures ∙ c.if-not-is_verb.false)
+pub loop-p-preserved : goal.loop-p-preserved
+loop-p-preserved c = properties_again _ _ _ _ _ _ _ _ _ c.loop-p.invariant c.aim.ensures _ _ c.in_ok-leaf.ensures.puts refl _ _ _ _ _ _ _ _ refl c.in_ok-objects.ensures refl c.skip_semicolons.ensures (sym c.is_verb.ensures ∙ c.if-not-is_verb.false)

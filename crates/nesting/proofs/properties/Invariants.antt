@@ -1,12 +1,11 @@
 use Prim.Native.Nat.{◌-◌}
 use lib.ListN.{length}
 use Rattle.state.specs.Words.{at_in}
-use Rattle.simulation.specs.Simulation.{held}
 use Rattle.nesting.proofs.OfProperties.{PropertiesInv}
 use Rattle.nesting.proofs.properties.Given as goal
 
-abbrev pub invariant-loop-s : goal.invariant-loop-s
-invariant-loop-s l = PropertiesInv l.doc.now (held l.initial.work l.initial.rows l.initial.terms l.initial.store l.initial.st) (held l.work l.rows l.terms l.store l.st) l.s
+abbrev pub invariant-loop-p : goal.invariant-loop-p
+invariant-loop-p l = PropertiesInv l.doc l.initial.held l.held l.s
 
-abbrev pub decreases-loop-s : goal.decreases-loop-s
-decreases-loop-s l = length l.doc.now - at_in l.st
+abbrev pub decreases-loop-p : goal.decreases-loop-p
+decreases-loop-p l = length l.doc - at_in l.held.st

@@ -1,12 +1,11 @@
 use Prim.Native.Nat.{◌-◌}
 use lib.ListN.{length}
 use Rattle.state.specs.Words.{at_in}
-use Rattle.simulation.specs.Simulation.{held}
 use Rattle.statements.proofs.OfBlocks.{BlockInv}
 use Rattle.statements.proofs.block.Given as goal
 
-abbrev pub invariant-loop-st : goal.invariant-loop-st
-invariant-loop-st l = BlockInv l.doc.now (held l.initial.work l.initial.rows l.initial.terms l.initial.store l.initial.st) (held l.work l.rows l.terms l.store l.st)
+abbrev pub invariant-loop-held : goal.invariant-loop-held
+invariant-loop-held l = BlockInv l.doc l.initial.held l.held
 
-abbrev pub decreases-loop-st : goal.decreases-loop-st
-decreases-loop-st l = length l.doc.now - at_in l.st
+abbrev pub decreases-loop-held : goal.decreases-loop-held
+decreases-loop-held l = length l.doc - at_in l.held.st

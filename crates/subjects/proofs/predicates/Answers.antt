@@ -1,5 +1,4 @@
 use mathlib.Core.Path.{sym, ◌∙◌}
-use Rattle.simulation.specs.Simulation.{held}
 use Rattle.nesting.proofs.Aiming.{unexpected_call}
 use Rattle.subjects.proofs.OfPredicates.{predicates_there, predicates_alone, predicates_none}
 use Rattle.subjects.proofs.predicates.Goals as goal
@@ -10,11 +9,11 @@ properties-requires c = ((c.requires.0.0, c.requires.0.1), (c.requires.1, sym c.
 pub returns-then-is_verb : goal.returns-then-is_verb
 returns-then-is_verb c = predicates_there _ _ c.requires.0.0 _ _ (sym c.is_verb.ensures ∙ c.if-is_verb.true) c.properties.ensures
 
-pub returns-then-st-eq2 : goal.returns-then-st-eq2
-returns-then-st-eq2 c = predicates_alone _ _ c.requires.0.0 (sym c.is_verb.ensures ∙ c.if-is_verb.false) c.if-st-eq2.true
+pub returns-then-held-eq2 : goal.returns-then-held-eq2
+returns-then-held-eq2 c = predicates_alone _ _ c.requires.0.0 (sym c.is_verb.ensures ∙ c.if-is_verb.false) c.if-held-eq2.true
 
 pub unexpected-requires : goal.unexpected-requires
-unexpected-requires c = unexpected_call _ (held c.args.work.now c.args.rows.now c.args.terms.now c.args.store.now c.args.st.now) c.requires.0.0
+unexpected-requires c = unexpected_call _ c.args.held.now c.requires.0.0
 
 pub returns : goal.returns
-returns c = predicates_none _ _ c.requires.0.0 _ (sym c.is_verb.ensures ∙ c.if-is_verb.false) c.if-st-eq2.false c.unexpected.ensures
+returns c = predicates_none _ _ c.requires.0.0 _ (sym c.is_verb.ensures ∙ c.if-is_verb.false) c.if-held-eq2.false c.unexpected.ensures

@@ -1,5 +1,4 @@
 use mathlib.Core.Path.{sym, ◌∙◌}
-use Rattle.simulation.specs.Simulation.{held}
 use Rattle.nesting.proofs.Aiming.{unexpected_call}
 use Rattle.subjects.proofs.OfTerms.{subject_none}
 use Rattle.subjects.proofs.subject.Goals as goal
@@ -14,7 +13,7 @@ pub list_subject-requires : goal.list_subject-requires
 list_subject-requires c = (c.requires, c.if-kind-eq-OPEN_PAREN.true)
 
 pub unexpected-requires : goal.unexpected-requires
-unexpected-requires c = unexpected_call _ (held c.args.work.now c.args.rows.now c.args.terms.now c.args.store.now c.args.st.now) c.requires
+unexpected-requires c = unexpected_call _ c.args.held.now c.requires
 
 pub returns : goal.returns
 returns c = subject_none _ _ _ c.requires (sym c.is_label.ensures ∙ c.if-is_label.false) c.if-kind-eq-OPEN_BRACKET.false c.if-kind-eq-OPEN_PAREN.false c.unexpected.ensures
