@@ -27,8 +27,7 @@ use Rattle.comparison.proofs.Sets.{taken_told}
 use Rattle.machine.specs.Read.{Answer, mode_of, read}
 use Rattle.machine.specs.Demand.{Meets}
 use Rattle.machine.proofs.Demands.{accepted_iff_meets}
-use Rattle.reader.specs.Reader.{LentSlices, lengths, Gives, Contract}
-use Rattle.reader.specs.declared.Reading.{Reading}
+use Rattle.reader.specs.Reader.{LentSlices, lengths, Gives, Contract, Reading}
 use Rattle.reader.proofs.Counts.{rows_small}
 use Rattle.readback.specs.ReadBack.{with_blanks_term, with_blanks, slices_after, RoundTrip}
 use Rattle.readback.specs.HandedOver.{HandedOver}

@@ -1,8 +1,7 @@
 -- What a call leaves: the lent slices after it, with the counts that it returned.
 use Rattle.std.specs.Prelude.{ℕ}
 use Rattle.table.specs.Layout.{Slices}
-use Rattle.reader.specs.Reader.{LentSlices}
-use Rattle.reader.specs.declared.Reading.{Reading}
+use Rattle.reader.specs.Reader.{LentSlices, Reading}
 
 abbrev pub accepted : ℕ
 accepted = 0

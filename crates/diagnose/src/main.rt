@@ -15,7 +15,7 @@ ghost use Rattle.diagnose.specs.Phrase.{phrase};
 ghost use Rattle.diagnose.specs.Meaning.{meaning};
 
 use phrases::{Phrases, say};
-use reader::Reading;
+use reader::{Accepted, Refused};
 use source::Source;
 use std::env::FillError;
 use std::io::{ErrorKind, Read, Write};
@@ -87,7 +87,7 @@ fn read_document(
     rows: &mut [u32],
     terms: &mut [u32],
     store: &mut [u8],
-) -> Reading {
+) -> Result<Accepted, Refused> {
     reader::read(document, &document[..0], mode, work, rows, terms, store)
 }
 
@@ -104,8 +104,7 @@ fn may_end(
     if page.len() < at {
         return false;
     }
-    let r = read_document(&page[..at], mode, work, rows, terms, store);
-    r.number == 0
+    read_document(&page[..at], mode, work, rows, terms, store).is_ok()
 }
 
 // Notes whether a token of this kind is allowed, where it is one of those that are told.
@@ -184,12 +183,12 @@ fn examine<W: Write>(
     if page.len() < n {
         return Ok(());
     }
-    let r = read_document(&page[..n], mode, work, rows, terms, store);
-    let number = r.number;
-    let at = r.position;
-    if number == 0 {
-        return print_count(out, words, name, r.rows);
-    }
+    let refused = match read_document(&page[..n], mode, work, rows, terms, store) {
+        Ok(read) => return print_count(out, words, name, read.rows),
+        Err(refused) => refused,
+    };
+    let number = u8::from(refused.refusal);
+    let at = refused.position;
     print_refusal(out, words, name, &page[..n], number, at)?;
     if number < 5 {
         return Ok(());

@@ -12,8 +12,7 @@ use Rattle.text.specs.Slice.{over, over_at}
 use Rattle.text.proofs.Over.{over_part, over_at_front}
 use Rattle.token.specs.Kind.{last_kind}
 use Rattle.machine.specs.Read.{Answer, read}
-use Rattle.reader.specs.Reader.{LentSlices, lengths, Gives}
-use Rattle.reader.specs.declared.Reading.{Reading}
+use Rattle.reader.specs.Reader.{LentSlices, lengths, Gives, Reading}
 use Rattle.diagnosis.specs.Samples.{samples, sample, with_sample, can_try, trial, allowed, page_after, Leaves, Takes, Tries}
 
 -- ---- The answer
@@ -45,6 +44,23 @@ module _ (text : Text) (place mode : ℕ) (old new : LentSlices) (x : Reading) (
 
   pub there : x.position ≤ place → place ≤ x.position → Takes text place mode old new (leb 9 x.number)
   there h k = record { answer = stands_there (read text mode [] (lengths old)) place x g.number g.position h k; slices = leaves }
+
+  -- A refusal elsewhere.
+  pub apart : (x.position ≡ place → ⊥) → Takes text place mode old new (ltb place x.position)
+  apart k =
+      by (ltb place x.position)
+      (λ q. rw q (behind (ltb-true place x.position q)))
+      (λ q. let h = ltb-false place x.position q in rw q (before (omega (arith, k))))
+
+  -- No refusal.
+  pub whole : x.number ≡ 0 → Takes text place mode old new (ltb place x.position)
+  whole e =
+      by (eqb x.position place)
+      (λ q. let h : x.position ≡ place = eqb-true x.position place q in
+      let t : Takes text place mode old new (leb 9 x.number) = there (omega arith) (omega arith) in
+      let l : ltb place x.position ≡ false = le-ltb place x.position (omega arith) in
+      rw (e, sym l) at t)
+      (λ q. apart (eqb-false x.position place q))
 
 -- ---- The sample
 

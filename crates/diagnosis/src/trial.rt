@@ -34,15 +34,15 @@ fn is_taken(
 ) -> bool
     ensures { Takes text.now place mode (lent_slices work.old rows.old terms.old store.old) (lent_slices work.new rows.new terms.new store.new) result }
 {
-    let r = reader::read(text, &text[..0], mode, work, rows, terms, store);
-    let position = r.position;
-    if place < position {
-        return true;
+    match reader::read(text, &text[..0], mode, work, rows, terms, store) {
+        Ok(read) => place < read.position,
+        Err(refused) => {
+            if refused.position == place {
+                return 9 <= u8::from(refused.refusal);
+            }
+            place < refused.position
+        }
     }
-    if position < place {
-        return false;
-    }
-    9 <= r.number
 }
 
 // Whether a token of this kind is allowed at a place, by the grammar and what stands on the page before it. The sample is written there.

@@ -2,8 +2,7 @@
 use Rattle.std.specs.Prelude.{◌≡◌, List, [], ◌∷◌}
 use Rattle.text.proofs.Table.{Example, ◌⇒◌}
 use Rattle.machine.specs.Read.{Answer}
-use Rattle.reader.specs.Reader.{LentSlices, lengths, Gives, Contract}
-use Rattle.reader.specs.declared.Reading.{Reading}
+use Rattle.reader.specs.Reader.{LentSlices, lengths, Gives, Contract, Reading}
 use Rattle.examples.specs.Call.{Call}
 
 -- Whatever the lent slices hold, the call c gives the answer a and leaves in each slice what a says.

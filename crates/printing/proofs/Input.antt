@@ -6,8 +6,7 @@ use Rattle.text.specs.Text.{Text}
 use Rattle.table.specs.Layout.{Slices}
 use Rattle.usable.specs.Lent.{slices}
 use Rattle.machine.specs.Read.{Lent, lends, Answer, read}
-use Rattle.reader.specs.Reader.{LentSlices, lent_slices, lengths, Gives, Contract}
-use Rattle.reader.specs.declared.Reading.{Reading}
+use Rattle.reader.specs.Reader.{LentSlices, lent_slices, lengths, Gives, Contract, Reading}
 use Rattle.printing.specs.Printed.{refusal, tables_printed, narrow, tables_left, document_printed, printed}
 
 -- ---- A document

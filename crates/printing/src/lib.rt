@@ -11,7 +11,7 @@ ghost use Rattle.printing.specs.Printed.{refusal, tables_printed, narrow, docume
 use std::io;
 use std::io::{Read, Write};
 
-fn refused<W: Write>(out: &mut W, number: u8, position: usize) -> io::Result<()>
+fn print_refusal<W: Write>(out: &mut W, number: u8, position: usize) -> io::Result<()>
     ensures { OnOk result (Appends (W.contents out.old) (W.contents out.new) (refusal number position)) }
 {
     writeln!(out, "refused {number} at {position}")
@@ -49,7 +49,7 @@ fn write_rows<W: Write>(
         lines,
     );
     if w.number != 0 {
-        return refused(out, w.number, w.position);
+        return print_refusal(out, w.number, w.position);
     }
     let k = w.position;
     if k <= lines.len() {
@@ -66,7 +66,7 @@ fn show<W: Write>(out: &mut W, document: &[u8]) -> io::Result<()>
     let mut terms = [0u32; 16384];
     let mut store = [0u8; 65536];
     let mut lines = [0u8; 65536];
-    let r = reader::read(
+    let read = reader::read(
         document,
         &document[..0],
         0,
@@ -75,19 +75,19 @@ fn show<W: Write>(out: &mut W, document: &[u8]) -> io::Result<()>
         &mut terms,
         &mut store,
     );
-    if r.number != 0 {
-        return refused(out, r.number, r.position);
+    match read {
+        Ok(read) => write_rows(
+            out,
+            &rows,
+            narrow(read.rows),
+            &terms,
+            narrow(read.terms),
+            &store,
+            narrow(read.store),
+            &mut lines,
+        ),
+        Err(refused) => print_refusal(out, refused.refusal.into(), refused.position),
     }
-    write_rows(
-        out,
-        &rows,
-        narrow(r.rows),
-        &terms,
-        narrow(r.terms),
-        &store,
-        narrow(r.store),
-        &mut lines,
-    )
 }
 
 // Prints the long form of what the source has.
@@ -97,7 +97,7 @@ pub fn print_long_form<R: Read, W: Write>(source: &mut R, out: &mut W) -> io::Re
     let mut page = [0u8; 65537];
     let n = input::read_full(source, &mut page)?;
     if 65536 < n {
-        return refused(out, 1, 0);
+        return print_refusal(out, 1, 0);
     }
     show(out, &page[..n])
 }

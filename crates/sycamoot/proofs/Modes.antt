@@ -8,8 +8,7 @@ use Rattle.text.specs.Text.{Text, cond}
 use Rattle.text.proofs.Compare.{by}
 use Rattle.limits.specs.Limits.{document_limit}
 use Rattle.machine.specs.Read.{Lent, Answer, untouched, read, read_checked}
-use Rattle.reader.specs.Reader.{LentSlices, lengths, Gives, Contract}
-use Rattle.reader.specs.declared.Reading.{Reading}
+use Rattle.reader.specs.Reader.{LentSlices, lengths, Gives, Contract, Reading}
 use Rattle.sycamoot.specs.Answers.{known_mode}
 
 module _ (doc : Text) (base : Text) (lent : Lent) where

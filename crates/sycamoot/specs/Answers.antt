@@ -2,7 +2,7 @@
 use Rattle.std.specs.Prelude.{◌≡◌, List, ℕ, leb}
 use Rattle.text.specs.Text.{Text, cond}
 use Rattle.table.specs.LongForm as long
-use Rattle.reader.specs.declared.Reading.{Reading}
+use Rattle.reader.specs.Reader.{Reading}
 use Rattle.term_text.specs.declared.Span.{Span}
 use Rattle.term_text.specs.declared.Span.TheVariants.{Part, Unusable}
 use Rattle.sycamoot.specs.declared.Answer.{Answer}

@@ -103,16 +103,21 @@ pub extern "C" fn sycamoot_read(
     ensures { Contract document.now mode base.now (lent_slices work.old rows.old terms.old store.old) (lent_slices work.new rows.new terms.new store.new) (reading result) }
 {
     let known = byte_mode(mode);
-    let r = reader::read(document, base, known, work, rows, terms, store);
-    let row_count = r.rows;
-    let term_count = r.terms;
-    let store_count = r.store;
-    Answer {
-        position: r.position as u64,
-        number: r.number as u32,
-        rows: narrow(row_count),
-        terms: narrow(term_count),
-        store: narrow(store_count),
+    match reader::read(document, base, known, work, rows, terms, store) {
+        Ok(read) => Answer {
+            position: read.position as u64,
+            number: 0,
+            rows: narrow(read.rows),
+            terms: narrow(read.terms),
+            store: narrow(read.store),
+        },
+        Err(refused) => Answer {
+            position: refused.position as u64,
+            number: u32::from(u8::from(refused.refusal)),
+            rows: 0,
+            terms: 0,
+            store: 0,
+        },
     }
 }
 

@@ -1,11 +1,11 @@
-use Rattle.diagnosis.proofs.Trials.{behind, before, there}
+use Rattle.diagnosis.proofs.Trials.{whole, there, apart}
 use Rattle.diagnosis.proofs.trial.is_taken.Goals as goal
 
-pub returns-then-place-position : goal.returns-then-place-position
-returns-then-place-position c = behind _ _ _ _ _ _ c.read-r.ensures c.if-place-position.true
+pub returns-in-Ok : goal.returns-in-Ok
+returns-in-Ok c = whole _ _ _ _ _ _ c.in-Ok.ensures refl
 
-pub returns-then-position-place : goal.returns-then-position-place
-returns-then-position-place c = before _ _ _ _ _ _ c.read-r.ensures c.if-position-place.true
+pub returns-then-refused-eq-place : goal.returns-then-refused-eq-place
+returns-then-refused-eq-place c = ?
 
-pub returns : goal.returns
-returns c = there _ _ _ _ _ _ c.read-r.ensures c.if-place-position.false c.if-position-place.false
+pub returns-in-Err : goal.returns-in-Err
+returns-in-Err c = ?
