@@ -4,5 +4,6 @@ pub mod Compare
 pub mod Order
 pub mod Library
 pub mod Over
+pub mod Words
 pub mod Table
 pub mod Runs

@@ -5,7 +5,7 @@ ghost use Rattle.std.specs.Prelude.{◌≡◌, ℕ, Bool, ◌+◌, ◌≤◌, �
 ghost use Rattle.text.specs.Text.{same_text, begins, some_byte};
 ghost use Rattle.text.specs.Order.{smaller};
 ghost use Rattle.text.specs.Slice.{over};
-ghost use Rattle.text.specs.Words.{four_at};
+ghost use Rattle.text.specs.Words.{four_at, eight_at};
 ghost use Rattle.text.specs.Runs.{Answers, byte, four, high, free, next_at};
 
 // A byte as a number.
@@ -23,11 +23,34 @@ pub fn four(s: &[u8], at: usize) -> usize
     wide(s[at]) + 256 * wide(s[at + 1]) + 65536 * wide(s[at + 2]) + 16777216 * wide(s[at + 3])
 }
 
-// Whether two texts are the same.
+// Eight bytes as a number.
+fn eight(s: &[u8], at: usize) -> usize
+    requires { at + 8 ≤ length s.now }
+    ensures { result ≡ eight_at s.now at }
+{
+    four(s, at) + 4294967296 * four(s, at + 4)
+}
+
+// Whether two texts are the same. Eight bytes at a time: `==` alone takes 66 ms for 36 (500 terms without the index, bench/terms.sh).
 pub fn same(s: &[u8], t: &[u8]) -> bool
     ensures { result ≡ same_text s.now t.now }
 {
-    s == t
+    let n = s.len();
+    if n != t.len() {
+        return false;
+    }
+    if n < 4 {
+        return *s == *t;
+    }
+    if n < 8 {
+        return four(s, 0) == four(t, 0) && four(s, n - 4) == four(t, n - 4);
+    }
+    for i in (0..n - 8).step_by(8) {
+        if eight(s, i) != eight(t, i) {
+            return false;
+        }
+    }
+    eight(s, n - 8) == eight(t, n - 8)
 }
 
 // Whether the second text begins with the first.
