@@ -85,6 +85,36 @@ table_says : T (below (λ b. same_rows (tails_at b sequences) (rows_of (lead_siz
 unfolding sequences count_leading_zeros
 table_says = tt
 
+-- The same by ranges of the first byte.
+abbrev by_ranges : ℕ → ℕ
+by_ranges b = cond (ltb b 0x80) 1 (cond (ltb b 0xC2) 0 (cond (ltb b 0xE0) 2 (cond (ltb b 0xF0) 3 (cond (ltb b 0xF5) 4 0))))
+
+ranges_say : T (below (λ b. eqb (by_ranges b) (lead_size b)) 256)
+unfolding count_leading_zeros
+ranges_say = tt
+
+module _ (b : ℕ) (h : b < 256) where
+  by_range : by_ranges b ≡ lead_size b
+  by_range = eqb→eq (by_ranges b) (lead_size b) (below_at (λ b. eqb (by_ranges b) (lead_size b)) 256 ranges_say b h)
+
+  pub lead_one : b < 0x80 → 1 ≡ lead_size b
+  lead_one l = sym (simp (lt-ltb b 0x80 l)) ∙ by_range
+
+  pub lead_inner : 0x80 ≤ b → b < 0xC2 → 0 ≡ lead_size b
+  lead_inner g l = sym (simp (le-ltb b 0x80 g, lt-ltb b 0xC2 l)) ∙ by_range
+
+  pub lead_two : 0xC2 ≤ b → b < 0xE0 → 2 ≡ lead_size b
+  lead_two g l = sym (simp (le-ltb b 0x80 (omega arith), le-ltb b 0xC2 g, lt-ltb b 0xE0 l)) ∙ by_range
+
+  pub lead_three : 0xE0 ≤ b → b < 0xF0 → 3 ≡ lead_size b
+  lead_three g l = sym (simp (le-ltb b 0x80 (omega arith), le-ltb b 0xC2 (omega arith), le-ltb b 0xE0 g, lt-ltb b 0xF0 l)) ∙ by_range
+
+  pub lead_four : 0xF0 ≤ b → b < 0xF5 → 4 ≡ lead_size b
+  lead_four g l = sym (simp (le-ltb b 0x80 (omega arith), le-ltb b 0xC2 (omega arith), le-ltb b 0xE0 (omega arith), le-ltb b 0xF0 g, lt-ltb b 0xF5 l)) ∙ by_range
+
+  pub lead_past : 0xF5 ≤ b → 0 ≡ lead_size b
+  lead_past g = sym (simp (le-ltb b 0x80 (omega arith), le-ltb b 0xC2 (omega arith), le-ltb b 0xE0 (omega arith), le-ltb b 0xF0 (omega arith), le-ltb b 0xF5 g)) ∙ by_range
+
 rows_begun : T (begun sequences)
 unfolding sequences
 rows_begun = tt
