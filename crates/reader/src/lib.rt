@@ -13,7 +13,6 @@ ghost use Rattle.reader.specs.Stages.{Checked, Started, Cleared, Finishes};
 use environment::Layout;
 use limits::Answer;
 use state::Words;
-use utf8::Validity;
 
 // The answer: 0 or the number of a refusal, the position it speaks of, and how many rows, terms and store bytes there are.
 #[derive(Clone, Copy)]
@@ -129,7 +128,7 @@ fn prepare(document: &[u8], base: &[u8], work: &mut [u8], st: &mut [usize; Layou
     requires { Checked document.now base.now work.old × (st.old ≡ replicate words_size 0) }
     ensures { Started document.now base.now work.old work.new st.new }
 {
-    zeroing::clear_bytes(work);
+    work.fill(0);
     environment::set_base(work, st, base);
     cursor::seek(document, st, 0, 0);
 }
@@ -137,10 +136,10 @@ fn prepare(document: &[u8], base: &[u8], work: &mut [u8], st: &mut [usize; Layou
 fn clear_all(work: &mut [u8], rows: &mut [u32], terms: &mut [u32], store: &mut [u8])
     ensures { Cleared (lent_slices work.old rows.old terms.old store.old) (lent_slices work.new rows.new terms.new store.new) }
 {
-    zeroing::clear_bytes(work);
-    zeroing::clear_words(rows);
-    zeroing::clear_words(terms);
-    zeroing::clear_bytes(store);
+    work.fill(0);
+    rows.fill(0);
+    terms.fill(0);
+    store.fill(0);
 }
 
 // The answer 0 with its counts, and the work slice is zeros; or a refusal, and all slices are.
@@ -157,7 +156,7 @@ fn finish(
     ensures { Finishes size number st.now (lent_slices work.old rows.old terms.old store.old) (lent_slices work.new rows.new terms.new store.new) result }
 {
     if number == Answer::ACCEPTED {
-        zeroing::clear_bytes(work);
+        work.fill(0);
         return Reading {
             number: Answer::ACCEPTED,
             position: size,
@@ -217,9 +216,8 @@ pub fn read(
             store: 0,
         };
     }
-    let validity = utf8::first_bad(document);
-    match validity {
-        Validity::BadAt(place) => {
+    match utf8::first_bad(document) {
+        Some(place) => {
             clear_all(work, rows, terms, store);
             Reading {
                 number: Answer::UTF8,
@@ -229,6 +227,6 @@ pub fn read(
                 store: 0,
             }
         }
-        Validity::Valid => read_checked(document, base, mode, work, rows, terms, store),
+        None => read_checked(document, base, mode, work, rows, terms, store),
     }
 }

@@ -5,5 +5,6 @@ pub mod Order
 pub mod Library
 pub mod Over
 pub mod Words
+pub mod Zeros
 pub mod Table
 pub mod Runs

@@ -20,7 +20,7 @@ pub fn four(s: &[u8], at: usize) -> usize
     requires { at + 4 ≤ length s.now }
     ensures { (result ≡ four_at s.now at) × (result < 4294967296) }
 {
-    wide(s[at]) + 256 * wide(s[at + 1]) + 65536 * wide(s[at + 2]) + 16777216 * wide(s[at + 3])
+    u32::from_le_bytes([s[at], s[at + 1], s[at + 2], s[at + 3]]) as usize
 }
 
 // Eight bytes as a number.
@@ -110,7 +110,8 @@ fn next_near<F: Fn(u8) -> bool>(s: &[u8], at: usize, test: F) -> usize
     s.len()
 }
 
-// The same, N bytes at a time as far as none of them passes. With `&&` in the loop's test, LLVM makes twice the instructions of `next_high`.
+// The same, N bytes at a time as far as none of them passes. A `while` with its own `if`: as one test, `next_high` takes 1171
+// instructions for 490 at 1000 bytes.
 pub fn next_where<const N: usize, F: Fn(u8) -> bool>(s: &[u8], at: usize, test: F) -> usize
     requires size { 0 < N }
     requires place { at ≤ length s.now }

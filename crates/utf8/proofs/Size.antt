@@ -11,7 +11,7 @@ use lib.Count.{count_leading_zeros}
 use Rattle.text.specs.Text.{Text, cond, between}
 use Rattle.text.proofs.Compare.{and_false}
 use Rattle.utf8.specs.Utf8.{Range, ◌–◌, tail, sequences, fits, first_fit, sequence_size}
-use Rattle.utf8.specs.Code.{lead_size, second_low, second_high, sized}
+use Rattle.utf8.specs.Code.{leading_ones, lead_size, second_low, second_high, sized}
 use Rattle.utf8.proofs.Tests.{by, below, below_at, and_true}
 
 -- ---- Equality of ranges, by computing
@@ -87,7 +87,7 @@ table_says = tt
 
 -- The same by ranges of the first byte.
 abbrev by_ranges : ℕ → ℕ
-by_ranges b = cond (ltb b 0x80) 1 (cond (ltb b 0xC2) 0 (cond (ltb b 0xE0) 2 (cond (ltb b 0xF0) 3 (cond (ltb b 0xF5) 4 0))))
+by_ranges b = cond (ltb b 0x80) 1 (cond (ltb b 0xC2) 0 (cond (ltb b 0xF5) (leading_ones b) 0))
 
 ranges_say : T (below (λ b. eqb (by_ranges b) (lead_size b)) 256)
 unfolding count_leading_zeros
@@ -103,17 +103,11 @@ module _ (b : ℕ) (h : b < 256) where
   pub lead_inner : 0x80 ≤ b → b < 0xC2 → 0 ≡ lead_size b
   lead_inner g l = sym (simp (le-ltb b 0x80 g, lt-ltb b 0xC2 l)) ∙ by_range
 
-  pub lead_two : 0xC2 ≤ b → b < 0xE0 → 2 ≡ lead_size b
-  lead_two g l = sym (simp (le-ltb b 0x80 (omega arith), le-ltb b 0xC2 g, lt-ltb b 0xE0 l)) ∙ by_range
-
-  pub lead_three : 0xE0 ≤ b → b < 0xF0 → 3 ≡ lead_size b
-  lead_three g l = sym (simp (le-ltb b 0x80 (omega arith), le-ltb b 0xC2 (omega arith), le-ltb b 0xE0 g, lt-ltb b 0xF0 l)) ∙ by_range
-
-  pub lead_four : 0xF0 ≤ b → b < 0xF5 → 4 ≡ lead_size b
-  lead_four g l = sym (simp (le-ltb b 0x80 (omega arith), le-ltb b 0xC2 (omega arith), le-ltb b 0xE0 (omega arith), le-ltb b 0xF0 g, lt-ltb b 0xF5 l)) ∙ by_range
+  pub lead_more : 0xC2 ≤ b → b < 0xF5 → leading_ones b ≡ lead_size b
+  lead_more g l = sym (simp (le-ltb b 0x80 (omega arith), le-ltb b 0xC2 g, lt-ltb b 0xF5 l)) ∙ by_range
 
   pub lead_past : 0xF5 ≤ b → 0 ≡ lead_size b
-  lead_past g = sym (simp (le-ltb b 0x80 (omega arith), le-ltb b 0xC2 (omega arith), le-ltb b 0xE0 (omega arith), le-ltb b 0xF0 (omega arith), le-ltb b 0xF5 g)) ∙ by_range
+  lead_past g = sym (simp (le-ltb b 0x80 (omega arith), le-ltb b 0xC2 (omega arith), le-ltb b 0xF5 g)) ∙ by_range
 
 rows_begun : T (begun sequences)
 unfolding sequences

@@ -25,9 +25,7 @@ fn lead_size(b: u8) -> usize
 {
     match b {
         0..=0x7F => 1,
-        0xC2..=0xDF => 2,
-        0xE0..=0xEF => 3,
-        0xF0..=0xF4 => 4,
+        0xC2..=0xF4 => b.leading_ones() as usize,
         _ => 0,
     }
 }
@@ -53,7 +51,7 @@ fn second_high(b: u8) -> u8
     }
 }
 
-// How many bytes the sequence at the front has; 0 where there is none.
+// How many bytes the sequence at the front has; 0 where there is none, as in the definition, which the contract says.
 pub fn sequence_size(s: &[u8]) -> usize
     ensures { result ≡ sequence_size s.now }
 {
@@ -122,7 +120,7 @@ pub fn read_code_point(s: &[u8]) -> CodePoint
     }
 }
 
-// Where the first bad sequence of a text begins, if there is one.
+// Where the first bad sequence of a text begins, if there is one. A `while`, since each turn passes a sequence or a run of ASCII.
 pub fn first_bad(s: &[u8]) -> Option<usize>
     ensures { bad_place result ≡ first_bad s.now }
 {

@@ -9,10 +9,10 @@ pub returns-then-check-ne0 : goal.returns-then-check-ne0
 returns-then-check-ne0 c = check_refuses _ _ _ _ _ c.first_check-check.ensures c.if-check-ne0.true
 
 pub read_checked-requires : goal.read_checked-requires
-read_checked-requires c = checked _ _ _ _ (lent_slices c.args.work.now [] [] []) c.first_check-check.ensures c.if-check-ne0.false (sym c.first_bad-validity.ensures ∙ ap bad_place c.in-Valid.is)
+read_checked-requires c = checked _ _ _ _ (lent_slices c.args.work.now [] [] []) c.first_check-check.ensures c.if-check-ne0.false (sym c.first_bad.ensures ∙ ap bad_place c.in-None.is)
 
-pub returns-in-BadAt : goal.returns-in-BadAt
-returns-in-BadAt c = not_utf8 _ _ _ _ _ c.first_check-check.ensures c.if-check-ne0.false _ (sym c.first_bad-validity.ensures ∙ ap bad_place c.in-BadAt.is) _ c.clear_all.ensures
+pub returns-in-Some : goal.returns-in-Some
+returns-in-Some c = not_utf8 _ _ _ _ _ c.first_check-check.ensures c.if-check-ne0.false _ (sym c.first_bad.ensures ∙ ap bad_place c.in-Some.is) _ c.clear_all.ensures
 
-pub returns-in-Valid : goal.returns-in-Valid
-returns-in-Valid c = valid _ _ _ _ _ c.first_check-check.ensures c.if-check-ne0.false (sym c.first_bad-validity.ensures ∙ ap bad_place c.in-Valid.is) _ _ c.read_checked.ensures
+pub returns-in-None : goal.returns-in-None
+returns-in-None c = valid _ _ _ _ _ c.first_check-check.ensures c.if-check-ne0.false (sym c.first_bad.ensures ∙ ap bad_place c.in-None.is) _ _ c.read_checked.ensures
