@@ -451,7 +451,7 @@ pub fn compare_indexed(
         right_list,
         index,
     );
-    zeroing::clear_words(index);
+    index.fill(0);
     r
 }
 

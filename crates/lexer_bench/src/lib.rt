@@ -5,7 +5,6 @@ ghost use Rattle.std.specs.Prelude.{◌≡◌, ◌≤◌, length};
 ghost use Rattle.lexer_bench.specs.Front.{valid_size};
 
 use lexer_words::names::minus;
-use utf8::Validity;
 
 // How many tokens a text has up to its end, or to the first place where none can be read.
 #[unsafe(no_mangle)]
@@ -35,8 +34,5 @@ pub extern "C" fn bench_tokens(s: &[u8]) -> usize
 pub extern "C" fn bench_utf8(s: &[u8]) -> usize
     ensures { result ≡ valid_size s.now }
 {
-    match utf8::first_bad(s) {
-        Validity::Valid => s.len(),
-        Validity::BadAt(i) => i,
-    }
+    utf8::first_bad(s).unwrap_or(s.len())
 }

@@ -8,7 +8,7 @@ use lib.Dec.{eqb}
 use lib.ListN.{length, get_or, take, drop, take-append-drop}
 use Rattle.text.specs.Text.{Text}
 use Rattle.text.proofs.Compare.{by}
-use Rattle.zeroing.proofs.Zeros.{zeros}
+use Rattle.text.proofs.Zeros.{zeros}
 use Rattle.table.specs.Tables.{rows_words, terms_words, store_bytes}
 use Rattle.table.proofs.Store.{rows_length, bytes_length}
 use Rattle.table.specs.Layout.{row_size, term_size}

@@ -21,7 +21,7 @@ use Rattle.iri.specs.Iri.{has_scheme, forbidden}
 use Rattle.environment.specs.Environment.{start_environment}
 use Rattle.environment.specs.Code.{words_size, environment_in, listed, base_cell, cell, Usable, SetsBase}
 use Rattle.environment.proofs.Directives.{in_force_words}
-use Rattle.zeroing.proofs.Zeros.{zeros, zero_at}
+use Rattle.text.proofs.Zeros.{zeros, zero_at}
 use Rattle.table.specs.Tables.{rows_words, store_size}
 use Rattle.term_tree.proofs.Indexes.{holds_none}
 use Rattle.machine.specs.Memory.{start_memory}

@@ -13,7 +13,6 @@ ghost use Rattle.reader.specs.Stages.{held_slices, Checked, Started, Cleared, Fi
 use environment::Layout;
 use limits::Refusal;
 use state::{Held, Words};
-use utf8::Validity;
 
 // What an accepted document comes to: its length, and how many rows, terms and store bytes there are.
 #[derive(Clone, Copy, Debug, PartialEq, Eq)]
@@ -36,7 +35,7 @@ fn prepare(document: &[u8], base: &[u8], work: &mut [u8], st: &mut [usize; Layou
     requires { Checked document.now base.now work.old × (st.old ≡ replicate words_size 0) }
     ensures { Started document.now base.now work.old work.new st.new }
 {
-    zeroing::clear_bytes(work);
+    work.fill(0);
     environment::set_base(work, st, base);
     cursor::seek(document, st, 0, 0);
 }
@@ -44,10 +43,10 @@ fn prepare(document: &[u8], base: &[u8], work: &mut [u8], st: &mut [usize; Layou
 fn clear_all(work: &mut [u8], rows: &mut [u32], terms: &mut [u32], store: &mut [u8])
     ensures { Cleared (lent_slices work.old rows.old terms.old store.old) (lent_slices work.new rows.new terms.new store.new) }
 {
-    zeroing::clear_bytes(work);
-    zeroing::clear_words(rows);
-    zeroing::clear_words(terms);
-    zeroing::clear_bytes(store);
+    work.fill(0);
+    rows.fill(0);
+    terms.fill(0);
+    store.fill(0);
 }
 
 // An accepted document leaves its tables, and zeros in the work slice; a refused one leaves zeros in all.
@@ -63,7 +62,7 @@ fn finish(read: Result<(), Refusal>, size: usize, held: &mut Held<'_>) -> Result
             position: held.st[Words::AT],
         });
     }
-    zeroing::clear_bytes(held.work);
+    held.work.fill(0);
     Ok(Accepted {
         position: size,
         rows: held.st[Words::ROWS],
@@ -117,13 +116,13 @@ pub fn read(
         });
     }
     match utf8::first_bad(document) {
-        Validity::BadAt(position) => {
+        Some(position) => {
             clear_all(work, rows, terms, store);
             Err(Refused {
                 refusal: Refusal::Utf8,
                 position,
             })
         }
-        Validity::Valid => read_checked(document, base, mode, work, rows, terms, store),
+        None => read_checked(document, base, mode, work, rows, terms, store),
     }
 }

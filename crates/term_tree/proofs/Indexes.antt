@@ -21,7 +21,7 @@ use Rattle.table.proofs.Numbers.{same_term_eq}
 use Rattle.table.proofs.Finding.{number_step, number_start, number_more}
 use Rattle.text.proofs.Over.{rest_all}
 use Rattle.spelling.proofs.Forms.{given_back}
-use Rattle.zeroing.proofs.Zeros.{zeros, zero_at}
+use Rattle.text.proofs.Zeros.{zeros, zero_at}
 use Rattle.terms.specs.declared.Counts.{Counts}
 use Rattle.terms.specs.declared.Sort.{Sort}
 use Rattle.terms.specs.Keeps.{blank_count, findable, Typed, Keeps, Means, Added, BlankAdded}

@@ -5,7 +5,7 @@ use mathlib.Core.List.{[], ◌∷◌, ◌++◌}
 use mathlib.Core.Bool.{Bool, true, false, ◌&&◌, ◌||◌}
 use native.Mathlib.Numerals.{add-one}
 use native.Mathlib.Omega.{arith}
-use lib.ListN.{length, get_or, take, drop, drop_of_length-le}
+use lib.ListN.{length, get_or, drop, drop_of_length-le}
 use lib.Seq.{drop-cons}
 use lib.Dec.{eqb, ltb}
 use borrow.Author.Tests.{eq-eqb, ne_eqb, eqb-true, eqb-false, ltb-true, ltb-false}
@@ -70,13 +70,6 @@ same_append [] u t = refl
 same_append (a ∷ s) u [] = refl
 same_append (a ∷ s) u (b ∷ t) = by (eqb a b) (λ e. rw e (same_append s u t)) (λ e. rw e)
 
--- A text begins with another if its front of that length is the other.
-pub begins_front : (s t : Text) → length s ≤ length t → begins s t ≡ same_text s (take (length s) t)
-unfolding same_text begins
-begins_front [] t h = refl
-begins_front (a ∷ s) [] h = absurd (omega arith)
-begins_front (a ∷ s) (b ∷ t) h = by (eqb a b) (λ e. rw e (begins_front s t (omega arith))) (λ e. rw e)
-
 -- One byte further in a comparison.
 module _ (s t : Text) (i j : ℕ) (h : i < length s) (g : j < length t) where
   pub begins_more : get_or t j 0 ≡ get_or s i 0 → begins (drop i s) (drop j t) ≡ begins (drop (i + 1) s) (drop (j + 1) t)
@@ -114,10 +107,6 @@ same_end t j g =
   where
     less : (a b : ℕ) → a ≤ b → (a ≡ b → ⊥) → a < b
     less a b k n = by (ltb a b) (ltb-true a b) (λ e. absurd (n (omega (arith, ltb-false a b e))))
-
-pub same_ends : (s t : Text) (i : ℕ) → length s ≤ i → length t ≤ i → same_text (drop i s) (drop i t) ≡ true
-unfolding same_text
-same_ends s t i h g = rw (drop_of_length-le s {i = i} h, drop_of_length-le t {i = i} g)
 
 -- A search for a byte that passes a test: it is here, it is further on, there is none.
 module _ (p : ℕ → Bool) (s : Text) (i : ℕ) where

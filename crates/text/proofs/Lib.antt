@@ -2,7 +2,9 @@
 pub mod Booleans
 pub mod Compare
 pub mod Order
+pub mod Library
 pub mod Over
-pub mod Table
 pub mod Words
+pub mod Zeros
+pub mod Table
 pub mod Runs

@@ -2,21 +2,15 @@
 use Prim.Native.Nat.{ℕ, zero, suc, ◌+◌, ◌-◌, ◌≤◌, ◌<◌}
 use mathlib.Core.Path.{◌≡◌, refl, ap, sym, subst, ◌∙◌}
 use mathlib.Core.List.{[], ◌∷◌, ◌++◌}
-use mathlib.Core.Bool.{Bool, true, false, not, ◌&&◌}
+use mathlib.Core.Bool.{Bool, true, false, not}
 use native.Mathlib.Numerals.{add-one}
 use native.Mathlib.Omega.{arith}
 use lib.ListN.{length, get_or, take, drop, length-drop, drop_of_length-le}
 use lib.Seq.{drop-cons, drop-drop, get_or-drop}
-use lib.Dec.{eqb, ltb}
-use borrow.Author.Tests.{not-true, eqb-true, eqb-false, lt-ltb, le-ltb, ltb-true, ltb-false}
+use borrow.Author.Tests.{not-true}
 use Rattle.text.specs.Text.{Text, until, some_byte}
 use Rattle.text.specs.Runs.{free, next_at}
-use Rattle.text.proofs.Compare.{by, contrary, and_left, and_right}
-
-pub until_length : (p : ℕ → Bool) (t : Text) → length (until p t) ≤ length t
-unfolding until
-until_length p [] = omega arith
-until_length p (c ∷ t) = by (p c) (λ e. rw e (omega arith)) (λ e. rw e (omega (arith, until_length p t)))
+use Rattle.text.proofs.Compare.{by, and_left, and_right}
 
 -- The run, and what stands behind it.
 pub until_split : (p : ℕ → Bool) (t : Text) → t ≡ until p t ++ drop (length (until p t)) t
@@ -33,14 +27,6 @@ pub until_free : (p : ℕ → Bool) (t : Text) → some_byte p (until p t) ≡ f
 unfolding until some_byte
 until_free p [] = refl
 until_free p (c ∷ t) = by (p c) (λ e. rw e) (λ e. rw (e, e) (until_free p t))
-
-pub until_some : (p : ℕ → Bool) (t : Text) → some_byte p t ≡ ltb (length (until p t)) (length t)
-unfolding until some_byte
-until_some p [] = refl
-until_some p (c ∷ t) = by (p c) (λ e. rw e (sym (lt-ltb 0 (suc (length t)) (omega arith)))) (λ e. rw e (until_some p t ∙ sym (shift (length (until p t)) (length t))))
-  where
-    shift : (a b : ℕ) → ltb (suc a) (suc b) ≡ ltb a b
-    shift a b = by (ltb a b) (λ e. rw e (lt-ltb (suc a) (suc b) (omega (arith, ltb-true a b e)))) (λ e. rw e (le-ltb (suc a) (suc b) (omega (arith, ltb-false a b e))))
 
 until_stop : (p : ℕ → Bool) (t : Text) → length (until p t) < length t → p (get_or t (length (until p t)) 0) ≡ true
 unfolding until
@@ -99,44 +85,3 @@ module _ (p : ℕ → Bool) (s : Text) (P : ℕ → Type 0) (step : (j : ℕ) �
 
   pub next_walk : (i k : ℕ) → i ≤ length s → k ≡ next_at p s i → P i → P k
   next_walk i k h e x = subst P (sym e) (walk (length s - i) i refl h x)
-
--- Blocks, place by place.
-pub free_at : (p : ℕ → Bool) (s : Text) (i n : ℕ) → free p s i n ≡ true → (k : ℕ) → i ≤ k → k < i + n → p (get_or s k 0) ≡ false
-free_at p s i zero e k h g = absurd (omega arith)
-free_at p s i (suc n) e k h g =
-    by (eqb k (i + n)) (λ q. let z : k ≡ i + n = eqb-true k (i + n) q in rw z (not-true _ (and_right (free p s i n) (not (p (get_or s (i + n) 0))) e)))
-    (λ q. free_at p s i n (and_left (free p s i n) (not (p (get_or s (i + n) 0))) e) k h (less k (i + n) (omega arith) (eqb-false k (i + n) q)))
-  where
-    less : (a b : ℕ) → a ≤ b → (a ≡ b → ⊥) → a < b
-    less a b k n = by (ltb a b) (ltb-true a b) (λ e. absurd (n (omega (arith, ltb-false a b e))))
-
-pub clear_none : (p : ℕ → Bool) (s : Text) → ((k : ℕ) → k < length s → p (get_or s k 0) ≡ false) → some_byte p s ≡ false
-unfolding some_byte
-clear_none p [] f = refl
-clear_none p (c ∷ s) f = rw (f 0 (omega arith)) (clear_none p s (λ k h. f (suc k) (omega arith)))
-
-pub some_at : (p : ℕ → Bool) (s : Text) (k : ℕ) → k < length s → p (get_or s k 0) ≡ true → some_byte p s ≡ true
-unfolding some_byte
-some_at p [] k h e = absurd (omega arith)
-some_at p (c ∷ s) zero h e = rw e
-some_at p (c ∷ s) (suc k) h e = by (p c) (λ f. rw f) (λ f. rw f (some_at p s k (omega arith) e))
-
-pub free_some : (p : ℕ → Bool) (s : Text) (i n : ℕ) → i + n ≤ length s → free p s i n ≡ false → some_byte p s ≡ true
-free_some p s i zero h e = contrary e
-free_some p s i (suc n) h e =
-    by (free p s i n)
-    (λ f. by (p (get_or s (i + n) 0)) (λ g. some_at p s (i + n) (omega arith) g) (λ g. contrary (let z : (free p s i n && not (p (get_or s (i + n) 0))) ≡ true = rw (f, g) in sym z ∙ e)))
-    (λ f. free_some p s i n (omega arith) f)
-
--- Two blocks that meet.
-pub free_all : (p : ℕ → Bool) (s : Text) (i j n : ℕ) → ((k : ℕ) → k < i → p (get_or s k 0) ≡ false) → j ≤ i → j + n ≡ length s → free p s j n ≡ true → some_byte p s ≡ false
-free_all p s i j n f h e g =
-    clear_none p s (λ k l. by (ltb k i) (λ q. f k (ltb-true k i q)) (λ q. free_at p s j n g k (omega (arith, ltb-false k i q)) (omega arith)))
-
-pub free_front : (p : ℕ → Bool) (s : Text) (i n : ℕ) → ((k : ℕ) → k < i → p (get_or s k 0) ≡ false) → free p s i n ≡ true → (k : ℕ) → k < i + n → p (get_or s k 0) ≡ false
-free_front p s i n f g k h = by (ltb k i) (λ q. f k (ltb-true k i q)) (λ q. free_at p s i n g k (omega (arith, ltb-false k i q)) h)
-
--- A block up to the end, behind bytes that do not pass the test.
-pub last_block : (p : ℕ → Bool) (s : Text) (i j n : ℕ) (r : Bool) → ((k : ℕ) → k < i → p (get_or s k 0) ≡ false) → j ≤ i → j + n ≡ length s → r ≡ free p s j n → not r ≡ some_byte p s
-last_block p s i j n true f h e g = sym (free_all p s i j n f h e (sym g))
-last_block p s i j n false f h e g = sym (free_some p s j n (omega arith) (sym g))

@@ -11,7 +11,7 @@ use lib.Count.{count_leading_zeros}
 use Rattle.text.specs.Text.{Text, cond, between}
 use Rattle.text.proofs.Compare.{and_false}
 use Rattle.utf8.specs.Utf8.{Range, ◌–◌, tail, sequences, fits, first_fit, sequence_size}
-use Rattle.utf8.specs.Code.{lead_size, second_low, second_high, sized}
+use Rattle.utf8.specs.Code.{leading_ones, lead_size, second_low, second_high, sized}
 use Rattle.utf8.proofs.Tests.{by, below, below_at, and_true}
 
 -- ---- Equality of ranges, by computing
@@ -84,6 +84,30 @@ rows_of (suc (suc n)) b = ((second_low b – second_high b) ∷ more_tails n) �
 table_says : T (below (λ b. same_rows (tails_at b sequences) (rows_of (lead_size b) b) && ltb (lead_size b) 5) 256)
 unfolding sequences count_leading_zeros
 table_says = tt
+
+-- The same by ranges of the first byte.
+abbrev by_ranges : ℕ → ℕ
+by_ranges b = cond (ltb b 0x80) 1 (cond (ltb b 0xC2) 0 (cond (ltb b 0xF5) (leading_ones b) 0))
+
+ranges_say : T (below (λ b. eqb (by_ranges b) (lead_size b)) 256)
+unfolding count_leading_zeros
+ranges_say = tt
+
+module _ (b : ℕ) (h : b < 256) where
+  by_range : by_ranges b ≡ lead_size b
+  by_range = eqb→eq (by_ranges b) (lead_size b) (below_at (λ b. eqb (by_ranges b) (lead_size b)) 256 ranges_say b h)
+
+  pub lead_one : b < 0x80 → 1 ≡ lead_size b
+  lead_one l = sym (simp (lt-ltb b 0x80 l)) ∙ by_range
+
+  pub lead_inner : 0x80 ≤ b → b < 0xC2 → 0 ≡ lead_size b
+  lead_inner g l = sym (simp (le-ltb b 0x80 g, lt-ltb b 0xC2 l)) ∙ by_range
+
+  pub lead_more : 0xC2 ≤ b → b < 0xF5 → leading_ones b ≡ lead_size b
+  lead_more g l = sym (simp (le-ltb b 0x80 (omega arith), le-ltb b 0xC2 g, lt-ltb b 0xF5 l)) ∙ by_range
+
+  pub lead_past : 0xF5 ≤ b → 0 ≡ lead_size b
+  lead_past g = sym (simp (le-ltb b 0x80 (omega arith), le-ltb b 0xC2 (omega arith), le-ltb b 0xF5 g)) ∙ by_range
 
 rows_begun : T (begun sequences)
 unfolding sequences

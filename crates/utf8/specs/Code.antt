@@ -1,15 +1,13 @@
 -- What the routines compute: the size of a sequence by the leading ones of its first byte.
 use Rattle.std.proofs.Math.Option.{Option, none, some}
-use Rattle.std.specs.Prelude.{ℕ, ◌-◌, eqb, ltb, length, get_or}
+use Rattle.std.specs.Prelude.{ℕ, ◌-◌, eqb, ltb, length, get_or, Option as Answer, Some, None}
 use Rattle.std.specs.Int.Count.{count_leading_zeros}
 use Rattle.text.specs.Text.{Text, cond, between}
-use Rattle.utf8.specs.declared.Validity.{Validity}
-use Rattle.utf8.specs.declared.Validity.TheVariants.{Valid, BadAt}
 
 -- An answer as a place.
-abbrev pub bad_place : Validity → Option ℕ
-bad_place Valid = none
-bad_place (BadAt i) = some i
+abbrev pub bad_place : Answer ℕ → Option ℕ
+bad_place None = none
+bad_place (Some i) = some i
 
 abbrev pub leading_ones : ℕ → ℕ
 leading_ones b = count_leading_zeros 8 (255 - b)

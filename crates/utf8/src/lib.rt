@@ -6,13 +6,6 @@ ghost use Rattle.text.specs.Text.{is_none, between};
 ghost use Rattle.utf8.specs.Utf8.{sequence_size, code_point, first_bad};
 ghost use Rattle.utf8.specs.Code.{lead_size, second_low, second_high, bad_place};
 
-// Whether a text is UTF-8; if not, the first byte of the first bad sequence.
-#[derive(Clone, Copy)]
-pub enum Validity {
-    Valid,
-    BadAt(usize),
-}
-
 // A code point and how many bytes it has; 0 bytes where no sequence stands.
 #[derive(Clone, Copy)]
 pub struct CodePoint {
@@ -23,55 +16,42 @@ pub struct CodePoint {
 fn is_between(lo: u8, hi: u8, b: u8) -> bool
     ensures { result ≡ between lo hi b }
 {
-    if b < lo {
-        return false;
-    }
-    b <= hi
+    (lo..=hi).contains(&b)
 }
 
 // "the leading one bits of the first byte say how many bytes follow": the size that a first byte says, 0 where none begins with it.
 fn lead_size(b: u8) -> usize
     ensures { result ≡ lead_size b }
 {
-    let ones = u8::leading_zeros(!b);
-    if ones == 0 {
-        return 1;
+    match b {
+        0..=0x7F => 1,
+        0xC2..=0xF4 => b.leading_ones() as usize,
+        _ => 0,
     }
-    if b < 0xC2 {
-        return 0;
-    }
-    if 0xF4 < b {
-        return 0;
-    }
-    ones as usize
 }
 
 // The range of the second byte: "overlong forms and surrogates are bad".
 fn second_low(b: u8) -> u8
     ensures { result ≡ second_low b }
 {
-    if b == 0xE0 {
-        return 0xA0;
+    match b {
+        0xE0 => 0xA0,
+        0xF0 => 0x90,
+        _ => 0x80,
     }
-    if b == 0xF0 {
-        return 0x90;
-    }
-    0x80
 }
 
 fn second_high(b: u8) -> u8
     ensures { result ≡ second_high b }
 {
-    if b == 0xED {
-        return 0x9F;
+    match b {
+        0xED => 0x9F,
+        0xF4 => 0x8F,
+        _ => 0xBF,
     }
-    if b == 0xF4 {
-        return 0x8F;
-    }
-    0xBF
 }
 
-// How many bytes the sequence at the front has; 0 where there is none.
+// How many bytes the sequence at the front has; 0 where there is none, as in the definition, which the contract says.
 pub fn sequence_size(s: &[u8]) -> usize
     ensures { result ≡ sequence_size s.now }
 {
@@ -107,7 +87,7 @@ pub fn sequence_size(s: &[u8]) -> usize
 fn wide(b: u8) -> u32
     ensures { result ≡ b }
 {
-    b as u32
+    u32::from(b)
 }
 
 // The code point at the front.
@@ -140,8 +120,8 @@ pub fn read_code_point(s: &[u8]) -> CodePoint
     }
 }
 
-// Where the first bad sequence of a text begins, if there is one.
-pub fn first_bad(s: &[u8]) -> Validity
+// Where the first bad sequence of a text begins, if there is one. A `while`, since each turn passes a sequence or a run of ASCII.
+pub fn first_bad(s: &[u8]) -> Option<usize>
     ensures { bad_place result ≡ first_bad s.now }
 {
     let mut i: usize = 0;
@@ -151,20 +131,16 @@ pub fn first_bad(s: &[u8]) -> Validity
         } else {
             let n = sequence_size(&s[i..]);
             if n == 0 {
-                return Validity::BadAt(i);
+                return Some(i);
             }
             i += n;
         }
     }
-    Validity::Valid
+    None
 }
 
 pub fn is_utf8(s: &[u8]) -> bool
     ensures { result ≡ is_none (first_bad s.now) }
 {
-    let v = first_bad(s);
-    match v {
-        Validity::Valid => true,
-        Validity::BadAt(_) => false,
-    }
+    first_bad(s).is_none()
 }

@@ -2,7 +2,7 @@ use Rattle.reader.proofs.Start.{can_seek, started}
 use Rattle.reader.proofs.prepare.Goals as goal
 
 pub seek-requires : goal.seek-requires
-seek-requires c = can_seek c.requires.0 c.clear_bytes.ensures c.requires.1 c.set_base.ensures
+seek-requires c = can_seek c.requires.0 (c.fill.ensures.after (λ y e. e)) c.requires.1 c.set_base.ensures
 
 pub returns : goal.returns
-returns c = started c.requires.0 c.clear_bytes.ensures c.requires.1 c.set_base.ensures _ c.seek.ensures
+returns c = started c.requires.0 (c.fill.ensures.after (λ y e. e)) c.requires.1 c.set_base.ensures _ c.seek.ensures

@@ -1,18 +1,13 @@
-use mathlib.Core.Path.{refl, sym, ◌∙◌}
+use mathlib.Core.Path.{sym, ◌∙◌}
 use native.Mathlib.Omega.{arith}
-use borrow.Author.Tests.{eq-eqb, ne_eqb}
-use Rattle.text.specs.Runs.{byte}
 use Rattle.text.proofs.Runs.{next_here, next_more, next_end}
 use Rattle.text.proofs.next_near.Goals as goal
 
-pub loop-i-init : goal.loop-i-init
-loop-i-init c = (c.requires, (omega arith, refl))
-
-pub returns-then-s-i : goal.returns-then-s-i
-returns-then-s-i c = (sym (c.loop-i.invariant.1.1 ∙ next_here (byte c.args.q) c.args.s.now c.loop-i.i (omega arith) (eq-eqb _ _ c.if-s-i.true)), (c.loop-i.invariant.1.0, omega arith))
+pub returns-then-test-clause-next : goal.returns-then-test-clause-next
+returns-then-test-clause-next g c = λ p a. sym (c.loop-i.invariant.1.1 p a ∙ next_here p c.args.s.now c.loop-i.i (omega arith) (sym (a _ _ c.test.ensures) ∙ c.if-test.true))
 
 pub loop-i-preserved : goal.loop-i-preserved
-loop-i-preserved c = (omega arith, (omega (arith, c.loop-i.invariant.1.0), c.loop-i.invariant.1.1 ∙ next_more (byte c.args.q) c.args.s.now c.loop-i.i (omega arith) (ne_eqb _ _ c.if-s-i.false)))
+loop-i-preserved g c = (omega arith, (omega (arith, c.loop-i.invariant.1.0), λ p a. c.loop-i.invariant.1.1 p a ∙ next_more p c.args.s.now c.loop-i.i (omega arith) (sym (a _ _ c.test.ensures) ∙ c.if-test.false)))
 
-pub returns : goal.returns
-returns c = (sym (c.loop-i.invariant.1.1 ∙ next_end (byte c.args.q) c.args.s.now c.loop-i.i (omega arith)), (c.loop-i.invariant.1.0, c.loop-i.invariant.0))
+pub returns-clause-next : goal.returns-clause-next
+returns-clause-next g c = λ p a. sym (c.loop-i.invariant.1.1 p a ∙ (next_end p c.args.s.now c.loop-i.i (omega arith) ∙ omega (arith, c.loop-i.invariant.0)))

@@ -1,21 +1,17 @@
--- `lead_size` meets its contract.
+-- The arms are ranges; each has its row in the table for all bytes.
+use mathlib.Core.Path.{◌∙◌}
 use native.Mathlib.Omega.{arith}
-use borrow.Author.Tests.{lt-ltb, le-ltb, eq-eqb, ne_eqb}
-use lib.Count.{leading_le}
-use Prim.Native.Nat.{◌-◌}
+use Rattle.utf8.proofs.Size.{lead_one, lead_inner, lead_more, lead_past}
 use Rattle.utf8.proofs.lead_size.Goals as goal
 
-pub returns-then-ones-eq0 : goal.returns-then-ones-eq0
-returns-then-ones-eq0 c = simp (eq-eqb _ _ c.if-ones-eq0.true)
+pub returns-in-0-to-127 : goal.returns-in-0-to-127
+returns-in-0-to-127 c = lead_one c.args.b c.ranges.b.fits (omega arith)
 
-pub returns-then-b-lt194 : goal.returns-then-b-lt194
-returns-then-b-lt194 c = simp (lt-ltb _ _ c.if-b-lt194.true, ne_eqb _ _ c.if-ones-eq0.false)
+pub returns-in-194-to-244 : goal.returns-in-194-to-244
+returns-in-194-to-244 c = c.leading_ones.ensures ∙ lead_more c.args.b c.ranges.b.fits (omega arith) (omega arith)
 
-pub returns-then-b-gt244 : goal.returns-then-b-gt244
-returns-then-b-gt244 c = simp (lt-ltb _ _ c.if-b-gt244.true, le-ltb _ _ c.if-b-lt194.false, ne_eqb _ _ c.if-ones-eq0.false)
+pub returns-in_default : goal.returns-in_default
+returns-in_default c = lead_inner c.args.b c.ranges.b.fits (omega arith) (omega arith)
 
-pub overflow_cast-result : goal.overflow_cast-result
-overflow_cast-result c = record { fits = omega (arith, leading_le 8 (255 - c.args.b)) }
-
-pub returns : goal.returns
-returns c = simp (le-ltb _ _ c.if-b-gt244.false, le-ltb _ _ c.if-b-lt194.false, ne_eqb _ _ c.if-ones-eq0.false)
+pub returns-in_default-2 : goal.returns-in_default-2
+returns-in_default-2 c = lead_past c.args.b c.ranges.b.fits (omega arith)
