@@ -2,11 +2,10 @@
 use Prim.Native.Nat.{ℕ, zero, suc, ◌+◌, ◌*◌, ◌-◌, ◌%◌, ◌≤◌, ◌<◌}
 use mathlib.Core.Path.{◌≡◌, refl, ap, sym, ◌∙◌}
 use mathlib.Core.List.{[], ◌∷◌, ◌++◌, append-nil, append_assoc}
-use mathlib.Core.Bool.{Bool, true, false, ◌&&◌, ◌||◌}
-use native.Mathlib.Numerals.{add-one}
+use mathlib.Core.Bool.{Bool, true, false, ◌&&◌}
 use native.Mathlib.Omega.{arith}
 use lib.ListN.{length, get_or, take, drop, length-append, length-drop, length-take}
-use lib.Seq.{take_all, drop-cons, drop-drop, length-take-le}
+use lib.Seq.{take_all, drop-cons, drop-drop}
 use lib.Dec.{eqb, ltb, leb}
 use borrow.Author.Tests.{ne_eqb, eq-eqb, eqb-true, ltb-true, le-ltb, lt-leb}
 use denote.Bor.{Bor}
@@ -14,20 +13,20 @@ use Rattle.text.specs.Text.{Text, is, same_text, begins, some_byte, until}
 use Rattle.text.specs.Slice.{over, over_at}
 use Rattle.text.specs.Runs.{byte, next_at}
 use Rattle.text.proofs.Runs.{next_split, next_free}
-use Rattle.text.proofs.Compare.{by, contrary, begins_length, begins_more, same_append, same_end}
+use Rattle.text.proofs.Compare.{by, begins_length, begins_more, same_append, same_end}
 use Rattle.text.proofs.Over.{over_append, over_length}
 use Rattle.utf8.specs.Utf8.{encode, width}
 use Rattle.escape.specs.Escape.{outside, behind, digits, plain, numeric, letter, hex_value, letter_value, pieces_from, pieces, unescape_piece, unescape_pieces, unescape, bad_pieces, bad_escape, no_character, unreserve}
 use Rattle.escape.specs.Escape as escape
 use Rattle.std.specs.Prelude.{Option, Some, None}
-use Rattle.escape.specs.Code.{undone, four, encoded, bad, shown, size, names_none, number, low, Yields, Ends, Walks, Numbered, Written}
+use Rattle.escape.specs.Code.{undone, four, encoded, bad, shown, size, number, low, Yields, Ends, Walks, Numbered, Written}
 use Rattle.escape.specs.declared.Stretches.{Stretches}
 use Rattle.escape.specs.declared.Escapes.{Escapes}
 use Rattle.escape.specs.declared.Escapes.TheVariants.{Quoted, Local}
 use Rattle.escape.specs.declared.Character.{Character}
 use Rattle.escape.specs.declared.Stretch.{Stretch}
 use Rattle.escape.specs.declared.Stretch.TheVariants.{Run, One}
-use Rattle.escape.proofs.Bytes.{or_left, or_right, bytes_of, bytes_take, low_bytes, unescape_bytes, unreserve_bytes}
+use Rattle.escape.proofs.Bytes.{or_left, or_right, bytes_of, low_bytes, unescape_bytes, unreserve_bytes}
 use Rattle.escape.proofs.Steps.{at_backslash, at_plain, at_short, at_long, at_letter, at_digits, too_few}
 
 -- A text is never longer than it was with its escapes: so many bytes are owed inside of one.

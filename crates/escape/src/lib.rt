@@ -43,19 +43,12 @@ pub struct Stretches<'a> {
 fn hex_value(c: u8) -> usize
     ensures { (result ≡ hex_value c) × (result ≤ 168) }
 {
-    if c < 48 {
-        return 0;
-    }
-    if c < 58 {
-        return wide(c - 48);
-    }
-    if c < 71 {
-        return wide(c - 55);
-    }
-    if c < 87 {
-        return 0;
-    }
-    wide(c - 87)
+    let zero = match c {
+        ..=b'9' => b'0',
+        ..=b'F' => b'A' - 10,
+        _ => b'a' - 10,
+    };
+    wide(c.saturating_sub(zero))
 }
 
 // The character that a letter behind a backslash stands for.
@@ -72,32 +65,25 @@ fn letter_value(c: u8) -> u8
     }
 }
 
-// How many bytes the character has in UTF-8.
+// How many bytes the number has in UTF-8, also where it is no `char`.
 fn width_of(v: usize) -> usize
     ensures { (result ≡ width v) × (result ≤ 4) }
 {
-    if v < 0x80 {
-        return 1;
+    match v {
+        ..0x80 => 1,
+        ..0x800 => 2,
+        ..0x10000 => 3,
+        _ => 4,
     }
-    if v < 0x800 {
-        return 2;
-    }
-    if v < 0x10000 {
-        return 3;
-    }
-    4
 }
 
 fn names_no_character(v: usize) -> bool
     ensures { result ≡ no_character v }
 {
-    if v < 0xD800 {
-        return false;
+    match v {
+        0xD800..=0xDFFF => true,
+        _ => 0x10FFFF < v,
     }
-    if v <= 0xDFFF {
-        return true;
-    }
-    0x10FFFF < v
 }
 
 // The number that hex digits make.
@@ -137,10 +123,7 @@ impl Character {
     fn is_bad(self) -> bool
         ensures { result ≡ bad self }
     {
-        if 2 < self.width {
-            return names_no_character(self.value);
-        }
-        false
+        2 < self.width && names_no_character(self.value)
     }
 }
 
@@ -241,12 +224,10 @@ fn goes_on(t: &[u8], j: usize, b: &[usize]) -> bool
     if t.len() - j < b.len() {
         return false;
     }
-    let mut i: usize = 0;
-    while i < b.len() {
-        if wide(t[j + i]) != b[i] {
+    for (i, n) in b.iter().enumerate() {
+        if wide(t[j + i]) != *n {
             return false;
         }
-        i += 1;
     }
     true
 }
@@ -256,13 +237,11 @@ fn put(out: &mut [u8], j: usize, b: &[usize])
     requires { j + length b.now < 18446744073709551616 }
     ensures { out.new ≡ over_at j (low b.now) out.old }
 {
-    let mut i: usize = 0;
-    while i < b.len() {
+    for (i, n) in b.iter().enumerate() {
         if out.len() <= j + i {
             return;
         }
-        out[j + i] = (b[i] % 256) as u8;
-        i += 1;
+        out[j + i] = (*n % 256) as u8;
     }
 }
 

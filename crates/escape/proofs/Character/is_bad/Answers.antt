@@ -6,6 +6,6 @@ pub returns-then-self-gt2 : goal.returns-then-self-gt2
 unfolding bad
 returns-then-self-gt2 c = simp (lt-ltb _ _ c.if-self-gt2.true) c.names_no_character.ensures
 
-pub returns : goal.returns
+pub returns-else-self-gt2 : goal.returns-else-self-gt2
 unfolding bad
-returns c = simp (le-ltb _ _ c.if-self-gt2.false)
+returns-else-self-gt2 c = simp (le-ltb _ _ c.if-self-gt2.false)

@@ -1,5 +1,4 @@
-use mathlib.Core.Path.{refl, sym, ◌∙◌}
-use native.Mathlib.Omega.{arith}
+use mathlib.Core.Path.{refl}
 use Rattle.text.proofs.Over.{rest_all}
 use Rattle.escape.proofs.Walk.{reserved_yields}
 use Rattle.escape.proofs.Stretches.reserved.Goals as goal
