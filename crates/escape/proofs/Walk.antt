@@ -5,7 +5,7 @@ use mathlib.Core.List.{[], ◌∷◌, ◌++◌, append-nil, append_assoc}
 use mathlib.Core.Bool.{Bool, true, false, ◌&&◌}
 use native.Mathlib.Omega.{arith}
 use lib.ListN.{length, get_or, take, drop, length-append, length-drop, length-take}
-use lib.Seq.{take_all, drop-cons, drop-drop}
+use lib.Seq.{length-take-le, take_all, drop-cons, drop-drop}
 use lib.Dec.{eqb, ltb, leb}
 use borrow.Author.Tests.{ne_eqb, eq-eqb, eqb-true, ltb-true, le-ltb, lt-leb}
 use denote.Bor.{Bor}
@@ -127,6 +127,7 @@ run_yields k s t n r e some fits er et =
       text = ap (undone k) split ∙ run_undone k r.now t free;
       named = λ q. ap bad_escape split ∙ run_good r.now t free;
       long = refl;
+      some = λ q. rw (er, length-take-le n s fits) some;
       less = rw (et, length-drop n s) (omega arith);
     }
 
@@ -142,6 +143,9 @@ number_shown v =
 encode_long : (v : ℕ) → length (encode v) ≡ width v
 encode_long v =
     by (ltb v 0x80) (λ e. rw e) (λ e. by (ltb v 0x800) (λ f. rw (e, f)) (λ f. by (ltb v 0x10000) (λ g. rw (e, f, g)) (λ g. rw (e, f, g))))
+
+width_some : (v : ℕ) → 0 < width v
+width_some v = by (ltb v 0x80) (λ e. rw e (omega arith)) (λ e. by (ltb v 0x800) (λ f. rw (e, f) (omega arith)) (λ f. by (ltb v 0x10000) (λ g. rw (e, f, g) (omega arith)) (λ g. rw (e, f, g) (omega arith))))
 
 number_bad : (v : ℕ) → no_character v ≡ bad (numbered v)
 unfolding bad no_character
@@ -164,6 +168,7 @@ reserved_yields s t n r some mark e after fits er et =
       text = ap unreserve front ∙ (ap unreserve split ∙ run_name r.now t free);
       named = λ q. absurd (let x : ◌≡◌ {A = ℕ} 0 1 = cc in omega arith);
       long = refl;
+      some = λ q. absurd (let x : ◌≡◌ {A = ℕ} 0 1 = cc in omega arith);
       less = rw (et, length-drop n s) (omega arith);
     }
 
@@ -183,6 +188,7 @@ module _ (s : Text) (c : ℕ) (some : 1 < length s) (mark : get_or s 0 0 ≡ 92)
         text = rw ev (ap unescape_pieces piece);
         named = λ q. ap bad_pieces piece;
         long = refl;
+        some = λ q. omega arith;
         less = rw (length-drop 2 s) (omega arith);
       }
 
@@ -204,6 +210,7 @@ module _ (s : Text) (c : ℕ) (some : 1 < length s) (mark : get_or s 0 0 ≡ 92)
           text = ap unescape_pieces piece ∙ rw (number_shown v);
           named = λ q. ap bad_pieces piece ∙ rw (number_bad v);
           long = rw (number_shown v) (encode_long v);
+          some = λ q. width_some v;
           less = rw (length-drop (2 + suc d) s) (omega arith);
         }
 

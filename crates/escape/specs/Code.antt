@@ -64,6 +64,7 @@ pub record Yields (k : Escapes) (s t : Text) (p : Stretch) : Type 0 where
   pub text : undone k s ≡ shown p ++ undone k t
   pub named : k ≡ Quoted → bad_escape s ≡ (names_none p || bad_escape t)
   pub long : length (shown p) ≡ size p
+  pub some : k ≡ Quoted → 0 < size p
   pub less : length t < length s
 
 -- Nothing is left of the text.
