@@ -8,9 +8,9 @@ use mathlib.Core.Bool.{Bool, true, false, not, ◌&&◌, ◌||◌}
 use native.Mathlib.Omega.{arith}
 use lib.ListN.{length, get_or, drop, drop_of_length-le}
 use lib.Seq.{drop-cons}
-use lib.Dec.{eqb, leb}
-use borrow.Author.Tests.{ne_eqb, lt-ltb, lt-leb}
-use Rattle.text.specs.Text.{Text, cond, is, from}
+use lib.Dec.{leb}
+use borrow.Author.Tests.{ne_eqb, le-ltb, lt-leb}
+use Rattle.text.specs.Text.{Text, is, from}
 use Rattle.text.proofs.Compare.{by, contrary}
 use Rattle.escape.specs.Escape.{unescape}
 use Rattle.std.specs.Prelude.{Option, Some, None, is_some}
@@ -92,18 +92,20 @@ module _ (s : Text) (first : Bool) where
 
 -- An escape.
 module _ (first : Bool) (c : Character) where
-  pub escape_long : 0 < c.width → c.width ≤ 4 → (1 < c.width) ⊎ (255 < c.value) → Judges first (encoded c) (Some false)
+  pub escape_long : 0 < c.width → (1 < c.width) ⊎ (255 < c.value) → Judges first (encoded c) (Some false)
   unfolding Judges encoded four
-  escape_long some most long = λ t. go c.width refl some most long t
+  escape_long some long = λ t. go c.width refl some long t
     where
-      go : (n : ℕ) → c.width ≡ n → 0 < n → n ≤ 4 → (1 < n) ⊎ (255 < c.value) → (t : Text) → scheme_from first (encoded c ++ t) ≡ false
-      go zero e h g k t = absurd (omega arith)
-      go (suc zero) e h g (inl k) t = absurd (omega arith)
-      go (suc zero) e h g (inr k) t = rw e (high_none first c.value t (omega arith))
-      go (suc (suc zero)) e h g k t = rw e (high_none first (0xC0 + c.value / 64) _ (omega arith))
-      go (suc (suc (suc zero))) e h g k t = rw e (high_none first (0xE0 + c.value / 4096) _ (omega arith))
-      go (suc (suc (suc (suc zero)))) e h g k t = rw e (high_none first (0xF0 + c.value / 262144) _ (omega arith))
-      go (suc (suc (suc (suc (suc n))))) e h g k t = absurd (omega arith)
+      go : (n : ℕ) → c.width ≡ n → 0 < n → (1 < n) ⊎ (255 < c.value) → (t : Text) → scheme_from first (encoded c ++ t) ≡ false
+      go zero e h k t = absurd (omega arith)
+      go (suc zero) e h (inl k) t = absurd (omega arith)
+      go (suc zero) e h (inr k) t = rw e (high_none first c.value t (omega arith))
+      go (suc (suc zero)) e h k t = rw e (high_none first (0xC0 + c.value / 64) _ (omega arith))
+      go (suc (suc (suc zero))) e h k t = rw e (high_none first (0xE0 + c.value / 4096) _ (omega arith))
+      go (suc (suc (suc (suc zero)))) e h k t = rw e (high_none first (0xF0 + c.value / 262144) _ (omega arith))
+      go (suc (suc (suc (suc (suc n))))) e h k t =
+          let w : ℕ = suc (suc (suc (suc (suc n)))) in
+          rw (e, le-ltb w 2 (omega arith), ne_eqb w 2 (λ q. omega arith), ne_eqb w 3 (λ q. omega arith)) (high_none first (0xF0 + c.value / 262144) _ (omega arith))
 
   pub escape_byte : c.width ≡ 1 → (v : Option Bool) → v ≡ verdict first c.value → Judges first (encoded c) v
   unfolding Judges encoded four

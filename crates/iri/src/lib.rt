@@ -5,7 +5,7 @@ ghost use Rattle.std.specs.Prelude.{◌≡◌, ◌++◌, true, false, not, ◌&&
 ghost use Rattle.text.specs.Text.{one_of, some_byte};
 ghost use Rattle.text.specs.Slice.{over, over_at};
 ghost use Rattle.escape.specs.Escape.{unescape};
-ghost use Rattle.escape.specs.Code.{encoded};
+ghost use Rattle.escape.specs.Code.{encoded, shown, size};
 ghost use Rattle.iri.specs.Iri.{letter, scheme_byte, has_scheme, forbidden};
 ghost use Rattle.iri.specs.Code.{verdict, before, stop, slash_end, window, rule, rule_by, segment, Judges, Moved, Turned, Removed};
 ghost use Rattle.iri.specs.Code.{authority_length, ends_of, plan_by, plan_of, Holds, ResolvedAt, Resolved};
@@ -381,13 +381,24 @@ fn judge_run(first: bool, s: &[u8]) -> Option<bool>
 
 // The same of an escape: a scheme has none of the bytes of a longer character.
 fn judge_escape(first: bool, c: Character) -> Option<bool>
-    requires { (0 < c.width) × (c.width ≤ 4) }
+    requires { 0 < c.width }
     ensures { Judges first (encoded c) result }
 {
     if 1 < c.width || 255 < c.value {
         return Some(false);
     }
     judge(first, c.value as u8)
+}
+
+// The same of a part of an escaped text.
+fn judge_part(first: bool, part: Stretch) -> Option<bool>
+    requires { 0 < size part }
+    ensures { Judges first (shown part.entry) result }
+{
+    match part {
+        Stretch::Run(run) => judge_run(first, run),
+        Stretch::One(c) => judge_escape(first, c),
+    }
 }
 
 // Whether a reference has a scheme when its escapes are undone.
@@ -399,11 +410,7 @@ pub fn has_scheme_unescaped(s: &[u8]) -> bool
         escapes: Escapes::Quoted,
         rest: s,
     }) {
-        let verdict = match part {
-            Stretch::Run(run) => judge_run(first, run),
-            Stretch::One(c) => judge_escape(first, c),
-        };
-        if let Some(known) = verdict {
+        if let Some(known) = judge_part(first, part) {
             return known;
         }
         first = false;

@@ -1,5 +1,4 @@
 -- Each step is the rule's that the rest of the path asks for.
-use mathlib.Core.Path.{◌∙◌}
 use native.Mathlib.Omega.{arith}
 use Rattle.iri.specs.declared.Rule.TheVariants.{UpSlash, HereSlash, SlashHere, SlashUp}
 use Rattle.iri.proofs.Buffer.{long, turned_up, turned_here, turned_stay, turned_stay_end, turned_dots, turned_back, turned_back_end, turned_segment, segment_fits}
