@@ -15,8 +15,9 @@ ghost use Rattle.dataset.specs.Constructors.{inner};
 ghost use Rattle.token_iri.specs.Tests.{Sound};
 ghost use Rattle.token_iri.specs.Addresses.{refused_address, Addresses, WritesReference, LocalFrom, GoodReference, DeclaresNamespace, DeclaresBase};
 
-use environment::{Declared, Found, Layout};
-use iri::Resolution;
+use environment::{BaseTooLong, DeclareError, Layout};
+use escape::Escapes;
+use iri::ResolveError;
 use limits::{Answer, Limits};
 use spelling::Form;
 use token::Kind;
@@ -75,20 +76,20 @@ fn write_reference(
     work: &[u8],
     st: &[usize; Layout::WORDS],
     buffer: &mut [u8],
-) -> Resolution
+) -> Result<usize, ResolveError>
     requires { length buffer.old ≡ iri_limit }
     ensures { WritesReference text.now work.now st.now buffer.new result }
 {
     let base = environment::base(work, st);
     if lacks_base(base, text) {
-        return Resolution::NoBase;
+        return Err(ResolveError::NoBase);
     }
-    let n = escape::unescaped_length(text);
+    let n = escape::undone_length(Escapes::Quoted, text);
     if Limits::IRI < n {
-        return Resolution::Long;
+        return Err(ResolveError::Long);
     }
     let start = Limits::IRI - n;
-    escape::write_unescaped(text, &mut buffer[start..]);
+    escape::write_undone(Escapes::Quoted, text, &mut buffer[start..]);
     iri::resolve(base, buffer, n)
 }
 
@@ -135,9 +136,9 @@ fn reference_address(
     }
     let a = write_reference(text, work, st, buffer);
     match a {
-        Resolution::NoBase => refuse(Answer::NO_BASE),
-        Resolution::Long => refuse(Answer::IRI_LENGTH),
-        Resolution::Written(k) => Address {
+        Err(ResolveError::NoBase) => refuse(Answer::NO_BASE),
+        Err(ResolveError::Long) => refuse(Answer::IRI_LENGTH),
+        Ok(k) => Address {
             refused: 0,
             start: 0,
             end: 0,
@@ -184,7 +185,7 @@ fn name_address(token: &[u8], kind: usize, work: &[u8], st: &[usize; Layout::WOR
     }
     let at = colon(token);
     let found = environment::look_up(work, st, &token[..at]);
-    let Found::At(start, n) = found else {
+    let Some((start, n)) = found else {
         return refuse(Answer::PREFIX);
     };
     let from = local_start(token, at);
@@ -234,14 +235,14 @@ fn declare_written(
     let text = inside(token);
     let a = write_reference(text, &work[0..], st, buffer);
     match a {
-        Resolution::NoBase => Answer::NO_BASE,
-        Resolution::Long => Answer::IRI_LENGTH,
-        Resolution::Written(k) => {
+        Err(ResolveError::NoBase) => Answer::NO_BASE,
+        Err(ResolveError::Long) => Answer::IRI_LENGTH,
+        Ok(k) => {
             let d = environment::declare(work, st, prefix, &buffer[..k]);
             match d {
-                Declared::Done => 0,
-                Declared::TooLong => Answer::IRI_LENGTH,
-                Declared::TooMany => Answer::PREFIXES,
+                Ok(()) => 0,
+                Err(DeclareError::TooLong) => Answer::IRI_LENGTH,
+                Err(DeclareError::TooMany) => Answer::PREFIXES,
             }
         }
     }
@@ -277,13 +278,14 @@ fn set_written(
     let text = inside(token);
     let a = write_reference(text, &work[0..], st, buffer);
     match a {
-        Resolution::NoBase => Answer::NO_BASE,
-        Resolution::Long => Answer::IRI_LENGTH,
-        Resolution::Written(k) => {
-            if environment::set_base(work, st, &buffer[..k]) {
-                return 0;
+        Err(ResolveError::NoBase) => Answer::NO_BASE,
+        Err(ResolveError::Long) => Answer::IRI_LENGTH,
+        Ok(k) => {
+            let d = environment::set_base(work, st, &buffer[..k]);
+            match d {
+                Ok(()) => 0,
+                Err(BaseTooLong) => Answer::IRI_LENGTH,
             }
-            Answer::IRI_LENGTH
         }
     }
 }
