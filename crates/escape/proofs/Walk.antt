@@ -7,12 +7,12 @@ use native.Mathlib.Omega.{arith}
 use lib.ListN.{length, get_or, take, drop, length-append, length-drop, length-take}
 use lib.Seq.{length-take-le, take_all, drop-cons, drop-drop}
 use lib.Dec.{eqb, ltb, leb}
-use borrow.Author.Tests.{ne_eqb, eq-eqb, eqb-true, ltb-true, le-ltb, lt-leb}
+use borrow.Author.Tests.{ne_eqb, eq-eqb, ltb-true, le-ltb, lt-leb}
 use denote.Bor.{Bor}
-use Rattle.text.specs.Text.{Text, is, same_text, begins, some_byte, until}
+use Rattle.text.specs.Text.{Text, is, same_text, begins, some_byte}
 use Rattle.text.specs.Slice.{over, over_at}
 use Rattle.text.specs.Runs.{byte, next_at}
-use Rattle.text.proofs.Runs.{next_split, next_free}
+use Rattle.text.proofs.Runs.{next_split, next_free, next_more}
 use Rattle.text.proofs.Compare.{by, begins_length, begins_more, same_append, same_end}
 use Rattle.text.proofs.Over.{over_append, over_length}
 use Rattle.utf8.specs.Utf8.{encode, width}
@@ -227,11 +227,9 @@ module _ (s : Text) (c : ℕ) (some : 1 < length s) (mark : get_or s 0 0 ≡ 92)
   pub long_yields : c ≡ 85 → pieces_from behind (c ∷ drop 2 s) ≡ pieces_from (digits 7 0) (drop 2 s)
   long_yields e = at_long c (drop 2 s) (ne_eqb c 117 (λ q. omega arith)) (eq-eqb c 85 e)
 
--- No run stands before a backslash.
-pub mark_here : (s : Text) → 0 < length s → 0 ≡ next_at (byte 92) s 0 → get_or s 0 0 ≡ 92
-unfolding next_at until
-mark_here [] h e = absurd (omega arith)
-mark_here (c ∷ s) h e = by (eqb c 92) (λ q. eqb-true c 92 q) (λ q. absurd (omega (arith, rw q at e)))
+-- A run that has begun.
+pub run_begun : (s : Text) (n : ℕ) → 0 < length s → (get_or s 0 0 ≡ 92 → ⊥) → n ≡ next_at (byte 92) s 1 → n ≡ next_at (byte 92) s 0
+run_begun s n h e q = q ∙ sym (next_more (byte 92) s 0 h (ne_eqb (get_or s 0 0) 92 e))
 
 -- Nothing is left.
 pub nothing_ends : (k : Escapes) (s : Text) → length s ≡ 0 → Ends k s
