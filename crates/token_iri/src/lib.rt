@@ -64,10 +64,10 @@ fn inside<'a>(token: &'a [u8]) -> &'a [u8]
 fn lacks_base(base: &[u8], text: &[u8]) -> bool
     ensures { result ≡ (not (has_scheme (unescape text.now)) && empty base.now) }
 {
-    if iri::has_scheme_unescaped(text) {
-        return false;
+    if base.is_empty() {
+        return !iri::has_scheme_unescaped(text);
     }
-    base.len() == 0
+    false
 }
 
 // Writes the IRI of a reference into the front of the buffer.
