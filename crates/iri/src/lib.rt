@@ -142,12 +142,10 @@ fn next_rule(b: &[u8], at: usize, end: usize) -> Rule
 fn slash_end(s: &[u8]) -> usize
     ensures { result ≡ slash_end s.now (length s.now) }
 {
-    let mut n = s.len();
-    while 0 < n {
-        if s[n - 1] == b'/' {
-            return n;
+    for n in (0..s.len()).rev() {
+        if s[n] == b'/' {
+            return n + 1;
         }
-        n -= 1;
     }
     0
 }
@@ -253,56 +251,38 @@ fn remove_dots(path: &mut [u8], n: usize) -> usize
 fn is_letter(c: u8) -> bool
     ensures { result ≡ letter c }
 {
-    if c < 65 {
-        return false;
+    match c {
+        b'A'..=b'Z' | b'a'..=b'z' => true,
+        _ => false,
     }
-    if c <= 90 {
-        return true;
-    }
-    if c < 97 {
-        return false;
-    }
-    c <= 122
 }
 
 // Whether a scheme can hold the byte.
 fn is_scheme_byte(c: u8) -> bool
     ensures { result ≡ scheme_byte c }
 {
-    if is_letter(c) {
-        return true;
+    match c {
+        b'A'..=b'Z' | b'a'..=b'z' | b'0'..=b'9' | b'+' | b'-' | b'.' => true,
+        _ => false,
     }
-    if c == 43 {
-        return true;
-    }
-    if c == 45 {
-        return true;
-    }
-    if c == 46 {
-        return true;
-    }
-    if c < 48 {
-        return false;
-    }
-    c <= 57
 }
 
 fn ends_path(c: u8) -> bool
     ensures { result ≡ one_of "?#" c }
 {
-    if c == 63 {
-        return true;
+    match c {
+        b'?' | b'#' => true,
+        _ => false,
     }
-    c == 35
 }
 
 fn ends_authority(c: u8) -> bool
     ensures { result ≡ one_of "/?#" c }
 {
-    if c == 47 {
-        return true;
+    match c {
+        b'/' | b'?' | b'#' => true,
+        _ => false,
     }
-    ends_path(c)
 }
 
 // Whether the byte ends the part.
@@ -323,14 +303,12 @@ fn find(s: &[u8], start: usize, part: Part) -> usize
     requires { start ≤ length s.now }
     ensures { result ≡ start + before (stop part) (drop start s.now) }
 {
-    let mut i = start;
-    while i < s.len() {
+    for i in start..s.len() {
         if stops(part, s[i]) {
             return i;
         }
-        i += 1;
     }
-    i
+    s.len()
 }
 
 // Whether the text has a scheme: "letter, then letters, digits, + - . up to a colon".
@@ -544,11 +522,8 @@ fn move_left(out: &mut [u8], start: usize, n: usize, to: usize)
     requires { (to ≤ start) × (start + n ≤ length out.old) }
     ensures { out.new ≡ over_at to (take n (drop start out.old)) out.old }
 {
-    let mut i: usize = 0;
-    while i < n {
-        let c = out[start + i];
-        out[to + i] = c;
-        i += 1;
+    for i in 0..n {
+        out[to + i] = out[start + i];
     }
 }
 
@@ -620,46 +595,20 @@ pub fn resolve(base: &[u8], buffer: &mut [u8], n: usize) -> Result<usize, Resolv
 fn is_forbidden(c: u8) -> bool
     ensures { result ≡ forbidden c }
 {
-    if c <= 0x20 {
-        return true;
+    match c {
+        ..=0x20 | b'<' | b'>' | b'"' | b'{' | b'}' | b'|' | b'^' | b'`' | b'\\' => true,
+        _ => false,
     }
-    if c == b'<' {
-        return true;
-    }
-    if c == b'>' {
-        return true;
-    }
-    if c == b'"' {
-        return true;
-    }
-    if c == b'{' {
-        return true;
-    }
-    if c == b'}' {
-        return true;
-    }
-    if c == b'|' {
-        return true;
-    }
-    if c == b'^' {
-        return true;
-    }
-    if c == b'`' {
-        return true;
-    }
-    c == 92
 }
 
 // Whether the text holds a byte that an IRIREF forbids unescaped.
 fn holds_forbidden(s: &[u8]) -> bool
     ensures { result ≡ some_byte forbidden s.now }
 {
-    let mut i: usize = 0;
-    while i < s.len() {
-        if is_forbidden(s[i]) {
+    for c in s {
+        if is_forbidden(*c) {
             return true;
         }
-        i += 1;
     }
     false
 }
