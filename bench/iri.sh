@@ -19,12 +19,12 @@ pub extern "C" fn bench_bad_escape(s: &[u8]) -> bool {
 
 #[unsafe(no_mangle)]
 pub extern "C" fn bench_same(s: &[u8], t: &[u8]) -> bool {
-    escape::same_unescaped(s, t)
+    escape::same_undone(escape::Escapes::Quoted, s, t)
 }
 
 #[unsafe(no_mangle)]
 pub extern "C" fn bench_write(s: &[u8], out: &mut [u8]) -> usize {
-    escape::write_unescaped(s, out)
+    escape::write_undone(escape::Escapes::Quoted, s, out)
 }
 
 #[unsafe(no_mangle)]
@@ -36,9 +36,9 @@ pub extern "C" fn bench_scheme(s: &[u8]) -> bool {
 pub extern "C" fn bench_resolve(base: &[u8], buffer: &mut [u8], n: usize) -> usize {
     let r = iri::resolve(base, buffer, n);
     match r {
-        iri::Resolution::Written(k) => k,
-        iri::Resolution::Long => 100001,
-        iri::Resolution::NoBase => 100002,
+        Ok(k) => k,
+        Err(iri::ResolveError::Long) => 100001,
+        Err(iri::ResolveError::NoBase) => 100002,
     }
 }
 RATTLE

@@ -1,5 +1,5 @@
 -- Laws of the cells of the work slice: what is written into one is read from it, and the others keep theirs.
-use Prim.Native.Nat.{ℕ, zero, suc, ◌+◌, ◌*◌, ◌-◌, ◌≤◌, ◌<◌}
+use Prim.Native.Nat.{ℕ, zero, suc, ◌+◌, ◌*◌, ◌-◌, ◌≤◌, ◌<◌, min}
 use mathlib.Core.Path.{◌≡◌, refl, ap, sym, ◌∙◌}
 use mathlib.Core.List.{List, [], ◌∷◌}
 use mathlib.Core.Bool.{Bool}
@@ -9,35 +9,35 @@ use native.Mathlib.Nat.{zero-add, suc-add}
 use native.Mathlib.Omega.{arith}
 use lib.ListN.{length, get_or, take, drop, set, length-drop, length-set}
 use lib.Seq.{take-nil, take-take, get_or-set_same, get_or-set_other}
-use lib.Dec.{leb, ltb}
-use borrow.Author.Tests.{leb-true, le-leb, ltb-true, ltb-false}
+use lib.Dec.{ltb}
+use borrow.Author.Tests.{ltb-true, ltb-false}
 use Rattle.text.specs.Text.{Text, same_text}
 use Rattle.text.specs.Slice.{over_at}
 use Rattle.text.proofs.Compare.{by}
 use Rattle.text.proofs.Over.{over_front, over_at_length, over_at_before, over_at_back, over_at_from}
 use Rattle.environment.specs.Environment.{bind}
-use Rattle.environment.specs.Code.{at_most, cell, binding, count, listed, place, base_cell, environment_in, FoundIn, Usable, WroteBinding, Beside, cell_size, base_place, count_word, base_word}
-use Rattle.environment.specs.declared.Found.TheVariants.{At, Missing}
+use Rattle.environment.specs.Code.{cell, binding, count, listed, place, base_cell, environment_in, FoundIn, Usable, WroteBinding, Beside, cell_size, base_place, count_word, base_word}
+use Rattle.std.specs.Prelude.{Some, None}
 use Rattle.environment.proofs.Bindings.{lookup_at, lookup_none}
 use Rattle.limits.specs.Limits.{iri_limit, prefix_limit, prefixes_limit, work_size}
 
 -- The code reads a cell from its start to its end.
-pub cell_read : (work : Text) (start size n r : ℕ) → r ≡ at_most n size → take (start + r - start) (drop start work) ≡ cell work start size n
+pub cell_read : (work : Text) (start size n r : ℕ) → r ≡ min n size → take (start + r - start) (drop start work) ≡ cell work start size n
 unfolding cell
 cell_read work start size n r e = let z : start + r - start ≡ r = omega arith in rw (z, e)
 
-pub prefix_read : (work : Text) (lens : List ℕ) (i : ℕ) (p : Text) (m : ℕ) (r : Bool) → m ≡ at_most (get_or lens i 0) prefix_limit → r ≡ same_text p (take (i * cell_size + m - i * cell_size) (drop (i * cell_size) work))
+pub prefix_read : (work : Text) (lens : List ℕ) (i : ℕ) (p : Text) (m : ℕ) (r : Bool) → m ≡ min (get_or lens i 0) prefix_limit → r ≡ same_text p (take (i * cell_size + m - i * cell_size) (drop (i * cell_size) work))
     → r ≡ same_text p (binding work lens i).prefix
 unfolding binding
 prefix_read work lens i p m r e f = f ∙ rw (cell_read work (i * cell_size) prefix_limit (get_or lens i 0) m e)
 
-names : (work : Text) (lens : List ℕ) (i : ℕ) → (binding work lens i).namespace ≡ take (at_most (get_or lens (prefixes_limit + i) 0) iri_limit) (drop (i * cell_size + prefix_limit) work)
+names : (work : Text) (lens : List ℕ) (i : ℕ) → (binding work lens i).namespace ≡ take (min (get_or lens (prefixes_limit + i) 0) iri_limit) (drop (i * cell_size + prefix_limit) work)
 unfolding binding cell
 names work lens i = refl
 
 -- The namespace of the binding that was found.
-pub found_at : (p work : Text) (lens : List ℕ) (n i m : ℕ) → n ≡ count lens → i ≡ place p (listed (binding work lens) 0 n) → i < n → n ≤ prefixes_limit → m ≡ at_most (get_or lens (prefixes_limit + i) 0) iri_limit → m ≤ iri_limit → work_size ≤ length work
-    → FoundIn p (environment_in work lens) work (At (i * cell_size + prefix_limit) m)
+pub found_at : (p work : Text) (lens : List ℕ) (n i m : ℕ) → n ≡ count lens → i ≡ place p (listed (binding work lens) 0 n) → i < n → n ≤ prefixes_limit → m ≡ min (get_or lens (prefixes_limit + i) 0) iri_limit → m ≤ iri_limit → work_size ≤ length work
+    → FoundIn p (environment_in work lens) work (Some (i * cell_size + prefix_limit, m))
 unfolding FoundIn environment_in
 found_at p work lens n i m en ei h h32 em hm room =
     let z : 0 + i ≡ i = omega arith in (
@@ -45,10 +45,10 @@ found_at p work lens n i m en ei h h32 em hm room =
       (omega arith, hm),
     )
   where
-    read : (work : Text) (lens : List ℕ) (i m : ℕ) → m ≡ at_most (get_or lens (prefixes_limit + i) 0) iri_limit → (binding work lens i).namespace ≡ take m (drop (i * cell_size + prefix_limit) work)
+    read : (work : Text) (lens : List ℕ) (i m : ℕ) → m ≡ min (get_or lens (prefixes_limit + i) 0) iri_limit → (binding work lens i).namespace ≡ take m (drop (i * cell_size + prefix_limit) work)
     read work lens i m e = names work lens i ∙ rw e
 
-pub missing : (p work : Text) (lens : List ℕ) (n i : ℕ) → n ≡ count lens → i ≡ place p (listed (binding work lens) 0 n) → n ≤ i → FoundIn p (environment_in work lens) work Missing
+pub missing : (p work : Text) (lens : List ℕ) (n i : ℕ) → n ≡ count lens → i ≡ place p (listed (binding work lens) 0 n) → n ≤ i → FoundIn p (environment_in work lens) work None
 unfolding FoundIn environment_in
 missing p work lens n i en ei h = rw (← en) (lookup_none p (binding work lens) 0 n (omega arith))
 
@@ -57,19 +57,16 @@ take_drop m zero l = rw (zero-add m)
 take_drop m (suc s) [] = rw (suc-add s m) (take-nil m)
 take_drop m (suc s) (b ∷ l) = rw (suc-add s m) (take_drop m s l)
 
-pub most_at : (n most : ℕ) → at_most n most ≤ most
-most_at n most = by (leb n most) (λ e. rw e (leb-true n most e)) (λ e. rw e (omega arith))
-
-pub most_small : (n most : ℕ) → n ≤ most → at_most n most ≡ n
-most_small n most h = rw (le-leb n most h)
+pub most_small : (n most : ℕ) → n ≤ most → min n most ≡ n
+most_small n most h = omega arith
 
 -- A text that is written elsewhere leaves a cell as it was.
 module _ (x s : Text) (at start size n : ℕ) where
   pub kept_before : start + size ≤ at → cell (over_at at s x) start size n ≡ cell x start size n
   unfolding cell
   kept_before h =
-      let m : ℕ = at_most n size in
-      take_drop m start (over_at at s x) ∙ (rw (over_at_before at s x (start + m) (omega (arith, most_at n size))) (sym (take_drop m start x)))
+      let m : ℕ = min n size in
+      take_drop m start (over_at at s x) ∙ (rw (over_at_before at s x (start + m) (omega arith)) (sym (take_drop m start x)))
 
   kept_behind : at + length s ≤ start → cell (over_at at s x) start size n ≡ cell x start size n
   unfolding cell
@@ -79,8 +76,8 @@ module _ (x s : Text) (at start size n : ℕ) where
 pub front_cell : (x y : Text) (start size n : ℕ) → take work_size y ≡ take work_size x → start + size ≤ work_size → cell y start size n ≡ cell x start size n
 unfolding cell
 front_cell x y start size n e h =
-    let m : ℕ = at_most n size in
-    let l : start + m ≤ work_size = omega (arith, most_at n size) in
+    let m : ℕ = min n size in
+    let l : start + m ≤ work_size = omega arith in
     take_drop m start y ∙ ap (drop start) (sym (take-take (start + m) work_size y l) ∙ ap (take (start + m)) e ∙ take-take (start + m) work_size x l) ∙ sym (take_drop m start x)
 
 -- A text that is written into a cell is read from it.

@@ -1,5 +1,5 @@
 -- What the directives leave in the work slice and in the array.
-use Prim.Native.Nat.{ℕ, suc, ◌+◌, ◌*◌, ◌-◌, ◌≤◌, ◌<◌}
+use Prim.Native.Nat.{ℕ, suc, ◌+◌, ◌*◌, ◌-◌, ◌≤◌, ◌<◌, min}
 use mathlib.Core.Path.{◌≡◌, refl, ap, sym, ◌∙◌}
 use mathlib.Core.List.{List, [], ◌++◌}
 use mathlib.Core.Bool.{Bool, true, false, not, ◌&&◌}
@@ -12,10 +12,12 @@ use Rattle.text.specs.Text.{Text, cond}
 use Rattle.text.specs.Slice.{over, over_at}
 use Rattle.text.proofs.Over.{over_at_length, over_at_back, over_part}
 use Rattle.environment.specs.Environment.{Binding, bind, bound}
-use Rattle.environment.specs.Code.{words_size, is_declared, declare_answer, after_declare, at_most, binding, count, listed, place, base_cell, environment_in, Usable, WroteBinding, Beside, Declares, SetsBase, cell_size, base_place, count_word, base_word, own_word}
-use Rattle.environment.specs.declared.Declared.TheVariants.{Done, TooLong, TooMany}
+use Rattle.environment.specs.Code.{words_size, is_declared, declare_answer, after_declare, binding, count, listed, place, base_cell, environment_in, Usable, WroteBinding, Beside, Declares, SetsBase, cell_size, base_place, count_word, base_word, own_word}
+use Rattle.std.specs.Prelude.{Ok, Err}
+use Rattle.environment.specs.declared.DeclareError.TheVariants.{TooLong, TooMany}
+use Rattle.environment.specs.declared.BaseTooLong.{BaseTooLong}
 use Rattle.environment.proofs.Bindings.{not_declared, declared_at, listed_length, listed_same, declare_again, declare_new}
-use Rattle.environment.proofs.Cells.{cell_read, most_at, most_small, cell_new, kept_before, front_cell, binding_new, binding_other, base_stays, count_stays, written_usable, written_beside}
+use Rattle.environment.proofs.Cells.{cell_read, most_small, cell_new, kept_before, front_cell, binding_new, binding_other, base_stays, count_stays, written_usable, written_beside}
 use Rattle.limits.specs.Limits.{iri_limit, prefix_limit, prefixes_limit, work_size}
 
 -- The whole slice, lent as a part of itself.
@@ -41,12 +43,12 @@ beside_same : (work : Text) (lens : List ℕ) → Beside work work lens lens
 beside_same work lens = record { own = λ k h. refl; behind = refl; long = refl }
 
 module _ (work : Text) (lens : List ℕ) (p ns : Text) (u : Usable work lens) where
-  pub prefix_too_long : prefix_limit < length p → Declares work work lens lens p ns TooLong
+  pub prefix_too_long : prefix_limit < length p → Declares work work lens lens p ns (Err TooLong)
   unfolding declare_answer after_declare
   prefix_too_long h = record { answer = rw (lt-ltb prefix_limit (length p) h); after = refl; usable = u; beside = beside_same work lens }
 
   module _ (hp : length p ≤ prefix_limit) where
-    pub namespace_too_long : iri_limit < length ns → Declares work work lens lens p ns TooLong
+    pub namespace_too_long : iri_limit < length ns → Declares work work lens lens p ns (Err TooLong)
     unfolding declare_answer after_declare
     namespace_too_long h = record { answer = rw (le-ltb prefix_limit (length p) hp, lt-ltb iri_limit (length ns) h); after = refl; usable = u; beside = beside_same work lens }
 
@@ -58,11 +60,11 @@ module _ (work : Text) (lens : List ℕ) (p ns : Text) (u : Usable work lens) wh
       unfolding environment_in
       namespaces_are = rw en
 
-      answer_by : (known : Bool) → is_declared p (listed f 0 n) ≡ known → declare_answer (environment_in work lens) p ns ≡ cond (not known && leb prefixes_limit n) TooMany Done
+      answer_by : (known : Bool) → is_declared p (listed f 0 n) ≡ known → declare_answer (environment_in work lens) p ns ≡ cond (not known && leb prefixes_limit n) (Err TooMany) (Ok tt)
       unfolding declare_answer
       answer_by known e = rw (le-ltb prefix_limit (length p) hp, le-ltb iri_limit (length ns) hn, namespaces_are, e, listed_length p f 0 n)
 
-      pub too_many : prefixes_limit ≤ i → n ≤ prefixes_limit → Declares work work lens lens p ns TooMany
+      pub too_many : prefixes_limit ≤ i → n ≤ prefixes_limit → Declares work work lens lens p ns (Err TooMany)
       unfolding after_declare
       too_many h h32 = record {
         answer = sym (answer_by false (not_declared p f 0 n (omega arith)) ∙ rw (le-leb prefixes_limit n (omega arith)));
@@ -73,7 +75,7 @@ module _ (work : Text) (lens : List ℕ) (p ns : Text) (u : Usable work lens) wh
 
       -- The binding is written at the prefix's place.
       module _ (work' : Text) (lens' : List ℕ) (w : WroteBinding work work' lens lens' i p ns) (small : i < prefixes_limit) where
-        pub declared_again : i < n → n ≤ prefixes_limit → Declares work work' lens lens' p ns Done
+        pub declared_again : i < n → n ≤ prefixes_limit → Declares work work' lens lens' p ns (Ok tt)
         unfolding after_declare environment_in
         declared_again h h32 =
             let z : 0 + i ≡ i = omega arith in
@@ -88,7 +90,7 @@ module _ (work : Text) (lens : List ℕ) (p ns : Text) (u : Usable work lens) wh
               beside = written_beside work work' lens lens' i p ns w u small hp hn;
             }
 
-        pub declared_first : (lens'' : List ℕ) → n ≤ i → lens'' ≡ set lens' count_word (n + 1) → Declares work work' lens lens'' p ns Done
+        pub declared_first : (lens'' : List ℕ) → n ≤ i → lens'' ≡ set lens' count_word (n + 1) → Declares work work' lens lens'' p ns (Ok tt)
         unfolding after_declare environment_in
         declared_first lens'' h e'' =
             let words : length lens' ≡ words_size = (written_usable work work' lens lens' i p ns w u small hp hn).words in
@@ -128,17 +130,17 @@ unfolding base_cell
 new_base work work' lens' iri ew el h room = rw ew (cell_new work iri base_place iri_limit (get_or lens' base_word 0) el h (omega arith))
 
 module _ (work : Text) (lens : List ℕ) (iri : Text) (u : Usable work lens) where
-  pub base_too_long : iri_limit < length iri → SetsBase work work lens lens iri false
-  base_too_long h = record { answer = sym (lt-leb (length iri) iri_limit h); after = refl; usable = u; beside = beside_same work lens }
+  pub base_too_long : iri_limit < length iri → (r : BaseTooLong) → SetsBase work work lens lens iri (Err r)
+  base_too_long h r = record { answer = sym (lt-leb (length iri) iri_limit h); after = refl; usable = u; beside = beside_same work lens }
 
-  pub base_set : (work' : Text) (lens' : List ℕ) → length iri ≤ iri_limit → work' ≡ over_at base_place iri work → lens' ≡ set lens base_word (length iri) → SetsBase work work' lens lens' iri true
+  pub base_set : (work' : Text) (lens' : List ℕ) → length iri ≤ iri_limit → work' ≡ over_at base_place iri work → lens' ≡ set lens base_word (length iri) → SetsBase work work' lens lens' iri (Ok tt)
   unfolding environment_in
   base_set work' lens' h ew el =
       let long : get_or lens' base_word 0 ≡ length iri = ap (λ (l : List ℕ). get_or l base_word 0) el ∙ get_or-set_same lens base_word (length iri) 0 (omega (arith, u.words)) in
       let same : (k : ℕ) → (k ≡ base_word → ⊥) → get_or lens' k 0 ≡ get_or lens k 0 = λ k q. ap (λ (l : List ℕ). get_or l k 0) el ∙ get_or-set_other lens base_word k (length iri) 0 q in
       let c : count lens' ≡ count lens = rw (same count_word (λ e. omega arith)) in
       let bs : listed (binding work' lens') 0 (count lens) ≡ listed (binding work lens) 0 (count lens) =
-      listed_same iri (binding work lens) iri (binding work' lens') 0 (count lens) (λ j l m. unmoved work work' lens lens' iri ew same j (omega (arith, most_at (get_or lens count_word 0) prefixes_limit))) in
+      listed_same iri (binding work lens) iri (binding work' lens') 0 (count lens) (λ j l m. unmoved work work' lens lens' iri ew same j (omega arith)) in
       record {
         answer = sym (le-leb (length iri) iri_limit h);
         after = rw (c, bs, new_base work work' lens' iri ew long h u.room);
@@ -155,7 +157,7 @@ module _ (work : Text) (lens : List ℕ) (iri : Text) (u : Usable work lens) whe
       }
 
 -- The base is read from its cell.
-pub base_read : (work : Text) (lens : List ℕ) (r : ℕ) → r ≡ at_most (get_or lens base_word 0) iri_limit → take (base_place + r - base_place) (drop base_place work) ≡ (environment_in work lens).base
+pub base_read : (work : Text) (lens : List ℕ) (r : ℕ) → r ≡ min (get_or lens base_word 0) iri_limit → take (base_place + r - base_place) (drop base_place work) ≡ (environment_in work lens).base
 unfolding environment_in base_cell
 base_read work lens r e = cell_read work base_place iri_limit (get_or lens base_word 0) r e
 
@@ -173,7 +175,7 @@ unfolding environment_in base_cell
 in_force_words work lens lens' same =
     let c : count lens' ≡ count lens = rw (same count_word (omega arith)) in
     let bs : listed (binding work lens') 0 (count lens) ≡ listed (binding work lens) 0 (count lens) =
-    listed_same [] (binding work lens) [] (binding work lens') 0 (count lens) (λ j l m. by_words work lens lens' same j (omega (arith, most_at (get_or lens count_word 0) prefixes_limit))) in
+    listed_same [] (binding work lens) [] (binding work lens') 0 (count lens) (λ j l m. by_words work lens lens' same j (omega arith)) in
     rw (c, bs, same base_word (omega arith))
   where
     by_words : (work : Text) (lens lens' : List ℕ) → ((k : ℕ) → k < own_word → get_or lens' k 0 ≡ get_or lens k 0) → (j : ℕ) → j < prefixes_limit → binding work lens' j ≡ binding work lens j
@@ -183,5 +185,5 @@ pub in_force_front : (work work' : Text) (lens : List ℕ) → take work_size wo
 unfolding environment_in base_cell
 in_force_front work work' lens e =
     let bs : listed (binding work' lens) 0 (count lens) ≡ listed (binding work lens) 0 (count lens) =
-    listed_same [] (binding work lens) [] (binding work' lens) 0 (count lens) (λ j l m. front_binding work work' lens j e (omega (arith, most_at (get_or lens count_word 0) prefixes_limit))) in
+    listed_same [] (binding work lens) [] (binding work' lens) 0 (count lens) (λ j l m. front_binding work work' lens j e (omega arith)) in
     rw (bs, front_cell work work' base_place iri_limit (get_or lens base_word 0) e (omega arith))

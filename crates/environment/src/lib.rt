@@ -1,9 +1,9 @@
 // The prefixes and the base in force. Their texts stand in the lent work slice, their lengths in a small array.
 #![tactic(auto)]
 
-ghost use Rattle.std.specs.Prelude.{◌≡◌, ◌+◌, ◌≤◌, ◌<◌, length, replicate};
+ghost use Rattle.std.specs.Prelude.{IfSome, ◌≡◌, ◌+◌, ◌≤◌, ◌<◌, length, replicate};
 ghost use Rattle.limits.specs.Limits.{prefixes_limit, work_size};
-ghost use Rattle.environment.specs.Code.{words_size, at_most, binding, count, listed, place, environment_in, Usable, FoundIn, WroteBinding, Declares, SetsBase};
+ghost use Rattle.environment.specs.Code.{words_size, binding, count, listed, environment_in, Usable, PlacedAt, FoundIn, WroteBinding, Declares, SetsBase};
 
 use limits::Limits;
 
@@ -36,70 +36,50 @@ impl Layout {
     }
 }
 
-// Where a prefix's namespace stands: so many bytes from a place of the work slice on.
-#[derive(Clone, Copy)]
-pub enum Found {
-    At(usize, usize),
-    Missing,
-}
-
-// What a declaration comes to: it is in force; its prefix or namespace is too long; it would be one prefix too many.
-#[derive(Clone, Copy)]
-pub enum Declared {
-    Done,
+// Why a prefix is not declared: it or its namespace is too long; it would be one prefix too many.
+#[derive(Clone, Copy, Debug, PartialEq, Eq)]
+pub enum DeclareError {
     TooLong,
     TooMany,
 }
 
-fn at_most(n: usize, most: usize) -> usize
-    ensures { (result ≡ at_most n most) × (result ≤ most) }
-{
-    if n <= most {
-        return n;
-    }
-    most
-}
-
-// The place of a prefix among the first n bindings; n where it has none.
-fn find(work: &[u8], lens: &[usize; Layout::WORDS], prefix: &[u8], n: usize) -> usize
-    requires { (work_size ≤ length work.now) × (n ≤ prefixes_limit) }
-    ensures { (result ≡ place prefix.now (listed (binding work.now lens.now) 0 n)) × (result ≤ n) }
-{
-    let mut i: usize = 0;
-    while i < n {
-        let start = i * Layout::CELL;
-        let end = start + at_most(lens[i], Limits::PREFIX);
-        if text::same(prefix, &work[start..end]) {
-            return i;
-        }
-        i += 1;
-    }
-    i
-}
-
-// Where the namespace of a prefix stands.
-pub fn look_up(work: &[u8], lens: &[usize; Layout::WORDS], prefix: &[u8]) -> Found
-    ensures { (work_size ≤ length work.now) → FoundIn prefix.now (environment_in work.now lens.now) work.now result }
-{
-    if work.len() < Limits::WORK {
-        return Found::Missing;
-    }
-    let n = at_most(lens[Layout::COUNT], Limits::PREFIXES);
-    let i = find(work, lens, prefix, n);
-    if n <= i {
-        return Found::Missing;
-    }
-    Found::At(
-        i * Layout::CELL + Limits::PREFIX,
-        at_most(lens[Limits::PREFIXES + i], Limits::IRI),
-    )
-}
+// Why a base is not set.
+#[derive(Clone, Copy, Debug, PartialEq, Eq)]
+pub struct BaseTooLong;
 
 // How many prefixes are declared.
 pub fn prefix_count(lens: &[usize; Layout::WORDS]) -> usize
-    ensures { result ≡ count lens.now }
+    ensures { (result ≡ count lens.now) × (result ≤ prefixes_limit) }
 {
-    at_most(lens[Layout::COUNT], Limits::PREFIXES)
+    lens[Layout::COUNT].min(Limits::PREFIXES)
+}
+
+// The place of a declared prefix among the bindings.
+fn find(work: &[u8], lens: &[usize; Layout::WORDS], prefix: &[u8]) -> Option<usize>
+    requires { work_size ≤ length work.now }
+    ensures place { PlacedAt prefix.now (listed (binding work.now lens.now) 0 (count lens.now)) result }
+    ensures within { IfSome result (λ i. i < count lens.now) }
+{
+    for i in 0..prefix_count(lens) {
+        let start = i * Layout::CELL;
+        let end = start + lens[i].min(Limits::PREFIX);
+        if text::same(prefix, &work[start..end]) {
+            return Some(i);
+        }
+    }
+    None
+}
+
+// Where the namespace of a prefix stands: from which place of the work slice on, and how many bytes.
+pub fn look_up(work: &[u8], lens: &[usize; Layout::WORDS], prefix: &[u8]) -> Option<(usize, usize)>
+    ensures { (work_size ≤ length work.now) → FoundIn prefix.now (environment_in work.now lens.now) work.now result }
+{
+    if work.len() < Limits::WORK {
+        return None;
+    }
+    let i = find(work, lens, prefix)?;
+    let start = i * Layout::CELL + Limits::PREFIX;
+    Some((start, lens[Limits::PREFIXES + i].min(Limits::IRI)))
 }
 
 // Writes a prefix and its namespace into the i-th cell, and their lengths into the array.
@@ -127,44 +107,48 @@ pub fn declare(
     lens: &mut [usize; Layout::WORDS],
     prefix: &[u8],
     namespace: &[u8],
-) -> Declared
+) -> Result<(), DeclareError>
     ensures { Usable work.old lens.old → Declares work.old work.new lens.old lens.new prefix.now namespace.now result }
 {
     if work.len() < Limits::WORK {
-        return Declared::TooLong;
+        return Err(DeclareError::TooLong);
     }
     if Limits::PREFIX < prefix.len() {
-        return Declared::TooLong;
+        return Err(DeclareError::TooLong);
     }
     if Limits::IRI < namespace.len() {
-        return Declared::TooLong;
+        return Err(DeclareError::TooLong);
     }
-    let n = at_most(lens[Layout::COUNT], Limits::PREFIXES);
-    let i = find(work, lens, prefix, n);
-    if Limits::PREFIXES <= i {
-        return Declared::TooMany;
+    if let Some(i) = find(work, lens, prefix) {
+        write_binding(work, lens, i, prefix, namespace);
+        return Ok(());
     }
-    write_binding(work, lens, i, prefix, namespace);
-    if n <= i {
-        lens[Layout::COUNT] = n + 1;
-        return Declared::Done;
+    let n = prefix_count(lens);
+    if Limits::PREFIXES <= n {
+        return Err(DeclareError::TooMany);
     }
-    Declared::Done
+    write_binding(work, lens, n, prefix, namespace);
+    lens[Layout::COUNT] = n + 1;
+    Ok(())
 }
 
-// Sets the base; false where it is too long.
-pub fn set_base(work: &mut [u8], lens: &mut [usize; Layout::WORDS], iri: &[u8]) -> bool
+// Sets the base.
+pub fn set_base(
+    work: &mut [u8],
+    lens: &mut [usize; Layout::WORDS],
+    iri: &[u8],
+) -> Result<(), BaseTooLong>
     ensures { Usable work.old lens.old → SetsBase work.old work.new lens.old lens.new iri.now result }
 {
     if work.len() < Limits::WORK {
-        return false;
+        return Err(BaseTooLong);
     }
     if Limits::IRI < iri.len() {
-        return false;
+        return Err(BaseTooLong);
     }
     text::copy(iri, &mut work[Layout::BASE..]);
     lens[Layout::BASE_LENGTH] = iri.len();
-    true
+    Ok(())
 }
 
 // The base in force; empty where there is none.
@@ -174,6 +158,6 @@ pub fn base<'a>(work: &'a [u8], lens: &[usize; Layout::WORDS]) -> &'a [u8]
     if work.len() < Limits::WORK {
         return &work[0..0];
     }
-    let end = Layout::BASE + at_most(lens[Layout::BASE_LENGTH], Limits::IRI);
+    let end = Layout::BASE + lens[Layout::BASE_LENGTH].min(Limits::IRI);
     &work[Layout::BASE..end]
 }

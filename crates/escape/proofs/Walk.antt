@@ -1,35 +1,33 @@
--- Laws of the loops that walk a text byte by byte.
+-- Laws of the parts of an escaped text.
 use Prim.Native.Nat.{ℕ, zero, suc, ◌+◌, ◌*◌, ◌-◌, ◌%◌, ◌≤◌, ◌<◌}
 use mathlib.Core.Path.{◌≡◌, refl, ap, sym, ◌∙◌}
 use mathlib.Core.List.{[], ◌∷◌, ◌++◌, append-nil, append_assoc}
-use mathlib.Core.Bool.{Bool, true, false, ◌&&◌, ◌||◌}
-use native.Mathlib.Numerals.{add-one}
+use mathlib.Core.Bool.{Bool, true, false, ◌&&◌}
 use native.Mathlib.Omega.{arith}
-use lib.ListN.{length, get_or, take, drop, length-append, length-drop, drop_of_length-le}
-use lib.Seq.{take_all, drop-cons, drop-drop, length-take-le}
-use lib.Dec.{eqb, ltb}
-use borrow.Author.Tests.{eqb-false, ne_eqb}
+use lib.ListN.{length, get_or, take, drop, length-append, length-drop, length-take}
+use lib.Seq.{length-take-le, take_all, drop-cons, drop-drop}
+use lib.Dec.{eqb, ltb, leb}
+use borrow.Author.Tests.{ne_eqb, eq-eqb, ltb-true, le-ltb, lt-leb}
+use denote.Bor.{Bor}
 use Rattle.text.specs.Text.{Text, is, same_text, begins, some_byte}
 use Rattle.text.specs.Slice.{over, over_at}
 use Rattle.text.specs.Runs.{byte, next_at}
-use Rattle.text.proofs.Runs.{next_split, next_free}
-use Rattle.text.proofs.Compare.{by, contrary, begins_length, begins_more, same_append, same_end}
+use Rattle.text.proofs.Runs.{next_split, next_free, next_more}
+use Rattle.text.proofs.Compare.{by, begins_length, begins_more, same_append, same_end}
 use Rattle.text.proofs.Over.{over_append, over_length}
-use Rattle.utf8.specs.Utf8.{encode}
-use Rattle.escape.specs.Escape.{outside, behind, digits, letter, hex_value, letter_value, pieces_from, pieces, unescape_piece, unescape_pieces, unescape, bad_pieces, bad_escape, unreserve}
+use Rattle.utf8.specs.Utf8.{encode, width}
+use Rattle.escape.specs.Escape.{outside, behind, digits, plain, numeric, letter, hex_value, letter_value, pieces_from, pieces, unescape_piece, unescape_pieces, unescape, bad_pieces, bad_escape, no_character, unreserve}
 use Rattle.escape.specs.Escape as escape
-use Rattle.escape.specs.Code.{step, four, piece, bad, place, undone, low, Fair, Starts, Stretch, Written}
-use Rattle.escape.specs.declared.Scan.{Scan}
-use Rattle.escape.proofs.Bytes.{or_left, or_right, bytes_of, bytes_take, bytes_drop, low_bytes, unescape_bytes, unreserve_bytes}
-use Rattle.escape.proofs.Steps.{at_backslash, at_plain, at_short, at_long, at_letter, fair_step, fair_start, fair_name_start, undone_step, undone_name, step_agrees, stays_text}
-
--- Before the first byte.
-pub text_start : (s : Scan) → (s.left ≡ 0) × ((s.value ≡ 0) × (s.n ≡ 0)) → (cs : Text) → undone s cs ≡ unescape cs
-unfolding undone unescape pieces place
-text_start s e cs = rw e.0
-
-pub name_start : (s : Scan) → (s.left ≡ 10) × ((s.value ≡ 0) × (s.n ≡ 0)) → (cs : Text) → undone s cs ≡ unreserve cs
-name_start s e cs = undone_name s cs e.0
+use Rattle.std.specs.Prelude.{Option, Some, None}
+use Rattle.escape.specs.Code.{undone, four, encoded, bad, shown, size, number, low, Yields, Ends, Walks, Numbered, Written}
+use Rattle.escape.specs.declared.Stretches.{Stretches}
+use Rattle.escape.specs.declared.Escapes.{Escapes}
+use Rattle.escape.specs.declared.Escapes.TheVariants.{Quoted, Local}
+use Rattle.escape.specs.declared.Character.{Character}
+use Rattle.escape.specs.declared.Stretch.{Stretch}
+use Rattle.escape.specs.declared.Stretch.TheVariants.{Run, One}
+use Rattle.escape.proofs.Bytes.{or_left, or_right, bytes_of, low_bytes, unescape_bytes, unreserve_bytes}
+use Rattle.escape.proofs.Steps.{at_backslash, at_plain, at_short, at_long, at_letter, at_digits, too_few}
 
 -- A text is never longer than it was with its escapes: so many bytes are owed inside of one.
 owed : escape.Scan → ℕ
@@ -78,74 +76,174 @@ pub plain_good : (cs : Text) → some_byte (is "\\") cs ≡ false → false ≡ 
 unfolding bad_escape pieces
 plain_good cs e = sym (plain_pieces cs e).1
 
-plain_name : (cs : Text) → some_byte (is "\\") cs ≡ false → unreserve cs ≡ cs
+pub plain_name : (cs : Text) → some_byte (is "\\") cs ≡ false → unreserve cs ≡ cs
 unfolding unreserve some_byte
 plain_name [] e = refl
 plain_name (c ∷ cs) e =
     rw (or_left (eqb c 92) (some_byte (is "\\") cs) e) (ap (λ (l : Text). c ∷ l) (plain_name cs (or_right (eqb c 92) (some_byte (is "\\") cs) e)))
 
-pub text_starts : (s : Scan) → (s.left ≡ 0) × ((s.value ≡ 0) × (s.n ≡ 0)) → Starts s
-text_starts s e = record { fair = fair_start s e; short = λ cs. rw (text_start s e cs) (unescape_short cs); plain = λ cs h. text_start s e cs ∙ plain_text cs h }
+pub undone_short : (k : Escapes) (s : Text) → length (undone k s) ≤ length s
+unfolding undone
+undone_short Quoted s = unescape_short s
+undone_short Local s = unreserve_short s
 
-pub name_starts : (s : Scan) → (s.left ≡ 10) × ((s.value ≡ 0) × (s.n ≡ 0)) → Starts s
-name_starts s e = record { fair = fair_name_start s e; short = λ cs. rw (name_start s e cs) (unreserve_short cs); plain = λ cs h. name_start s e cs ∙ plain_name cs h }
+pub plain_undone : (k : Escapes) (s : Text) → some_byte (is "\\") s ≡ false → undone k s ≡ s
+unfolding undone
+plain_undone Quoted s e = plain_text s e
+plain_undone Local s e = plain_name s e
 
-four_length : (s : Scan) → length (four s) ≡ 4
-unfolding four
-four_length s = by (ltb s.n 2) (λ e. rw e) (λ e. by (eqb s.n 2) (λ f. rw (e, f)) (λ f. by (eqb s.n 3) (λ g. rw (e, f, g)) (λ g. rw (e, f, g))))
+-- Bytes without a backslash, where no escape has begun.
+run_pieces : (a t : Text) → some_byte (is "\\") a ≡ false
+    → (unescape_pieces (pieces_from outside (a ++ t)) ≡ a ++ unescape_pieces (pieces_from outside t)) × (bad_pieces (pieces_from outside (a ++ t)) ≡ bad_pieces (pieces_from outside t))
+unfolding unescape_pieces unescape_piece bad_pieces some_byte
+run_pieces [] t e = (refl, refl)
+run_pieces (c ∷ a) t e =
+    let here : eqb c 92 ≡ false = or_left (eqb c 92) (some_byte (is "\\") a) e in
+    let rest = run_pieces a t (or_right (eqb c 92) (some_byte (is "\\") a) e) in
+    (rw (at_plain c (a ++ t) here) (ap (λ (l : Text). c ∷ l) rest.0), rw (at_plain c (a ++ t) here) rest.1)
 
-pub piece_length : (s : Scan) → s.n ≤ 4 → length (piece s) ≡ s.n
-unfolding piece
-piece_length s h = length-take-le s.n (four s) (omega (arith, four_length s))
+run_name : (a t : Text) → some_byte (is "\\") a ≡ false → unreserve (a ++ t) ≡ a ++ unreserve t
+unfolding unreserve some_byte
+run_name [] t e = refl
+run_name (c ∷ a) t e =
+    rw (or_left (eqb c 92) (some_byte (is "\\") a) e) (ap (λ (l : Text). c ∷ l) (run_name a t (or_right (eqb c 92) (some_byte (is "\\") a) e)))
 
-pub four_fits : (t : Scan) (b : Text) → b ≡ four t → t.n ≤ 4 → t.n ≤ length b
-four_fits t b e h = omega (arith, four_length t, ap length e)
+-- A run of bytes up to the next backslash.
+run_undone : (k : Escapes) (a t : Text) → some_byte (is "\\") a ≡ false → undone k (a ++ t) ≡ a ++ undone k t
+unfolding undone unescape pieces
+run_undone Quoted a t e = (run_pieces a t e).0
+run_undone Local a t e = run_name a t e
 
--- The byte at i moves the scan from s to t.
-module _ (s t : Scan) (cs : Text) (i : ℕ) (h : i < length cs) (f : Fair s) (e : t ≡ step s (get_or cs i 0)) (small : get_or cs i 0 < 256) where
-  pub fair_more : Fair t
-  fair_more = rw e (fair_step s (get_or cs i 0) f small)
+run_good : (a t : Text) → some_byte (is "\\") a ≡ false → bad_escape (a ++ t) ≡ bad_escape t
+unfolding bad_escape pieces
+run_good a t e = (run_pieces a t e).1
 
-  pub undone_more : undone s (drop i cs) ≡ piece t ++ undone t (drop (i + 1) cs)
-  undone_more = rw (add-one i, drop-cons cs i 0 h, e) (undone_step s (get_or cs i 0) (drop (suc i) cs) f)
+pub run_yields : (k : Escapes) (s t : Text) (n : ℕ) (r : Bor Text) → n ≡ next_at (byte 92) s 0 → 0 < n → n ≤ length s → r.now ≡ take n s → t ≡ drop n s → Yields k s t (Run r)
+run_yields k s t n r e some fits er et =
+    let z : n - 0 ≡ n = omega arith in
+    let split : s ≡ r.now ++ t = rw (er, et) (rw z at (next_split (byte 92) s 0 n e)) in
+    let free : some_byte (is "\\") r.now ≡ false = rw er (rw z at (next_free (byte 92) s 0 n e)) in
+    record {
+      text = ap (undone k) split ∙ run_undone k r.now t free;
+      named = λ q. ap bad_escape split ∙ run_good r.now t free;
+      long = refl;
+      some = λ q. rw (er, length-take-le n s fits) some;
+      less = rw (et, length-drop n s) (omega arith);
+    }
 
-  pub length_more : length (undone s (drop i cs)) ≡ t.n + length (undone t (drop (i + 1) cs))
-  length_more = ap length undone_more ∙ (length-append (piece t) (undone t (drop (i + 1) cs)) ∙ ap (λ (n : ℕ). n + length (undone t (drop (i + 1) cs))) (piece_length t fair_more.small))
+-- A numeric escape's character.
+abbrev numbered : ℕ → Character
+numbered v = record { value = v; width = width v }
 
-  -- The bytes b of the piece are compared with x from j on.
-  module _ (b : Text) (eb : b ≡ four t) (x : Text) (j : ℕ) (r : Bool) (er : r ≡ begins (take t.n b) (drop j x)) where
-    compared : same_text (undone s (drop i cs)) (drop j x) ≡ (r && same_text (undone t (drop (i + 1) cs)) (drop (j + t.n) x))
-    unfolding piece
-    compared =
-        ap (λ (l : Text). same_text l (drop j x)) undone_more
-        ∙ (same_append (piece t) (undone t (drop (i + 1) cs)) (drop j x) ∙ rw (piece_length t fair_more.small, drop-drop t.n j x, er, eb))
+number_shown : (v : ℕ) → encoded (numbered v) ≡ encode v
+unfolding encoded four
+number_shown v =
+    by (ltb v 0x80) (λ e. rw e) (λ e. by (ltb v 0x800) (λ f. rw (e, f)) (λ f. by (ltb v 0x10000) (λ g. rw (e, f, g)) (λ g. rw (e, f, g))))
 
-    pub same_more : r ≡ true → same_text (undone s (drop i cs)) (drop j x) ≡ same_text (undone t (drop (i + 1) cs)) (drop (j + t.n) x)
-    same_more g = compared ∙ rw g
+encode_long : (v : ℕ) → length (encode v) ≡ width v
+encode_long v =
+    by (ltb v 0x80) (λ e. rw e) (λ e. by (ltb v 0x800) (λ f. rw (e, f)) (λ f. by (ltb v 0x10000) (λ g. rw (e, f, g)) (λ g. rw (e, f, g))))
 
-    pub same_not : r ≡ false → same_text (undone s (drop i cs)) (drop j x) ≡ false
-    same_not g = compared ∙ rw g
+width_some : (v : ℕ) → 0 < width v
+width_some v = by (ltb v 0x80) (λ e. rw e (omega arith)) (λ e. by (ltb v 0x800) (λ f. rw (e, f) (omega arith)) (λ f. by (ltb v 0x10000) (λ g. rw (e, f, g) (omega arith)) (λ g. rw (e, f, g) (omega arith))))
 
-    pub same_fits : j ≤ length x → r ≡ true → j + t.n ≤ length x
-    same_fits h g =
-        omega (arith, begins_length (take t.n b) (drop j x) (sym er ∙ g), length-take-le t.n b (four_fits t b eb fair_more.small), length-drop j x)
+number_bad : (v : ℕ) → no_character v ≡ bad (numbered v)
+unfolding bad no_character
+number_bad v =
+    by (ltb v 0x80) (λ e. rw (e, low v (omega (arith, ltb-true v 0x80 e)), le-ltb 0x10FFFF v (omega (arith, ltb-true v 0x80 e))))
+    (λ e. by (ltb v 0x800) (λ f. rw (e, f, low v (omega (arith, ltb-true v 0x800 f)), le-ltb 0x10FFFF v (omega (arith, ltb-true v 0x800 f))))
+    (λ f. by (ltb v 0x10000) (λ g. rw (e, f, g)) (λ g. rw (e, f, g))))
+  where
+    low : (v : ℕ) → v < 0xD800 → leb 0xD800 v ≡ false
+    low v h = lt-leb 0xD800 v h
 
-  module _ (g : eqb s.left 10 ≡ false) (r : Bool) (er : r ≡ bad t) where
-    judged : bad_pieces (pieces_from (place s) (drop i cs)) ≡ (r || bad_pieces (pieces_from (place t) (drop (i + 1) cs)))
-    judged = rw (er, add-one i, drop-cons cs i 0 h, e) (step_agrees s (get_or cs i 0) (drop (suc i) cs) f (eqb-false s.left 10 g)).named
+-- A backslash of a local name goes.
+pub reserved_yields : (s t : Text) (n : ℕ) (r : Bor Text) → 0 < length s → get_or s 0 0 ≡ 92 → n ≡ next_at (byte 92) s 1 → 1 ≤ n → n ≤ length s → r.now ≡ take (n - 1) (drop 1 s) → t ≡ drop n s → Yields Local s t (Run r)
+unfolding undone unreserve
+reserved_yields s t n r some mark e after fits er et =
+    let front : s ≡ 92 ∷ drop 1 s = drop-cons s 0 0 some ∙ rw mark in
+    let split : drop 1 s ≡ r.now ++ t = rw (er, et) (next_split (byte 92) s 1 n e) in
+    let free : some_byte (is "\\") r.now ≡ false = rw er (next_free (byte 92) s 1 n e) in
+    record {
+      text = ap unreserve front ∙ (ap unreserve split ∙ run_name r.now t free);
+      named = λ q. absurd (let x : ◌≡◌ {A = ℕ} 0 1 = cc in omega arith);
+      long = refl;
+      some = λ q. absurd (let x : ◌≡◌ {A = ℕ} 0 1 = cc in omega arith);
+      less = rw (et, length-drop n s) (omega arith);
+    }
 
-    pub bad_here : r ≡ true → bad_pieces (pieces_from (place s) (drop i cs)) ≡ true
-    bad_here q = judged ∙ rw q
+-- A backslash and a letter.
+module _ (s : Text) (c : ℕ) (some : 1 < length s) (mark : get_or s 0 0 ≡ 92) (is_c : c ≡ get_or s 1 0) where
+  pair : s ≡ 92 ∷ c ∷ drop 2 s
+  pair = drop-cons s 0 0 (omega arith) ∙ rw (mark, drop-cons s 1 0 some, ← is_c)
 
-    pub bad_further : r ≡ false → bad_pieces (pieces_from (place s) (drop i cs)) ≡ bad_pieces (pieces_from (place t) (drop (i + 1) cs))
-    bad_further q = judged ∙ rw q
+  left_behind : pieces_from outside s ≡ pieces_from behind (c ∷ drop 2 s)
+  left_behind = ap (pieces_from outside) pair ∙ at_backslash 92 (c ∷ drop 2 s) refl
 
-  pub text_more : eqb s.left 10 ≡ false → eqb t.left 10 ≡ false
-  text_more g = rw e (stays_text s (get_or cs i 0) f (eqb-false s.left 10 g))
+  pub letter_yields : (c ≡ 117 → ⊥) → (c ≡ 85 → ⊥) → (v : ℕ) → v ≡ letter_value c → Yields Quoted s (drop 2 s) (One (record { value = v; width = 1 }))
+  unfolding undone unescape pieces bad_escape unescape_pieces unescape_piece bad_pieces encoded four bad
+  letter_yields n m v ev =
+      let piece : pieces_from outside s ≡ letter c ∷ pieces_from outside (drop 2 s) = left_behind ∙ at_letter c (drop 2 s) (ne_eqb c 117 n) (ne_eqb c 85 m) in
+      record {
+        text = rw ev (ap unescape_pieces piece);
+        named = λ q. ap bad_pieces piece;
+        long = refl;
+        some = λ q. omega arith;
+        less = rw (length-drop 2 s) (omega arith);
+      }
 
-pub undone_end : (s : Scan) (cs : Text) (i : ℕ) → length cs ≤ i → undone s (drop i cs) ≡ []
-unfolding undone pieces_from unescape_pieces unreserve
-undone_end s cs i h = rw (drop_of_length-le cs {i = i} h) (by (eqb s.left 10) (λ e. rw e) (λ e. rw e))
+  -- A numeric escape: how many digits more than one it has.
+  module _ (d : ℕ) (kind : pieces_from behind (c ∷ drop 2 s) ≡ pieces_from (digits d 0) (drop 2 s)) where
+    pub number_ends : length s < 2 + suc d → Ends Quoted s
+    unfolding undone unescape pieces bad_escape unescape_pieces bad_pieces
+    number_ends h =
+        let none : pieces_from outside s ≡ [] = left_behind ∙ (kind ∙ too_few d 0 (drop 2 s) (omega (arith, length-drop 2 s))) in
+        record { text = ap unescape_pieces none; named = λ q. ap bad_pieces none }
+
+    pub number_yields : 2 + suc d ≤ length s → Yields Quoted s (drop (2 + suc d) s) (One (record { value = number 0 (take (suc d) (drop 2 s)); width = width (number 0 (take (suc d) (drop 2 s))) }))
+    unfolding undone unescape pieces bad_escape unescape_pieces unescape_piece bad_pieces
+    number_yields h =
+        let v : ℕ = number 0 (take (suc d) (drop 2 s)) in
+        let back : drop (suc d) (drop 2 s) ≡ drop (2 + suc d) s = drop-drop (suc d) 2 s in
+        let piece : pieces_from outside s ≡ numeric v ∷ pieces_from outside (drop (2 + suc d) s) = left_behind ∙ (kind ∙ (at_digits d 0 (drop 2 s) (omega (arith, length-drop 2 s)) ∙ rw back)) in
+        record {
+          text = ap unescape_pieces piece ∙ rw (number_shown v);
+          named = λ q. ap bad_pieces piece ∙ rw (number_bad v);
+          long = rw (number_shown v) (encode_long v);
+          some = λ q. width_some v;
+          less = rw (length-drop (2 + suc d) s) (omega arith);
+        }
+
+    pub number_walks : (x y : Stretches) → x.rest.now ≡ s → x.escapes ≡ Quoted → (o : Option Stretch) → Numbered x y 2 (suc d) o → Walks x y o
+    number_walks x y er ek None h = rw (er, ek) (number_ends (rw er at h))
+    number_walks x y er ek (Some p) h = (
+      rw (er, ek, h.1.1.0, h.1.0) (rw er (number_yields (rw er at h.0))),
+      h.1.1.1,
+    )
+
+  pub short_yields : c ≡ 117 → pieces_from behind (c ∷ drop 2 s) ≡ pieces_from (digits 3 0) (drop 2 s)
+  short_yields e = at_short c (drop 2 s) (eq-eqb c 117 e)
+
+  pub long_yields : c ≡ 85 → pieces_from behind (c ∷ drop 2 s) ≡ pieces_from (digits 7 0) (drop 2 s)
+  long_yields e = at_long c (drop 2 s) (ne_eqb c 117 (λ q. omega arith)) (eq-eqb c 85 e)
+
+-- A run that has begun.
+pub run_begun : (s : Text) (n : ℕ) → 0 < length s → (get_or s 0 0 ≡ 92 → ⊥) → n ≡ next_at (byte 92) s 1 → n ≡ next_at (byte 92) s 0
+run_begun s n h e q = q ∙ sym (next_more (byte 92) s 0 h (ne_eqb (get_or s 0 0) 92 e))
+
+-- Nothing is left.
+pub nothing_ends : (k : Escapes) (s : Text) → length s ≡ 0 → Ends k s
+unfolding undone unescape pieces pieces_from unescape_pieces bad_escape bad_pieces unreserve
+nothing_ends Quoted [] e = record { text = refl; named = λ q. refl }
+nothing_ends Local [] e = record { text = refl; named = λ q. refl }
+nothing_ends k (c ∷ s) e = absurd (omega arith)
+
+-- A backslash alone.
+pub alone_ends : (s : Text) → length s ≡ 1 → get_or s 0 0 ≡ 92 → Ends Quoted s
+unfolding undone unescape pieces pieces_from unescape_pieces bad_escape bad_pieces
+alone_ends [] e m = absurd (omega arith)
+alone_ends (c ∷ []) e m = let none : pieces_from outside (c ∷ []) ≡ [] = at_backslash c [] (eq-eqb c 92 m) in record { text = ap unescape_pieces none; named = λ q. ap bad_pieces none }
+alone_ends (c ∷ d ∷ s) e m = absurd (omega arith)
 
 -- Writing piece by piece.
 low_append : (s t : Text) → low (s ++ t) ≡ low s ++ low t
@@ -200,155 +298,56 @@ halfway_done w rest x y j h e =
 pub on_more : (b t : Text) (i j : ℕ) → i < length b → j + i < length t → get_or t (j + i) 0 ≡ get_or b i 0 → begins (drop i b) (drop (j + i) t) ≡ begins (drop (i + 1) b) (drop (j + (i + 1)) t)
 on_more b t i j h g e = let k : j + (i + 1) ≡ j + i + 1 = omega arith in rw k (begins_more b t i (j + i) h g e)
 
-pub same_done : (s : Scan) (cs x : Text) (i j : ℕ) → length cs ≤ i → j ≤ length x → same_text (undone s (drop i cs)) (drop j x) ≡ eqb j (length x)
-same_done s cs x i j h g = ap (λ (l : Text). same_text l (drop j x)) (undone_end s cs i h) ∙ same_end x j g
+-- What a walk learns of a part.
+module _ (k : Escapes) (s t : Text) (p : Stretch) (y : Yields k s t p) where
+  pub length_more : length (undone k s) ≡ size p + length (undone k t)
+  length_more = ap length y.text ∙ (length-append (shown p) (undone k t) ∙ ap (λ (n : ℕ). n + length (undone k t)) y.long)
 
-pub bad_done : (s : Scan) (cs : Text) (i : ℕ) → length cs ≤ i → bad_pieces (pieces_from (place s) (drop i cs)) ≡ false
-unfolding pieces_from bad_pieces
-bad_done s cs i h = rw (drop_of_length-le cs {i = i} h)
+  module _ (x : Text) (j : ℕ) (r : Bool) (er : r ≡ begins (shown p) (drop j x)) where
+    compared : same_text (undone k s) (drop j x) ≡ (r && same_text (undone k t) (drop (j + size p) x))
+    compared = ap (λ (l : Text). same_text l (drop j x)) y.text ∙ (same_append (shown p) (undone k t) (drop j x) ∙ rw (y.long, drop-drop (size p) j x, er))
 
-pub text_place : (s : Scan) → (s.left ≡ 0) × ((s.value ≡ 0) × (s.n ≡ 0)) → eqb s.left 10 ≡ false
-text_place s e = rw e.0
+    pub same_more : r ≡ true → same_text (undone k s) (drop j x) ≡ same_text (undone k t) (drop (j + size p) x)
+    same_more g = compared ∙ rw g
 
-pub bad_start : (s : Scan) → (s.left ≡ 0) × ((s.value ≡ 0) × (s.n ≡ 0)) → (cs : Text) → bad_escape cs ≡ bad_pieces (pieces_from (place s) cs)
-unfolding bad_escape pieces place
-bad_start s e cs = rw e.0
+    pub same_not : r ≡ false → same_text (undone k s) (drop j x) ≡ false
+    same_not g = compared ∙ rw g
 
--- What writing a string or a reference leaves, and what writing a local name leaves.
-pub text_written : (s : Scan) → (s.left ≡ 0) × ((s.value ≡ 0) × (s.n ≡ 0)) → (cs x y : Text) (r : ℕ) → ((i : ℕ) → get_or cs i 0 < 256)
-    → (r ≡ length (undone s cs)) × (y ≡ over (low (undone s cs)) x) → Written (bad_escape cs ≡ false) (unescape cs) x y r
-text_written s e cs x y r small h =
-    let u : undone s cs ≡ unescape cs = text_start s e cs in
-    record {
-      long = h.0 ∙ ap length u;
-      size = ap length h.1 ∙ over_length (low (undone s cs)) x;
-      text = λ g. h.1 ∙ (rw u (ap (λ (t : Text). over t x) (low_bytes (unescape_bytes (bytes_of cs small) g))));
-    }
+    pub same_fits : j ≤ length x → r ≡ true → j + size p ≤ length x
+    same_fits h g = omega (arith, begins_length (shown p) (drop j x) (sym er ∙ g), y.long, length-drop j x)
 
-pub name_written : (s : Scan) → (s.left ≡ 10) × ((s.value ≡ 0) × (s.n ≡ 0)) → (cs x y : Text) (r : ℕ) → ((i : ℕ) → get_or cs i 0 < 256)
-    → (r ≡ length (undone s cs)) × (y ≡ over (low (undone s cs)) x) → (r ≡ length (unreserve cs)) × (y ≡ over (unreserve cs) x)
-name_written s e cs x y r small h =
-    let u : undone s cs ≡ unreserve cs = name_start s e cs in
-    (h.0 ∙ ap length u, h.1 ∙ (rw u (ap (λ (t : Text). over t x) (low_bytes (unreserve_bytes (bytes_of cs small))))))
+  pub written_more : (w x z u : Text) (j : ℕ) → Halfway w (undone k s) x z j → u ≡ over_at j (low (shown p)) z → Halfway w (undone k t) x u (j + size p)
+  written_more w x z u j h o = halfway_more w (undone k s) (shown p) (undone k t) x z u j (size p) h y.text y.long o
 
--- One piece more is written.
-module _ (s t : Scan) (cs : Text) (i : ℕ) (h : i < length cs) (f : Fair s) (e : t ≡ step s (get_or cs i 0)) (small : get_or cs i 0 < 256) where
-  pub halfway_turn : (b : Text) → b ≡ four t → (w x y z : Text) (j : ℕ) → Halfway w (undone s (drop i cs)) x y j → z ≡ over_at j (low (take t.n b)) y
-      → Halfway w (undone t (drop (i + 1) cs)) x z (j + t.n)
-  unfolding piece
-  halfway_turn b eb w x y z j k o =
-      halfway_more w (undone s (drop i cs)) (piece t) (undone t (drop (i + 1) cs)) x y z j t.n k (undone_more s t cs i h f e small) (piece_length t (fair_more s t cs i h f e small).small)
-      (o ∙ rw eb)
+-- A character has at most four bytes.
+pub four_fits : {k : Escapes} {s t : Text} {c : Character} {b : Text} → Yields k s t (One c) → b ≡ four c → c.width ≤ length b
+unfolding encoded
+four_fits {c = c} y e = omega (arith, y.long, length-take c.width (four c), ap length e)
 
-pub text_same : (s : Scan) → (s.left ≡ 0) × ((s.value ≡ 0) × (s.n ≡ 0)) → (cs x : Text) (r : Bool) → r ≡ same_text (undone s cs) x → r ≡ same_text (unescape cs) x
-text_same s e cs x r h = h ∙ rw (text_start s e cs)
+pub shown_is : (c : Character) (b : Text) → b ≡ four c → take c.width b ≡ shown (One c)
+unfolding encoded
+shown_is c b e = rw e
 
-pub name_same : (s : Scan) → (s.left ≡ 10) × ((s.value ≡ 0) × (s.n ≡ 0)) → (cs x : Text) (r : Bool) → r ≡ same_text (undone s cs) x → r ≡ same_text (unreserve cs) x
-name_same s e cs x r h = h ∙ rw (name_start s e cs)
+pub same_done : (k : Escapes) (s x : Text) (j : ℕ) → undone k s ≡ [] → j ≤ length x → same_text (undone k s) (drop j x) ≡ eqb j (length x)
+same_done k s x j e g = ap (λ (l : Text). same_text l (drop j x)) e ∙ same_end x j g
 
--- The answers for a text without a backslash.
-module _ (s : Scan) (st : Starts s) (cs : Text) (h : some_byte (is "\\") cs ≡ false) where
-  pub plain_length : length cs ≡ length (undone s cs)
-  plain_length = ap length (sym (st.plain cs h))
+-- What writing leaves.
+low_undone : (k : Escapes) (s : Text) → ((i : ℕ) → get_or s i 0 < 256) → (k ≡ Quoted → bad_escape s ≡ false) → low (undone k s) ≡ undone k s
+unfolding undone
+low_undone Quoted s small g = low_bytes (unescape_bytes (bytes_of s small) (g refl))
+low_undone Local s small g = low_bytes (unreserve_bytes (bytes_of s small))
 
-  pub plain_same : (t : Text) (r : Bool) → r ≡ same_text cs t → r ≡ same_text (undone s cs) t
-  plain_same t r e = e ∙ rw (st.plain cs h)
+pub wrote : (k : Escapes) (s x y : Text) (r : ℕ) → ((i : ℕ) → get_or s i 0 < 256) → (r ≡ length (undone k s)) × (y ≡ over (low (undone k s)) x)
+    → Written (k ≡ Quoted → bad_escape s ≡ false) (undone k s) x y r
+wrote k s x y r small h = record {
+  long = h.0;
+  size = ap length h.1 ∙ over_length (low (undone k s)) x;
+  text = λ g. h.1 ∙ ap (λ (t : Text). over t x) (low_undone k s small g);
+}
 
-  pub plain_written : (x y : Text) → ((i : ℕ) → get_or cs i 0 < 256) → y ≡ over cs x → (length cs ≡ length (undone s cs)) × (y ≡ over (low (undone s cs)) x)
-  plain_written x y small e = (plain_length, e ∙ rw (st.plain cs h, low_bytes (bytes_of cs small)))
-
--- Bytes without a backslash, where no escape has begun.
-run_pieces : (a t : Text) → some_byte (is "\\") a ≡ false
-    → (unescape_pieces (pieces_from outside (a ++ t)) ≡ a ++ unescape_pieces (pieces_from outside t)) × (bad_pieces (pieces_from outside (a ++ t)) ≡ bad_pieces (pieces_from outside t))
-unfolding unescape_pieces unescape_piece bad_pieces some_byte
-run_pieces [] t e = (refl, refl)
-run_pieces (c ∷ a) t e =
-    let here : eqb c 92 ≡ false = or_left (eqb c 92) (some_byte (is "\\") a) e in
-    let rest = run_pieces a t (or_right (eqb c 92) (some_byte (is "\\") a) e) in
-    (rw (at_plain c (a ++ t) here) (ap (λ (l : Text). c ∷ l) rest.0), rw (at_plain c (a ++ t) here) rest.1)
-
-run_name : (a t : Text) → some_byte (is "\\") a ≡ false → unreserve (a ++ t) ≡ a ++ unreserve t
-unfolding unreserve some_byte
-run_name [] t e = refl
-run_name (c ∷ a) t e =
-    rw (or_left (eqb c 92) (some_byte (is "\\") a) e) (ap (λ (l : Text). c ∷ l) (run_name a t (or_right (eqb c 92) (some_byte (is "\\") a) e)))
-
--- The bytes up to the next backslash.
-module _ (cs : Text) (i k : ℕ) (e : k ≡ next_at (byte 92) cs i) where
-  part : Text
-  part = take (k - i) (drop i cs)
-
-  pub stretch_text : i ≤ k → k ≤ length cs → Stretch 0 cs i k (take (k - i) (drop i cs))
-  unfolding undone place part
-  stretch_text after fits =
-      let split : drop i cs ≡ take (k - i) (drop i cs) ++ drop k cs = next_split (byte 92) cs i k e in
-      let both = run_pieces (take (k - i) (drop i cs)) (drop k cs) (next_free (byte 92) cs i k e) in
-      record {
-        after = after;
-        fits = fits;
-        text = λ s z. rw z (ap (λ (l : Text). unescape_pieces (pieces_from outside l)) split ∙ both.0);
-        named = λ s z q. rw z (ap (λ (l : Text). bad_pieces (pieces_from outside l)) split ∙ both.1);
-      }
-
-  pub stretch_name : i ≤ k → k ≤ length cs → Stretch 10 cs i k (take (k - i) (drop i cs))
-  stretch_name after fits =
-      let split : drop i cs ≡ take (k - i) (drop i cs) ++ drop k cs = next_split (byte 92) cs i k e in
-      record {
-        after = after;
-        fits = fits;
-        text = λ s z. rw (undone_name s (drop i cs) z, undone_name s (drop k cs) z) (ap unreserve split ∙ run_name (take (k - i) (drop i cs)) (drop k cs) (next_free (byte 92) cs i k e));
-        named = λ s z q. contrary q;
-      }
-
-pub stretch_none : (left : ℕ) (cs : Text) (i : ℕ) → i ≤ length cs → Stretch left cs i i (take (i - i) (drop i cs))
-stretch_none left cs i h =
-    let none : i - i ≡ 0 = omega arith in
-    record { after = omega arith; fits = h; text = λ s z. rw none; named = λ s z q. refl }
-
--- A backslash and a letter.
-pub stretch_letter : (cs : Text) (i c : ℕ) → i + 1 < length cs → get_or cs i 0 ≡ 92 → c ≡ get_or cs (i + 1) 0 → (c ≡ 117 → ⊥) → (c ≡ 85 → ⊥) → Stretch 0 cs i (i + 2) (letter_value c ∷ [])
-unfolding undone place unescape_pieces unescape_piece bad_pieces
-stretch_letter cs i c h e f n m =
-    let two : i + 2 ≡ suc (i + 1) = omega arith in
-    let split : drop i cs ≡ 92 ∷ c ∷ drop (i + 2) cs =
-    drop-cons cs i 0 (omega arith) ∙ rw (e, ← add-one i, drop-cons cs (i + 1) 0 h, ← f, two) in
-    let piece : pieces_from outside (drop i cs) ≡ letter c ∷ pieces_from outside (drop (i + 2) cs) =
-    ap (pieces_from outside) split ∙ (at_backslash 92 (c ∷ drop (i + 2) cs) refl ∙ at_letter c (drop (i + 2) cs) (ne_eqb c 117 n) (ne_eqb c 85 m)) in
-    record {
-      after = omega arith;
-      fits = omega arith;
-      text = λ s z. rw z (ap unescape_pieces piece);
-      named = λ s z q. rw z (ap bad_pieces piece);
-    }
-
--- Bytes that stand for themselves are as many, and bytes.
-pub plain_size : {left : ℕ} {cs p : Text} {i k : ℕ} → Stretch left cs i k p → length (take (k - i) (drop i cs)) ≡ k - i
-plain_size {left} {cs} {p} {i} {k} st = length-take-le (k - i) (drop i cs) (omega (arith, st.fits, length-drop i cs))
-
-pub plain_low : (cs : Text) (i k : ℕ) → ((n : ℕ) → get_or cs n 0 < 256) → take (k - i) (drop i cs) ≡ low (take (k - i) (drop i cs))
-plain_low cs i k small = sym (low_bytes (bytes_take (k - i) (bytes_drop i (bytes_of cs small))))
+pub wrote_plain : (k : Escapes) (s x y : Text) → some_byte (is "\\") s ≡ false → y ≡ over s x → Written (k ≡ Quoted → bad_escape s ≡ false) (undone k s) x y (length s)
+wrote_plain k s x y h e = rw (plain_undone k s h) (record { long = refl; size = ap length e ∙ over_length s x; text = λ g. e })
 
 -- A slice from j on goes to the end.
 pub to_end : (x : Text) (j : ℕ) → take (length x - j) (drop j x) ≡ drop j x
 to_end x j = take_all (length x - j) (drop j x) (omega (arith, length-drop j x))
-
--- What a walk learns of a stretch that stands for n bytes.
-module _ (s : Scan) (cs : Text) (i k : ℕ) (p : Text) (st : Stretch s.left cs i k p) (n : ℕ) (long : length p ≡ n) where
-  pub stretch_length : length (undone s (drop i cs)) ≡ n + length (undone s (drop k cs))
-  stretch_length = ap length (st.text s refl) ∙ (length-append p (undone s (drop k cs)) ∙ ap (λ (m : ℕ). m + length (undone s (drop k cs))) long)
-
-  module _ (x : Text) (j : ℕ) (r : Bool) (er : r ≡ begins p (drop j x)) where
-    stretched : same_text (undone s (drop i cs)) (drop j x) ≡ (r && same_text (undone s (drop k cs)) (drop (j + n) x))
-    stretched = ap (λ (l : Text). same_text l (drop j x)) (st.text s refl) ∙ (same_append p (undone s (drop k cs)) (drop j x) ∙ rw (long, drop-drop n j x, er))
-
-    pub stretch_same : r ≡ true → same_text (undone s (drop i cs)) (drop j x) ≡ same_text (undone s (drop k cs)) (drop (j + n) x)
-    stretch_same g = stretched ∙ rw g
-
-    pub stretch_not : r ≡ false → same_text (undone s (drop i cs)) (drop j x) ≡ false
-    stretch_not g = stretched ∙ rw g
-
-    pub stretch_fits : j ≤ length x → r ≡ true → j + n ≤ length x
-    stretch_fits h g = omega (arith, begins_length p (drop j x) (sym er ∙ g), long, length-drop j x)
-
-  pub stretch_written : (w x y z : Text) (j : ℕ) → Halfway w (undone s (drop i cs)) x y j → z ≡ over_at j (low p) y → Halfway w (undone s (drop k cs)) x z (j + n)
-  stretch_written w x y z j h o = halfway_more w (undone s (drop i cs)) p (undone s (drop k cs)) x y z j n h (st.text s refl) long o

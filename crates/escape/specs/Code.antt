@@ -1,89 +1,88 @@
--- The scan of an escaped text byte by byte, as the code does it.
-use Rattle.std.specs.Prelude.{[], ◌∷◌, ◌++◌, ◌≡◌, Bool, false, ℕ, zero, suc, ◌+◌, ◌*◌, ◌-◌, ◌/◌, ◌%◌, ◌≤◌, eqb, ltb, length, take, drop}
-use Rattle.text.specs.Text.{Text, cond, is, some_byte}
+-- The parts of an escaped text, as the code finds them.
+use Rattle.std.specs.Prelude.{Option, Some, None, [], ◌∷◌, ◌++◌, ◌≡◌, Bool, false, ◌||◌, ℕ, zero, suc, ◌+◌, ◌*◌, ◌/◌, ◌%◌, ◌≤◌, ◌<◌, eqb, ltb, length, take, drop}
+use Rattle.text.specs.Text.{Text, cond}
 use Rattle.text.specs.Slice.{over}
 use Rattle.utf8.specs.Utf8.{width}
-use Rattle.escape.specs.Escape.{outside, behind, digits, hex_value, letter_value, pieces_from, unescape_pieces, bad_pieces, no_character, unreserve}
-use Rattle.escape.specs.Escape as escape
-use Rattle.escape.specs.declared.Scan.{Scan}
+use Rattle.escape.specs.Escape.{hex_value, unescape, bad_escape, no_character, unreserve}
+use Rattle.escape.specs.declared.Escapes.{Escapes}
+use Rattle.escape.specs.declared.Escapes.TheVariants.{Quoted, Local}
+use Rattle.escape.specs.declared.Character.{Character}
+use Rattle.escape.specs.declared.Stretch.{Stretch}
+use Rattle.escape.specs.declared.Stretch.TheVariants.{Run, One}
+use Rattle.escape.specs.declared.Stretches.{Stretches}
 
--- Inside an escape; and after a piece that stands for n bytes.
-abbrev pub inside : ℕ → ℕ → Scan
-inside left value = record { left = left; value = value; n = 0 }
+-- The text with its escapes undone.
+unfoldable pub undone : Escapes → Text → Text
+undone Quoted s = unescape s
+undone Local s = unreserve s
 
-abbrev pub gives : ℕ → ℕ → ℕ → Scan
-gives left n value = record { left = left; value = value; n = n }
+-- The bytes of a character are the first ones of these.
+unfoldable pub four : Character → Text
+four c =
+    cond (ltb c.width 2) (c.value ∷ 0 ∷ 0 ∷ 0 ∷ [])
+    (cond (eqb c.width 2) ((0xC0 + c.value / 64) ∷ (0x80 + c.value % 64) ∷ 0 ∷ 0 ∷ [])
+    (cond (eqb c.width 3) ((0xE0 + c.value / 4096) ∷ (0x80 + c.value / 64 % 64) ∷ (0x80 + c.value % 64) ∷ 0 ∷ [])
+    ((0xF0 + c.value / 262144) ∷ (0x80 + c.value / 4096 % 64) ∷ (0x80 + c.value / 64 % 64) ∷ (0x80 + c.value % 64) ∷ [])))
 
--- How a byte moves the scan: outside an escape, behind a backslash, in a local name, and where hex digits are to come.
-unfoldable pub step_outside : ℕ → Scan
-step_outside c = cond (eqb c 92) (inside 9 0) (gives 0 1 c)
+unfoldable pub encoded : Character → Text
+encoded c = take c.width (four c)
 
-unfoldable pub step_behind : ℕ → Scan
-step_behind c = cond (eqb c 117) (inside 4 0) (cond (eqb c 85) (inside 8 0) (gives 0 1 (letter_value c)))
+-- Is it no character?
+unfoldable pub bad : Character → Bool
+bad c = cond (ltb 2 c.width) (no_character c.value) false
 
-unfoldable pub step_name : ℕ → Scan
-step_name c = cond (eqb c 92) (inside 10 0) (gives 10 1 c)
+-- What a part stands for, how many bytes that is, and whether the part names no character.
+abbrev pub shown : Stretch → Text
+shown (Run s) = s.now
+shown (One c) = encoded c
 
-unfoldable pub step_digit : ℕ → ℕ → Scan
-step_digit left value = cond (eqb left 1) (gives 0 (width value) value) (inside (left - 1) value)
+abbrev pub size : Stretch → ℕ
+size (Run s) = length s.now
+size (One c) = c.width
 
-unfoldable pub step_escape : ℕ → ℕ → ℕ → Scan
-step_escape left value c = cond (eqb left 9) (step_behind c) (step_digit left (value % 1099511627776 * 16 + hex_value c))
+abbrev pub names_none : Stretch → Bool
+names_none (Run s) = false
+names_none (One c) = bad c
 
-unfoldable pub step : Scan → ℕ → Scan
-step s c = cond (eqb s.left 0) (step_outside c) (cond (eqb s.left 10) (step_name c) (step_escape s.left s.value c))
-
--- The bytes of the piece that has just ended are the first n of these.
-unfoldable pub four : Scan → Text
-four s =
-    cond (ltb s.n 2) (s.value ∷ 0 ∷ 0 ∷ 0 ∷ [])
-    (cond (eqb s.n 2) ((0xC0 + s.value / 64) ∷ (0x80 + s.value % 64) ∷ 0 ∷ 0 ∷ [])
-    (cond (eqb s.n 3) ((0xE0 + s.value / 4096) ∷ (0x80 + s.value / 64 % 64) ∷ (0x80 + s.value % 64) ∷ 0 ∷ [])
-    ((0xF0 + s.value / 262144) ∷ (0x80 + s.value / 4096 % 64) ∷ (0x80 + s.value / 64 % 64) ∷ (0x80 + s.value % 64) ∷ [])))
-
-unfoldable pub piece : Scan → Text
-piece s = take s.n (four s)
-
--- Does the piece that has just ended name no character?
-unfoldable pub bad : Scan → Bool
-bad s = cond (ltb 2 s.n) (no_character s.value) false
-
--- Where the scan is, in the definition's words.
-unfoldable pub place : Scan → escape.Scan
-place s = cond (eqb s.left 0) outside (cond (eqb s.left 9) behind (digits (s.left - 1) s.value))
-
--- What the rest of a text stands for.
-unfoldable pub undone : Scan → Text → Text
-undone s cs = cond (eqb s.left 10) (unreserve cs) (unescape_pieces (pieces_from (place s) cs))
+-- The number that hex digits make, behind a number so far.
+unfoldable pub number : ℕ → Text → ℕ
+number v [] = v
+number v (c ∷ s) = number (v * 16 + hex_value c) s
 
 -- The largest number that so many digits make, whatever bytes they are.
 unfoldable pub most : ℕ → ℕ
 most zero = 0
 most (suc k) = most k * 16 + 168
 
--- A scan that steps lead to.
-pub record Fair (s : Scan) : Type 0 where
-  pub small : s.n ≤ 4
-  pub left : s.left ≤ 10
-  pub value : 1 ≤ s.left → s.left ≤ 8 → s.value ≤ most (8 - s.left)
-
 -- The numbers as bytes; of a text without bad escapes they are the text.
 unfoldable pub low : Text → Text
 low [] = []
 low (b ∷ s) = b % 256 ∷ low s
 
--- A scan before the first byte of a text: what it stands for is no longer than the text, and the text itself where no backslash is.
-pub record Starts (s : Scan) : Type 0 where
-  pub fair : Fair s
-  pub short : (cs : Text) → length (undone s cs) ≤ length cs
-  pub plain : (cs : Text) → some_byte (is "\\") cs ≡ false → undone s cs ≡ cs
+-- The text s begins with a part, and goes on with t.
+pub record Yields (k : Escapes) (s t : Text) (p : Stretch) : Type 0 where
+  pub text : undone k s ≡ shown p ++ undone k t
+  pub named : k ≡ Quoted → bad_escape s ≡ (names_none p || bad_escape t)
+  pub long : length (shown p) ≡ size p
+  pub some : k ≡ Quoted → 0 < size p
+  pub less : length t < length s
 
--- From i to k the text stands for p, for a scan with so much left, which goes on from k as it was.
-pub record Stretch (left : ℕ) (cs : Text) (i k : ℕ) (p : Text) : Type 0 where
-  pub after : i ≤ k
-  pub fits : k ≤ length cs
-  pub text : (s : Scan) → s.left ≡ left → undone s (drop i cs) ≡ p ++ undone s (drop k cs)
-  pub named : (s : Scan) → s.left ≡ left → eqb left 10 ≡ false → bad_pieces (pieces_from (place s) (drop i cs)) ≡ bad_pieces (pieces_from (place s) (drop k cs))
+-- Nothing is left of the text.
+pub record Ends (k : Escapes) (s : Text) : Type 0 where
+  pub text : undone k s ≡ []
+  pub named : k ≡ Quoted → bad_escape s ≡ false
+
+-- What the next part is, and what is left behind it.
+abbrev pub Walks : Stretches → Stretches → Option Stretch → Type 0
+Walks x y None = Ends x.escapes x.rest.now
+Walks x y (Some p) = Yields x.escapes x.rest.now y.rest.now p × (y.escapes ≡ x.escapes)
+
+-- The character of so many hex digits from a place on.
+abbrev pub Numbered : Stretches → Stretches → ℕ → ℕ → Option Stretch → Type 0
+Numbered x y at n None = length x.rest.now < at + n
+Numbered x y at n (Some p) =
+    let v = number 0 (take n (drop at x.rest.now)) in
+    (at + n ≤ length x.rest.now) × ((p ≡ One (record { value = v; width = width v })) × ((y.rest.now ≡ drop (at + n) x.rest.now) × (y.escapes ≡ x.escapes)))
 
 -- What writing the text t over the front of x answers and leaves, if `bytes` (then each number of t is a byte).
 pub record Written (bytes : Type 0) (t x y : Text) (r : ℕ) : Type 0 where

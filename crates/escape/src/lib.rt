@@ -1,41 +1,54 @@
 // Escapes: numeric and string escapes in references and strings, reserved character escapes in local names.
 #![tactic(auto)]
 
-ghost use Rattle.std.specs.Prelude.{◌≡◌, true, false, [], ◌∷◌, ◌+◌, ◌-◌, ◌≤◌, ◌<◌, length, take, drop};
+ghost use Rattle.std.specs.Prelude.{◌≡◌, false, ◌+◌, ◌≤◌, ◌<◌, length, drop, slice_index};
+ghost use Rattle.std.specs.Iterator.{at_most};
 ghost use Rattle.text.specs.Text.{is, same_text, begins, some_byte};
 ghost use Rattle.text.specs.Slice.{over, over_at};
 ghost use Rattle.utf8.specs.Utf8.{width};
 ghost use Rattle.escape.specs.Escape.{hex_value, letter_value, no_character, bad_escape, unescape, unreserve};
-ghost use Rattle.escape.specs.Code.{step_outside, step_behind, step_name, step_digit, step_escape, step, four, bad, undone, low, Starts, Stretch, Written};
+ghost use Rattle.escape.specs.declared.Escapes.TheVariants.{Quoted, Local};
+ghost use Rattle.escape.specs.Code.{undone, number, most, four, size, bad, low, Numbered, Walks, Written};
 
 use text::wide;
 
-// A place in an escaped text. left: 0 outside an escape, 9 behind a backslash, 1 to 8 where so many hex digits
-// are to come, 10 in a local name. n: how many bytes the piece that has just ended stands for; value: its
-// character or byte, or the number so far.
-#[derive(Clone, Copy)]
-pub struct Scan {
-    pub left: usize,
+// How a text is escaped: as strings and IRIREFs are, or as local names are.
+#[derive(Clone, Copy, Debug, PartialEq, Eq)]
+pub enum Escapes {
+    Quoted,
+    Local,
+}
+
+// What an escape stands for: a character, or the byte behind a backslash, and how many bytes it has.
+#[derive(Clone, Copy, Debug, PartialEq, Eq)]
+pub struct Character {
     pub value: usize,
-    pub n: usize,
+    pub width: usize,
+}
+
+// A part of an escaped text: bytes that stand for themselves, or an escape.
+#[derive(Clone, Copy)]
+pub enum Stretch<'a> {
+    Run(&'a [u8]),
+    One(Character),
+}
+
+// The parts of an escaped text, from the front of the rest on.
+#[derive(Clone, Copy)]
+pub struct Stretches<'a> {
+    pub escapes: Escapes,
+    pub rest: &'a [u8],
 }
 
 fn hex_value(c: u8) -> usize
     ensures { (result ≡ hex_value c) × (result ≤ 168) }
 {
-    if c < 48 {
-        return 0;
-    }
-    if c < 58 {
-        return wide(c - 48);
-    }
-    if c < 71 {
-        return wide(c - 55);
-    }
-    if c < 87 {
-        return 0;
-    }
-    wide(c - 87)
+    let zero = match c {
+        ..=b'9' => b'0',
+        ..=b'F' => b'A' - 10,
+        _ => b'a' - 10,
+    };
+    wide(c.saturating_sub(zero))
 }
 
 // The character that a letter behind a backslash stands for.
@@ -52,166 +65,46 @@ fn letter_value(c: u8) -> u8
     }
 }
 
-// How many bytes the character has in UTF-8.
+// How many bytes the number has in UTF-8, also where it is no `char`.
 fn width_of(v: usize) -> usize
     ensures { (result ≡ width v) × (result ≤ 4) }
 {
-    if v < 0x80 {
-        return 1;
+    match v {
+        ..0x80 => 1,
+        ..0x800 => 2,
+        ..0x10000 => 3,
+        _ => 4,
     }
-    if v < 0x800 {
-        return 2;
-    }
-    if v < 0x10000 {
-        return 3;
-    }
-    4
 }
 
 fn names_no_character(v: usize) -> bool
     ensures { result ≡ no_character v }
 {
-    if v < 0xD800 {
-        return false;
+    match v {
+        0xD800..=0xDFFF => true,
+        _ => 0x10FFFF < v,
     }
-    if v <= 0xDFFF {
-        return true;
-    }
-    0x10FFFF < v
 }
 
-fn step_outside(c: u8) -> Scan
-    ensures { result ≡ step_outside c }
+// The number that hex digits make.
+fn number(digits: &[u8]) -> usize
+    requires { length digits.now ≤ 8 }
+    ensures { result ≡ number 0 digits.now }
 {
-    if c == 92 {
-        return Scan {
-            left: 9,
-            value: 0,
-            n: 0,
-        };
+    let mut value: usize = 0;
+    for c in digits {
+        value = value * 16 + hex_value(*c);
     }
-    Scan {
-        left: 0,
-        value: wide(c),
-        n: 1,
-    }
+    value
 }
 
-fn step_behind(c: u8) -> Scan
-    ensures { result ≡ step_behind c }
-{
-    if c == 117 {
-        return Scan {
-            left: 4,
-            value: 0,
-            n: 0,
-        };
-    }
-    if c == 85 {
-        return Scan {
-            left: 8,
-            value: 0,
-            n: 0,
-        };
-    }
-    Scan {
-        left: 0,
-        value: wide(letter_value(c)),
-        n: 1,
-    }
-}
-
-fn step_name(b: u8) -> Scan
-    ensures { result ≡ step_name b }
-{
-    if b == 92 {
-        return Scan {
-            left: 10,
-            value: 0,
-            n: 0,
-        };
-    }
-    Scan {
-        left: 10,
-        value: wide(b),
-        n: 1,
-    }
-}
-
-fn step_digit(left: usize, value: usize) -> Scan
-    requires { 0 < left }
-    ensures { result ≡ step_digit left value }
-{
-    if left == 1 {
-        return Scan {
-            left: 0,
-            value: value,
-            n: width_of(value),
-        };
-    }
-    Scan {
-        left: left - 1,
-        value: value,
-        n: 0,
-    }
-}
-
-// After one byte more behind a backslash, or where hex digits are to come. It stands by itself so that the compiler takes the rest of
-// `step` into the loops.
-fn step_escape(left: usize, value: usize, c: u8) -> Scan
-    requires { 0 < left }
-    ensures { result ≡ step_escape left value c }
-{
-    if left == 9 {
-        return step_behind(c);
-    }
-    step_digit(left, value % 1099511627776 * 16 + hex_value(c))
-}
-
-impl Scan {
-    // Before the first byte of a string's or an IRIREF's text.
-    pub fn text() -> Scan
-        ensures { (result.left ≡ 0) × ((result.value ≡ 0) × (result.n ≡ 0)) }
-    {
-        Scan {
-            left: 0,
-            value: 0,
-            n: 0,
-        }
-    }
-
-    // Before the first byte of a local name.
-    pub fn name() -> Scan
-        ensures { (result.left ≡ 10) × ((result.value ≡ 0) × (result.n ≡ 0)) }
-    {
-        let left: usize = 10;
-        Scan {
-            left,
-            value: 0,
-            n: 0,
-        }
-    }
-
-    // After one byte more.
-    pub fn step(self, c: u8) -> Scan
-        ensures { result ≡ step self c }
-    {
-        let left = self.left;
-        if left == 0 {
-            return step_outside(c);
-        }
-        if left == 10 {
-            return step_name(c);
-        }
-        step_escape(left, self.value, c)
-    }
-
-    // The first n are the bytes of the piece that has just ended. (They are bytes unless it names no character.)
+impl Character {
+    // The first `width` are its bytes. (They are bytes unless it is no character.)
     pub fn bytes(self) -> [usize; 4]
         ensures { result ≡ four self }
     {
         let v = self.value;
-        let n = self.n;
+        let n = self.width;
         if n < 2 {
             return [v, 0, 0, 0];
         }
@@ -225,17 +118,107 @@ impl Scan {
         }
         [0xF0 + v / 262144, 0x80 + v / 4096 % 64, third, last]
     }
+
+    // Whether a numeric escape names no character.
+    fn is_bad(self) -> bool
+        ensures { result ≡ bad self }
+    {
+        2 < self.width && names_no_character(self.value)
+    }
 }
 
-// Whether the piece that has just ended names no character.
-fn is_bad(scan: Scan) -> bool
-    ensures { result ≡ bad scan }
-{
-    let value = scan.value;
-    if 2 < scan.n {
-        return names_no_character(value);
+impl<'a> Stretch<'a> {
+    // How many bytes it stands for.
+    fn len(self) -> usize
+        ensures { result ≡ size self.entry }
+    {
+        match self {
+            Stretch::Run(run) => run.len(),
+            Stretch::One(c) => c.width,
+        }
     }
-    false
+}
+
+impl<'a> Stretches<'a> {
+    // The character of so many hex digits from a place on; nothing where the text ends before. It stands by itself so that the rest of
+    // `next` is taken into the loops.
+    #[inline(never)]
+    fn numeric(&mut self, at: usize, digits: usize) -> Option<Stretch<'a>>
+        requires { (at ≤ length self.old.rest.now) × (digits ≤ 8) }
+        ensures { Numbered self.old self.new at digits result }
+    {
+        let s = self.rest;
+        if s.len() - at < digits {
+            return None;
+        }
+        let end = at + digits;
+        let value = number(&s[at..end]);
+        self.rest = &s[end..];
+        Some(Stretch::One(Character {
+            value,
+            width: width_of(value),
+        }))
+    }
+
+    // The bytes behind a backslash of a local name, up to the next.
+    fn reserved(&mut self) -> Option<Stretch<'a>>
+        requires { (0 < length self.old.rest.now) × (slice_index self.old.rest.now 0 ≡ 92) }
+        ensures { self.old.escapes ≡ Local → Walks self.old self.new result }
+    {
+        let s = self.rest;
+        let to = text::next(s, 1, b'\\');
+        self.rest = &s[to..];
+        Some(Stretch::Run(&s[1..to]))
+    }
+
+    // A backslash, and what stands behind it in a string or an IRIREF.
+    #[inline(always)]
+    fn escaped(&mut self) -> Option<Stretch<'a>>
+        requires { (0 < length self.old.rest.now) × (slice_index self.old.rest.now 0 ≡ 92) }
+        ensures { self.old.escapes ≡ Quoted → Walks self.old self.new result }
+    {
+        let s = self.rest;
+        if s.len() < 2 {
+            return None;
+        }
+        match s[1] {
+            b'u' => self.numeric(2, 4),
+            b'U' => self.numeric(2, 8),
+            c => {
+                self.rest = &s[2..];
+                Some(Stretch::One(Character {
+                    value: wide(letter_value(c)),
+                    width: 1,
+                }))
+            }
+        }
+    }
+}
+
+impl<'a> Iterator for Stretches<'a> {
+    type Item = Stretch<'a>;
+
+    ghost next_gives = { λ s r t. Walks s t r };
+
+    ghost remaining = { λ s. at_most (length s.rest.now) };
+
+    #[inline(always)]
+    fn next(&mut self) -> Option<Stretch<'a>> {
+        let s = self.rest;
+        if s.is_empty() {
+            return None;
+        }
+        // It stands for itself; without this test an escape costs a call that finds nothing, 25 instructions.
+        if s[0] != b'\\' {
+            let run = text::next(s, 1, b'\\');
+            self.rest = &s[run..];
+            return Some(Stretch::Run(&s[..run]));
+        }
+        match self.escapes {
+            Escapes::Local => self.reserved(),
+            Escapes::Quoted => self.escaped(),
+        }
+    }
 }
 
 // Whether t goes on with these numbers from j on.
@@ -246,12 +229,10 @@ fn goes_on(t: &[u8], j: usize, b: &[usize]) -> bool
     if t.len() - j < b.len() {
         return false;
     }
-    let mut i: usize = 0;
-    while i < b.len() {
-        if wide(t[j + i]) != b[i] {
+    for (i, n) in b.iter().enumerate() {
+        if wide(t[j + i]) != *n {
             return false;
         }
-        i += 1;
     }
     true
 }
@@ -261,13 +242,11 @@ fn put(out: &mut [u8], j: usize, b: &[usize])
     requires { j + length b.now < 18446744073709551616 }
     ensures { out.new ≡ over_at j (low b.now) out.old }
 {
-    let mut i: usize = 0;
-    while i < b.len() {
+    for (i, n) in b.iter().enumerate() {
         if out.len() <= j + i {
             return;
         }
-        out[j + i] = (b[i] % 256) as u8;
-        i += 1;
+        out[j + i] = (*n % 256) as u8;
     }
 }
 
@@ -278,50 +257,9 @@ pub fn has_backslash(s: &[u8]) -> bool
     text::has(s, 92)
 }
 
-// Where the bytes end that stand for themselves, from a place on: at the next backslash, or at the end; inside an escape there are none.
-pub fn plain_to(left: usize, s: &[u8], at: usize) -> usize
-    requires { at < length s.now }
-    ensures { Stretch left s.now at result (take (result - at) (drop at s.now)) }
-{
-    if s[at] == 92 {
-        return at;
-    }
-    if left == 0 {
-        return text::next(s, at, 92);
-    }
-    if left == 10 {
-        return text::next(s, at, 92);
-    }
-    at
-}
-
-// One more than the byte that a backslash and a letter stand for; 0 where a numeric escape stands, or none.
-pub fn letter_at(left: usize, s: &[u8], at: usize) -> usize
-    requires { at < length s.now }
-    ensures { (0 < result → Stretch left s.now at (at + 2) ((result - 1) ∷ [])) × (result ≤ 256) }
-{
-    if left != 0 {
-        return 0;
-    }
-    if s.len() - at < 2 {
-        return 0;
-    }
-    if s[at] != 92 {
-        return 0;
-    }
-    let c = s[at + 1];
-    if c == 117 {
-        return 0;
-    }
-    if c == 85 {
-        return 0;
-    }
-    wide(letter_value(c)) + 1
-}
-
 // Writes the bytes from j on, as far as out goes.
 fn put_plain(out: &mut [u8], j: usize, s: &[u8])
-    ensures { out.new ≡ over_at j s.now out.old }
+    ensures { out.new ≡ over_at j (low s.now) out.old }
 {
     if out.len() <= j {
         return;
@@ -329,112 +267,65 @@ fn put_plain(out: &mut [u8], j: usize, s: &[u8])
     text::copy(s, &mut out[j..]);
 }
 
-// How long the text is from the scan on.
-fn length_from(start: Scan, s: &[u8]) -> usize
-    requires { Starts start }
-    ensures { result ≡ length (undone start s.now) }
+// How long the text is with its escapes undone.
+pub fn undone_length(escapes: Escapes, s: &[u8]) -> usize
+    ensures { result ≡ length (undone escapes s.now) }
 {
     if !has_backslash(s) {
         return s.len();
     }
-    let mut scan = start;
-    let mut i: usize = 0;
     let mut total: usize = 0;
-    while i < s.len() {
-        let to = plain_to(scan.left, s, i);
-        if i < to {
-            total += to - i;
-            i = to;
-        } else {
-            let letter = letter_at(scan.left, s, i);
-            if 0 < letter {
-                total += 1;
-                i += 2;
-            } else {
-                scan = scan.step(s[i]);
-                total += scan.n;
-                i += 1;
-            }
-        }
+    for part in (Stretches { escapes, rest: s }) {
+        total += part.len();
     }
     total
 }
 
-// Whether t is the text from the scan on.
-fn same_from(start: Scan, s: &[u8], t: &[u8]) -> bool
-    requires { Starts start }
-    ensures { result ≡ same_text (undone start s.now) t.now }
+// Whether t is the text with its escapes undone.
+pub fn same_undone(escapes: Escapes, s: &[u8], t: &[u8]) -> bool
+    ensures { result ≡ same_text (undone escapes s.now) t.now }
 {
     if !has_backslash(s) {
         return text::same(s, t);
     }
-    let mut scan = start;
-    let mut i: usize = 0;
     let mut j: usize = 0;
-    while i < s.len() {
-        let to = plain_to(scan.left, s, i);
-        if i < to {
-            if !text::begins(&s[i..to], &t[j..]) {
-                return false;
+    for part in (Stretches { escapes, rest: s }) {
+        match part {
+            Stretch::Run(run) => {
+                if !text::begins(run, &t[j..]) {
+                    return false;
+                }
+                j += run.len();
             }
-            j += to - i;
-            i = to;
-        } else {
-            let letter = letter_at(scan.left, s, i);
-            if 0 < letter {
-                let one = [letter - 1];
-                if !goes_on(t, j, &one) {
+            Stretch::One(c) => {
+                if !goes_on(t, j, &c.bytes()[..c.width]) {
                     return false;
                 }
-                j += 1;
-                i += 2;
-            } else {
-                scan = scan.step(s[i]);
-                let n = scan.n;
-                let b = scan.bytes();
-                if !goes_on(t, j, &b[..n]) {
-                    return false;
-                }
-                j += n;
-                i += 1;
+                j += c.width;
             }
         }
     }
     j == t.len()
 }
 
-// Writes the text from the scan on, as far as out goes; its length.
-fn write_from(start: Scan, s: &[u8], out: &mut [u8]) -> usize
-    requires { Starts start }
-    ensures { (result ≡ length (undone start s.now)) × (out.new ≡ over (low (undone start s.now)) out.old) }
+// Writes the text with its escapes undone over the front of out, as far as out goes; its length.
+pub fn write_undone(escapes: Escapes, s: &[u8], out: &mut [u8]) -> usize
+    ensures { Written (escapes ≡ Quoted → bad_escape s.now ≡ false) (undone escapes s.now) out.old out.new result }
 {
     if !has_backslash(s) {
         text::copy(s, out);
         return s.len();
     }
-    let mut scan = start;
-    let mut i: usize = 0;
     let mut j: usize = 0;
-    while i < s.len() {
-        let to = plain_to(scan.left, s, i);
-        if i < to {
-            put_plain(out, j, &s[i..to]);
-            j += to - i;
-            i = to;
-        } else {
-            let letter = letter_at(scan.left, s, i);
-            if 0 < letter {
-                let one = [letter - 1];
-                put(out, j, &one);
-                j += 1;
-                i += 2;
-            } else {
-                scan = scan.step(s[i]);
-                let n = scan.n;
-                let b = scan.bytes();
-                put(out, j, &b[..n]);
-                j += n;
-                i += 1;
+    for part in (Stretches { escapes, rest: s }) {
+        match part {
+            Stretch::Run(run) => {
+                put_plain(out, j, run);
+                j += run.len();
+            }
+            Stretch::One(c) => {
+                put(out, j, &c.bytes()[..c.width]);
+                j += c.width;
             }
         }
     }
@@ -448,66 +339,15 @@ pub fn has_bad_escape(s: &[u8]) -> bool
     if !has_backslash(s) {
         return false;
     }
-    let mut scan = Scan::text();
-    let mut i: usize = 0;
-    while i < s.len() {
-        let to = plain_to(scan.left, s, i);
-        if i < to {
-            i = to;
-        } else {
-            let letter = letter_at(scan.left, s, i);
-            if 0 < letter {
-                i += 2;
-            } else {
-                scan = scan.step(s[i]);
-                if is_bad(scan) {
-                    return true;
-                }
-                i += 1;
+    for part in (Stretches {
+        escapes: Escapes::Quoted,
+        rest: s,
+    }) {
+        if let Stretch::One(c) = part {
+            if c.is_bad() {
+                return true;
             }
         }
     }
     false
-}
-
-// How long a string or a reference is with its escapes undone.
-pub fn unescaped_length(s: &[u8]) -> usize
-    ensures { result ≡ length (unescape s.now) }
-{
-    length_from(Scan::text(), s)
-}
-
-// Whether t is the string or the reference with its escapes undone.
-pub fn same_unescaped(s: &[u8], t: &[u8]) -> bool
-    ensures { result ≡ same_text (unescape s.now) t.now }
-{
-    same_from(Scan::text(), s, t)
-}
-
-// Writes a string or a reference with its escapes undone over the front of out, as far as out goes; its length.
-pub fn write_unescaped(s: &[u8], out: &mut [u8]) -> usize
-    ensures { Written (bad_escape s.now ≡ false) (unescape s.now) out.old out.new result }
-{
-    write_from(Scan::text(), s, out)
-}
-
-// How long a local name is with its escapes undone.
-pub fn unreserved_length(s: &[u8]) -> usize
-    ensures { result ≡ length (unreserve s.now) }
-{
-    length_from(Scan::name(), s)
-}
-
-// Whether t is the local name with its escapes undone.
-pub fn same_unreserved(s: &[u8], t: &[u8]) -> bool
-    ensures { result ≡ same_text (unreserve s.now) t.now }
-{
-    same_from(Scan::name(), s, t)
-}
-
-// Writes a local name with its escapes undone over the front of out, as far as out goes; its length.
-pub fn write_unreserved(s: &[u8], out: &mut [u8]) -> usize
-    ensures { (result ≡ length (unreserve s.now)) × (out.new ≡ over (unreserve s.now) out.old) }
-{
-    write_from(Scan::name(), s, out)
 }

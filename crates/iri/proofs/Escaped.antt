@@ -1,22 +1,25 @@
 -- A scheme, looked for in an escaped text piece by piece.
 use Prim.Native.Nat.{ℕ, zero, suc, ◌+◌, ◌/◌, ◌≤◌, ◌<◌}
-use mathlib.Core.Path.{◌≡◌, refl, ◌∙◌}
+use mathlib.Core.Path.{◌≡◌, refl, ap, sym, ◌∙◌}
+use mathlib.Core.Logic.{◌⊎◌, inl, inr}
+use native.Mathlib.Numerals.{add-one}
 use mathlib.Core.List.{[], ◌∷◌, ◌++◌}
 use mathlib.Core.Bool.{Bool, true, false, not, ◌&&◌, ◌||◌}
 use native.Mathlib.Omega.{arith}
-use lib.ListN.{length, get_or, drop}
-use lib.Dec.{eqb, leb}
-use borrow.Author.Tests.{ne_eqb, lt-ltb, lt-leb}
-use Rattle.text.specs.Text.{Text, cond, is, from}
-use Rattle.text.proofs.Compare.{by}
+use lib.ListN.{length, get_or, drop, drop_of_length-le}
+use lib.Seq.{drop-cons}
+use lib.Dec.{leb}
+use borrow.Author.Tests.{ne_eqb, le-ltb, lt-leb}
+use Rattle.text.specs.Text.{Text, is, from}
+use Rattle.text.proofs.Compare.{by, contrary}
 use Rattle.escape.specs.Escape.{unescape}
-use Rattle.escape.specs.Code.{step, four, piece, undone, Fair}
-use Rattle.escape.specs.declared.Scan.{Scan}
-use Rattle.escape.proofs.Walk.{fair_more, undone_more, undone_end, text_start}
+use Rattle.std.specs.Prelude.{Option, Some, None, is_some}
+use Rattle.escape.specs.Code.{undone, four, encoded, shown, Yields}
+use Rattle.escape.specs.declared.Escapes.TheVariants.{Quoted}
+use Rattle.escape.specs.declared.Character.{Character}
+use Rattle.escape.specs.declared.Stretch.{Stretch}
 use Rattle.iri.specs.Iri.{letter, scheme_byte, first_is, has_scheme}
-use Rattle.iri.specs.Code.{scheme_from, verdict, later}
-use Rattle.iri.specs.declared.Verdict.{Verdict}
-use Rattle.iri.specs.declared.Verdict.TheVariants.{More, Yes, No}
+use Rattle.iri.specs.Code.{scheme_from, verdict, told, Judges}
 
 later_from : (s : Text) → first_is (is ":") (from (λ c. not (scheme_byte c)) s) ≡ scheme_from false s
 unfolding from scheme_from
@@ -28,12 +31,6 @@ pub byte_by_byte : (s : Text) → has_scheme s ≡ scheme_from true s
 unfolding has_scheme from scheme_from
 byte_by_byte [] = refl
 byte_by_byte (c ∷ s) = by (letter c) (λ e. rw e (later_from s)) (λ e. rw e)
-
--- What a verdict says, where the bytes after it say r.
-told : Verdict → Bool → Bool
-told More r = r
-told Yes r = true
-told No r = false
 
 high_letter : (c : ℕ) → 122 < c → letter c ≡ false
 high_letter c h = rw (lt-leb c 90 (omega arith), lt-leb c 122 h) (both (leb 65 c) (leb 97 c))
@@ -56,90 +53,80 @@ unfolding scheme_from
 high_none true c s h = rw (high_letter c h)
 high_none false c s h = rw (high_scheme c h, ne_eqb c 58 (λ e. omega arith))
 
-one_byte : (first : Bool) (v : ℕ) (s : Text) → scheme_from first (v ∷ s) ≡ told (verdict first 1 v) (scheme_from false s)
-unfolding scheme_from verdict told
+pub one_byte : (first : Bool) (v : ℕ) (s : Text) → scheme_from first (v ∷ s) ≡ told (verdict first v) (scheme_from false s)
+unfolding scheme_from verdict
 one_byte true v s = by (letter v) (λ e. rw e) (λ e. rw e)
-one_byte false v s = by (scheme_byte v) (λ e. rw e) (λ e. rw e (by (eqb v 58) (λ f. rw f) (λ f. rw f)))
+one_byte false v s = by (scheme_byte v) (λ e. rw e) (λ e. rw e)
 
--- What a piece of n bytes says of the scheme that the rest may go on with.
-abbrev Says : Bool → Scan → Text → Type 0
-Says first t s = scheme_from first (piece t ++ s) ≡ told (verdict first t.n t.value) (scheme_from (later first t.n) s)
+-- A run of bytes: they are judged one by one.
+module _ (s : Text) (first : Bool) where
+  pub record Judging (i : ℕ) (start : Bool) : Type 0 where
+    pub later : 0 < i → start ≡ false
+    pub same : (t : Text) → scheme_from first (s ++ t) ≡ scheme_from start (drop i s ++ t)
 
-of_none : (first : Bool) (t : Scan) (s : Text) → t.n ≡ 0 → Says first t s
-unfolding piece verdict told
-of_none first t s e = rw e
+  pub judging_start : Judging 0 first
+  judging_start = record { later = λ h. absurd (omega arith); same = λ t. refl }
 
-of_one : (first : Bool) (t : Scan) (s : Text) → t.n ≡ 1 → Says first t s
-unfolding piece four
-of_one first t s e = rw e (one_byte first t.value s)
+  module _ (i : ℕ) (start : Bool) (h : i < length s) (j : Judging i start) (v : Option Bool) (ev : v ≡ verdict start (get_or s i 0)) where
+    judged : (t : Text) → scheme_from first (s ++ t) ≡ told v (scheme_from false (drop (i + 1) s ++ t))
+    judged t = j.same t ∙ rw (drop-cons s i 0 h, add-one i, ev) (one_byte start (get_or s i 0) (drop (suc i) s ++ t))
 
-of_two : (first : Bool) (t : Scan) (s : Text) → t.n ≡ 2 → Says first t s
-unfolding piece four verdict told
-of_two first t s e = rw e (high_none first (0xC0 + t.value / 64) _ (omega arith))
+    pub judging_known : is_some v ≡ true → Judges first s v
+    unfolding Judges
+    judging_known e = λ t. judged t ∙ any v e (scheme_from false (drop (i + 1) s ++ t)) (scheme_from false t)
+      where
+        any : (v : Option Bool) → is_some v ≡ true → (a b : Bool) → told v a ≡ told v b
+        any None e a b = contrary (sym e)
+        any (Some k) e a b = refl
 
-of_three : (first : Bool) (t : Scan) (s : Text) → t.n ≡ 3 → Says first t s
-unfolding piece four verdict told
-of_three first t s e = rw e (high_none first (0xE0 + t.value / 4096) _ (omega arith))
+    pub judging_more : is_some v ≡ false → Judging (i + 1) false
+    judging_more e = record { later = λ k. refl; same = λ t. judged t ∙ none v e (scheme_from false (drop (i + 1) s ++ t)) }
+      where
+        none : (v : Option Bool) → is_some v ≡ false → (a : Bool) → told v a ≡ a
+        none None e a = refl
+        none (Some k) e a = contrary e
 
-of_four : (first : Bool) (t : Scan) (s : Text) → t.n ≡ 4 → Says first t s
-unfolding piece four verdict told
-of_four first t s e = rw e (high_none first (0xF0 + t.value / 262144) _ (omega arith))
+  pub judging_end : (i : ℕ) (start : Bool) → 0 < length s → length s ≤ i → Judging i start → Judges first s None
+  unfolding Judges
+  judging_end i start some h j = λ t. j.same t ∙ rw (j.later (omega arith), drop_of_length-le s {i = i} h)
 
-by_piece : (first : Bool) (t : Scan) (s : Text) → t.n ≤ 4 → Says first t s
-by_piece first t s h = go t.n refl h
-  where
-    go : (n : ℕ) → t.n ≡ n → n ≤ 4 → Says first t s
-    go zero e h = of_none first t s e
-    go (suc zero) e h = of_one first t s e
-    go (suc (suc zero)) e h = of_two first t s e
-    go (suc (suc (suc zero))) e h = of_three first t s e
-    go (suc (suc (suc (suc zero)))) e h = of_four first t s e
-    go (suc (suc (suc (suc (suc n))))) e h = absurd (omega arith)
-
--- The walk: its start, a turn, and its end.
-pub walk_start : (s : Scan) → (s.left ≡ 0) × ((s.value ≡ 0) × (s.n ≡ 0)) → (cs : Text) → has_scheme (unescape cs) ≡ scheme_from true (undone s cs)
-walk_start s e cs = byte_by_byte (unescape cs) ∙ rw (text_start s e cs)
-
-module _ (s t : Scan) (cs : Text) (i : ℕ) (h : i < length cs) (f : Fair s) (e : t ≡ step s (get_or cs i 0)) (small : get_or cs i 0 < 256) (first : Bool) (v : Verdict) (ev : v ≡ verdict first t.n t.value) where
-  turn_says : scheme_from first (undone s (drop i cs)) ≡ told v (scheme_from (later first t.n) (undone t (drop (i + 1) cs)))
-  turn_says = rw (undone_more s t cs i h f e small, ev) (by_piece first t (undone t (drop (i + 1) cs)) (fair_more s t cs i h f e small).small)
-
-  pub walk_yes : v ≡ Yes → scheme_from first (undone s (drop i cs)) ≡ true
-  unfolding told
-  walk_yes q = turn_says ∙ rw q
-
-  pub walk_no : v ≡ No → scheme_from first (undone s (drop i cs)) ≡ false
-  unfolding told
-  walk_no q = turn_says ∙ rw q
-
-  pub walk_more : (later_first : Bool) → later_first ≡ later first t.n → v ≡ More → scheme_from first (undone s (drop i cs)) ≡ scheme_from later_first (undone t (drop (i + 1) cs))
-  unfolding told
-  walk_more g eg q = turn_says ∙ rw (q, eg)
-
-pub walk_end : (s : Scan) (cs : Text) (i : ℕ) (first : Bool) → length cs ≤ i → scheme_from first (undone s (drop i cs)) ≡ false
-unfolding scheme_from
-walk_end s cs i first h = rw (undone_end s cs i h)
-
--- A verdict by how many bytes there are.
-module _ (first : Bool) (n v : ℕ) where
-  pub judged_none : n ≡ 0 → More ≡ verdict first n v
-  unfolding verdict
-  judged_none e = rw e
-
-  pub judged_many : 1 < n → No ≡ verdict first n v
-  unfolding verdict
-  judged_many h = rw (ne_eqb n 0 (λ e. omega arith), lt-ltb 1 n h)
-
-  one_is : (n ≡ 0 → ⊥) → n ≤ 1 → n ≡ 1
-  one_is h g = omega arith
-
-  pub judged_high : (n ≡ 0 → ⊥) → n ≤ 1 → 122 < v → No ≡ verdict first n v
-  unfolding verdict
-  judged_high h g k = rw (one_is h g, high_scheme v k, high_letter v k, ne_eqb v 58 (λ e. omega arith)) (either first)
+-- An escape.
+module _ (first : Bool) (c : Character) where
+  pub escape_long : 0 < c.width → (1 < c.width) ⊎ (255 < c.value) → Judges first (encoded c) (Some false)
+  unfolding Judges encoded four
+  escape_long some long = λ t. go c.width refl some long t
     where
-      either : (b : Bool) → No ≡ cond b No No
-      either true = refl
-      either false = refl
+      go : (n : ℕ) → c.width ≡ n → 0 < n → (1 < n) ⊎ (255 < c.value) → (t : Text) → scheme_from first (encoded c ++ t) ≡ false
+      go zero e h k t = absurd (omega arith)
+      go (suc zero) e h (inl k) t = absurd (omega arith)
+      go (suc zero) e h (inr k) t = rw e (high_none first c.value t (omega arith))
+      go (suc (suc zero)) e h k t = rw e (high_none first (0xC0 + c.value / 64) _ (omega arith))
+      go (suc (suc (suc zero))) e h k t = rw e (high_none first (0xE0 + c.value / 4096) _ (omega arith))
+      go (suc (suc (suc (suc zero)))) e h k t = rw e (high_none first (0xF0 + c.value / 262144) _ (omega arith))
+      go (suc (suc (suc (suc (suc n))))) e h k t =
+          let w : ℕ = suc (suc (suc (suc (suc n)))) in
+          rw (e, le-ltb w 2 (omega arith), ne_eqb w 2 (λ q. omega arith), ne_eqb w 3 (λ q. omega arith)) (high_none first (0xF0 + c.value / 262144) _ (omega arith))
 
-  pub judged_one : (r : Verdict) → (n ≡ 0 → ⊥) → n ≤ 1 → r ≡ verdict first 1 v → r ≡ verdict first n v
-  judged_one r h g e = e ∙ rw (one_is h g)
+  pub escape_byte : c.width ≡ 1 → (v : Option Bool) → v ≡ verdict first c.value → Judges first (encoded c) v
+  unfolding Judges encoded four
+  escape_byte e v ev = λ t. rw (e, ev) (one_byte first c.value t)
+
+-- A part more.
+module _ (s t : Text) (p : Stretch) (y : Yields Quoted s t p) (first : Bool) (v : Option Bool) (j : Judges first (shown p) v) where
+  walked : scheme_from first (undone Quoted s) ≡ told v (scheme_from false (undone Quoted t))
+  unfolding Judges
+  walked = ap (scheme_from first) y.text ∙ j (undone Quoted t)
+
+  pub walk_known : (k : Bool) → v ≡ Some k → scheme_from first (undone Quoted s) ≡ k
+  walk_known k e = walked ∙ rw e
+
+  pub walk_more : v ≡ None → scheme_from first (undone Quoted s) ≡ scheme_from false (undone Quoted t)
+  walk_more e = walked ∙ rw e
+
+pub walk_end : (s : Text) (first : Bool) → undone Quoted s ≡ [] → scheme_from first (undone Quoted s) ≡ false
+unfolding scheme_from
+walk_end s first e = rw e
+
+pub walk_start : (s : Text) → has_scheme (unescape s) ≡ scheme_from true (undone Quoted s)
+unfolding undone
+walk_start s = byte_by_byte (unescape s)

@@ -14,7 +14,6 @@ use Rattle.text.specs.Text.{Text, cond, is, until, from, some_byte}
 use Rattle.text.proofs.Compare.{by}
 use Rattle.iri.specs.Dots.{without_last_segment}
 use Rattle.iri.specs.Resolve.{up_to_last_slash}
-use denote.Ref.{MutBor, at_last}
 use Rattle.iri.specs.Code.{before, slash_end, window, Moved}
 
 pub window_length : (l : Text) (at end : ℕ) → end ≤ length l → length (window l at end) ≡ end - at
@@ -66,11 +65,10 @@ unfolding before
 before_end f s i h = rw (lib.ListN.drop_of_length-le s h)
 
 -- nothing moved yet
-pub moved_none : (x : MutBor (Text)) (at w : ℕ) → at ≤ length x.now → Moved x x at w 0
+pub moved_none : (x : Text) (at w : ℕ) → at ≤ length x → Moved x x at w 0
 moved_none x at w h = record {
-  ref = refl;
   size = refl;
-  front = rw (add-zero w) (sym (append-nil (take w x.now)));
+  front = rw (add-zero w) (sym (append-nil (take w x)));
   back = refl;
   fits = omega arith;
 }
@@ -81,27 +79,26 @@ by_drop a b i e =
     (sym (get_or-drop i a 0 0) ∙ ap (λ (l : Text). get_or l 0 0) e ∙ get_or-drop i b 0 0)
 
 -- what is next to move has not changed
-pub moved_next : (x y : MutBor (Text)) (at end w n : ℕ) → Moved x y at w n → at + n < end → get_or y.now (at + n) 0 ≡ get_or (window x.now at end) n 0
-moved_next x y at end w n m h = by_drop y.now x.now (at + n) m.back ∙ window_get x.now at end n h
+pub moved_next : (x y : Text) (at end w n : ℕ) → Moved x y at w n → at + n < end → get_or y (at + n) 0 ≡ get_or (window x at end) n 0
+moved_next x y at end w n m h = by_drop y x (at + n) m.back ∙ window_get x at end n h
 
 -- one byte more
-pub moved_more : (x y : MutBor (Text)) (at w n : ℕ) → Moved x y at w n → w ≤ at → at + n < length x.now
-    → Moved x (at_last y (set y.now (w + n) (get_or y.now (at + n) 0))) at w (n + 1)
+pub moved_more : (x y : Text) (at w n : ℕ) → Moved x y at w n → w ≤ at → at + n < length x
+    → Moved x (set y (w + n) (get_or y (at + n) 0)) at w (n + 1)
 moved_more x y at w n m h g =
-    let size : length y.now ≡ length x.now = m.size in
-    let same : get_or y.now (at + n) 0 ≡ get_or (drop at x.now) n 0 = by_drop y.now x.now (at + n) m.back ∙ sym (get_or-drop at x.now n 0) in
-    let long : length (drop at x.now) ≡ length x.now - at = length-drop at x.now in
+    let size : length y ≡ length x = m.size in
+    let same : get_or y (at + n) 0 ≡ get_or (drop at x) n 0 = by_drop y x (at + n) m.back ∙ sym (get_or-drop at x n 0) in
+    let long : length (drop at x) ≡ length x - at = length-drop at x in
     record {
-      ref = ap (λ (z : MutBor (Text)). at_last z (set y.now (w + n) (get_or y.now (at + n) 0))) m.ref;
-      size = length-set y.now (w + n) _ ∙ size;
+      size = length-set y (w + n) _ ∙ size;
       front =
           let k : w + (n + 1) ≡ suc (w + n) = omega arith in
-          rw (k, take-suc-set y.now (w + n) (get_or y.now (at + n) 0) (omega arith), m.front, add-one n, take-suc (drop at x.now) n 0 (omega arith), same)
-          (append_assoc (take w x.now) (take n (drop at x.now)) _);
+          rw (k, take-suc-set y (w + n) (get_or y (at + n) 0) (omega arith), m.front, add-one n, take-suc (drop at x) n 0 (omega arith), same)
+          (append_assoc (take w x) (take n (drop at x)) _);
       back =
           let k : at + (n + 1) ≡ at + n + 1 = omega arith in
-          drop-set-lt (at + (n + 1)) y.now (w + n) _ (omega arith)
-          ∙ rw (k, ← drop-drop 1 (at + n) y.now, ← drop-drop 1 (at + n) x.now, m.back);
+          drop-set-lt (at + (n + 1)) y (w + n) _ (omega arith)
+          ∙ rw (k, ← drop-drop 1 (at + n) y, ← drop-drop 1 (at + n) x, m.back);
       fits = omega arith;
     }
 
@@ -112,16 +109,6 @@ cut_here l n e = rw (add-one, e)
 pub cut_on : (l : Text) (n : ℕ) → (get_or l n 0 ≡ 47 → ⊥) → slash_end l (n + 1) ≡ slash_end l n
 unfolding slash_end
 cut_on l n e = rw (add-one, ne_eqb (get_or l n 0) 47 e)
-
--- a reference that has not changed has the same length
-pub len_of : {x y : MutBor (Text)} → x ≡ y → length x.now ≡ length y.now
-len_of e = ap (λ (z : MutBor (Text)). length z.now) e
-
-pub now_of : {x y : MutBor (Text)} → x ≡ y → x.now ≡ y.now
-now_of e = ap (λ (z : MutBor (Text)). z.now) e
-
-pub past_read : (l x : Text) (at end c : ℕ) → end ≤ length l → x ≡ l → c ≡ get_or (window x at end) 1 0 → end - at ≡ 1 → c ≡ 0
-past_read l x at end c h e r n = r ∙ rw e (sym (window_past l at end 1 h (omega arith)))
 
 -- The definitions cut texts at a test; the code cuts them at a place.
 pub until_take : (p : ℕ → Bool) (s : Text) → until p s ≡ take (before p s) s

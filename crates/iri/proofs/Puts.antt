@@ -17,8 +17,9 @@ use Rattle.iri.specs.Resolve.{resolve, resolve_with_dots, resolved}
 use Rattle.iri.specs.Code.{before, stop, plan_of, Planned, Removed, Holds, relative_answer, answer, reference, Resolved, ResolvedAt}
 use Rattle.iri.specs.declared.Part.TheVariants.{Colon}
 use Rattle.iri.specs.declared.Plan.{Plan}
-use Rattle.iri.specs.declared.Resolution.{Resolution}
-use Rattle.iri.specs.declared.Resolution.TheVariants.{Written, Long, NoBase}
+use Rattle.std.specs.Prelude.{Result, Ok, Err}
+use Rattle.iri.specs.declared.ResolveError.{ResolveError}
+use Rattle.iri.specs.declared.ResolveError.TheVariants.{Long, NoBase}
 use Rattle.iri.proofs.Buffer.{window_as}
 use Rattle.iri.proofs.Plans.{planned}
 
@@ -211,7 +212,7 @@ module _ (base x : Text) (start : ℕ) (colon : before (stop Colon) base < lengt
   sum_is : length (resolve_with_dots base (drop start x)) ≡ p.keep + p.slash + (length x - start)
   sum_is = (plan_facts base (drop start x) colon p ep).sum ∙ ap (λ (n : ℕ). p.keep + p.slash + n) (length-drop start x)
 
-  pub long_at : start < p.keep + p.slash → ResolvedAt base x x start Long
+  pub long_at : start < p.keep + p.slash → ResolvedAt base x x start (Err Long)
   unfolding relative_answer
   long_at h = record {
     is = rw (lt-ltb (length x) (length (resolve_with_dots base (drop start x))) (omega (arith, sum_is)));
@@ -219,7 +220,7 @@ module _ (base x : Text) (start : ℕ) (colon : before (stop Colon) base < lengt
     front = λ k e. absurd (let z : ◌≡◌ {A = ℕ} 0 1 = cc in omega arith);
   }
 
-  pub written_at : (y : Text) (r : ℕ) → p.keep + p.slash ≤ start → Holds base (drop start x) x y r → ResolvedAt base x y start (Written r)
+  pub written_at : (y : Text) (r : ℕ) → p.keep + p.slash ≤ start → Holds base (drop start x) x y r → ResolvedAt base x y start (Ok r)
   unfolding relative_answer
   written_at y r h d = record {
     is = rw (le-ltb (length x) (length (resolve_with_dots base (drop start x))) (omega (arith, sum_is)), d.long);
@@ -236,11 +237,11 @@ plan_of_tail base x start p e = e ∙ rw (tail_all x start)
 
 -- The answers of resolving the end of a buffer.
 module _ (base x : Text) (n : ℕ) where
-  pub too_long : length x < n → Resolved base x x n Long
+  pub too_long : length x < n → Resolved base x x n (Err Long)
   too_long h = record { is = rw (lt-ltb (length x) n h); size = refl; front = λ k e. absurd (let z : ◌≡◌ {A = ℕ} 0 1 = cc in omega arith) }
 
   module _ (fits : n ≤ length x) where
-    pub as_written : has_scheme (drop (length x - n) x) ≡ true → (y : Text) → y ≡ over_at 0 (take n (drop (length x - n) x)) x → Resolved base x y n (Written n)
+    pub as_written : has_scheme (drop (length x - n) x) ≡ true → (y : Text) → y ≡ over_at 0 (take n (drop (length x - n) x)) x → Resolved base x y n (Ok n)
     unfolding answer reference resolved
     as_written h y e =
         let ref : Text = drop (length x - n) x in
@@ -256,11 +257,11 @@ module _ (base x : Text) (n : ℕ) where
         }
 
     module _ (rel : has_scheme (drop (length x - n) x) ≡ false) where
-      pub against_base : has_scheme base ≡ true → (y : Text) (a : Resolution) → ResolvedAt base x y (length x - n) a → Resolved base x y n a
+      pub against_base : has_scheme base ≡ true → (y : Text) (a : Result ℕ ResolveError) → ResolvedAt base x y (length x - n) a → Resolved base x y n a
       unfolding answer reference resolved
       against_base h y a d = record { is = d.is ∙ rw (le-ltb (length x) n fits, rel, h); size = d.size; front = λ k e. rw rel (d.front k e) }
 
-      pub no_base : has_scheme base ≡ false → Resolved base x x n NoBase
+      pub no_base : has_scheme base ≡ false → Resolved base x x n (Err NoBase)
       unfolding answer reference
       no_base h = record { is = rw (le-ltb (length x) n fits, rel, h); size = refl; front = λ k e. absurd (let z : ◌≡◌ {A = ℕ} 0 1 = cc in omega arith) }
 

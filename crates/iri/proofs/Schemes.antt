@@ -3,43 +3,19 @@ use Prim.Native.Nat.{ℕ, zero, suc, ◌+◌, ◌≤◌, ◌<◌}
 use mathlib.Core.Path.{◌≡◌, refl, sym, ◌∙◌}
 use mathlib.Core.List.{[], ◌∷◌, ◌++◌, append_assoc}
 use native.Mathlib.Numerals.{add-one}
-use mathlib.Core.Bool.{Bool, true, false, not, ◌&&◌, ◌||◌}
+use mathlib.Core.Bool.{Bool, true, false, not, ◌&&◌}
 use native.Mathlib.Omega.{arith}
 use lib.ListN.{length, get_or, take, drop, drop_of_length-le}
 use lib.Seq.{take-suc, drop-drop}
-use lib.Dec.{eqb, leb, ltb}
-use borrow.Author.Tests.{ne_eqb, eqb-true, le-leb, lt-leb, ltb-true, ltb-false}
+use lib.Dec.{eqb, ltb}
+use borrow.Author.Tests.{eqb-true, ltb-true, ltb-false}
 use Rattle.text.specs.Text.{Text, is}
 use Rattle.text.proofs.Compare.{by, contrary, and_right, and_false}
-use Rattle.iri.specs.Iri.{letter, scheme_byte, first_is, has_scheme, scheme, after_scheme, forbidden}
+use Rattle.iri.specs.Iri.{letter, scheme_byte, first_is, has_scheme, scheme, after_scheme}
 use Rattle.iri.specs.Code.{before, stop, scheme_end}
 use Rattle.iri.specs.declared.Part.{Part}
 use Rattle.iri.specs.declared.Part.TheVariants.{Scheme, Colon}
 use Rattle.iri.proofs.Places.{until_take, from_drop}
-
-or_right : (a b : Bool) → b ≡ true → true ≡ (a || b)
-or_right true b e = refl
-or_right false b e = sym e
-
-module _ (c : ℕ) where
-  pub scheme_letter : letter c ≡ true → true ≡ scheme_byte c
-  scheme_letter e = rw e
-
-  pub scheme_plus : c ≡ 43 → true ≡ scheme_byte c
-  scheme_plus e = rw e
-
-  pub scheme_minus : c ≡ 45 → true ≡ scheme_byte c
-  scheme_minus e = rw e
-
-  pub scheme_dot : c ≡ 46 → true ≡ scheme_byte c
-  scheme_dot e = rw e
-
-  module _ (l : letter c ≡ false) (p : c ≡ 43 → ⊥) (m : c ≡ 45 → ⊥) (d : c ≡ 46 → ⊥) where
-    pub scheme_low : c < 48 → false ≡ scheme_byte c
-    scheme_low h = rw (l, lt-leb 48 c h, ne_eqb c 43 p, ne_eqb c 45 m, ne_eqb c 46 d)
-
-    pub scheme_digit : 48 ≤ c → leb c 57 ≡ scheme_byte c
-    scheme_digit h = rw (l, le-leb 48 c h, ne_eqb c 43 p, ne_eqb c 45 m, ne_eqb c 46 d) (by (leb c 57) (λ e. rw e) (λ e. rw e))
 
 -- What ends a part.
 pub stop_as : {p k : Part} (c : ℕ) {r : Bool} → p ≡ k → r ≡ stop k c → r ≡ stop p c
@@ -114,12 +90,3 @@ module _ (s : Text) (h : before (stop Colon) s < length s) where
   pub scheme_rest : after_scheme s ≡ drop (scheme_end s) s
   unfolding after_scheme scheme_end stop
   scheme_rest = rw (from_drop (is ":") s) (drop-drop 1 (before (stop Colon) s) s)
-
-pub or_false : (b : Bool) → (b || false) ≡ b
-or_false true = refl
-or_false false = refl
-
--- The last byte that an IRIREF forbids unescaped.
-pub forbidden_last : (c : ℕ) → 0x20 < c → (c ≡ 60 → ⊥) → (c ≡ 62 → ⊥) → (c ≡ 34 → ⊥) → (c ≡ 123 → ⊥) → (c ≡ 125 → ⊥) → (c ≡ 124 → ⊥) → (c ≡ 94 → ⊥) → (c ≡ 96 → ⊥) → eqb c 92 ≡ forbidden c
-forbidden_last c h n1 n2 n3 n4 n5 n6 n7 n8 =
-    rw (lt-leb c 0x20 h, ne_eqb c 60 n1, ne_eqb c 62 n2, ne_eqb c 34 n3, ne_eqb c 123 n4, ne_eqb c 125 n5, ne_eqb c 124 n6, ne_eqb c 94 n7, ne_eqb c 96 n8) (sym (or_false (eqb c 92)))

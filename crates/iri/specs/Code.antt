@@ -1,6 +1,5 @@
 -- What the routines promise each other.
-use Rattle.std.specs.Prelude.{ℕ, zero, suc, ◌+◌, ◌-◌, ◌≤◌, ◌≡◌, [], ◌∷◌, ◌++◌, Bool, true, false, not, ◌&&◌, ◌||◌, length, take, drop, get_or, replicate, eqb, ltb}
-use denote.Ref.{MutBor, at_last}
+use Rattle.std.specs.Prelude.{Option, Some, None, Result, Ok, Err, ℕ, zero, suc, ◌+◌, ◌-◌, ◌≤◌, ◌≡◌, [], ◌∷◌, ◌++◌, Bool, true, false, not, ◌&&◌, ◌||◌, length, take, drop, get_or, replicate, eqb, ltb}
 use Rattle.text.specs.Text.{Text, ascii, cond, is, one_of, begins, same_text}
 use Rattle.iri.specs.Iri.{letter, scheme_byte, has_scheme}
 use Rattle.iri.specs.Dots.{buffers, turn, turns, remove_dot_segments}
@@ -8,14 +7,12 @@ use Rattle.iri.specs.Resolve.{resolve, resolve_with_dots, resolved}
 use Rattle.iri.specs.declared.Rule.{Rule}
 use Rattle.iri.specs.declared.Rule.TheVariants.{UpSlash, HereSlash, SlashHere, SlashHereEnd, SlashUp, SlashUpEnd, Dots, Segment}
 use Rattle.iri.specs.declared.Turn.{Turn}
-use Rattle.iri.specs.declared.Verdict.{Verdict}
-use Rattle.iri.specs.declared.Verdict.TheVariants.{More, Yes, No}
 use Rattle.iri.specs.declared.Part.{Part}
 use Rattle.iri.specs.declared.Part.TheVariants.{Authority, Path, Query, Scheme, Colon}
 use Rattle.iri.specs.declared.Ends.{Ends}
 use Rattle.iri.specs.declared.Plan.{Plan}
-use Rattle.iri.specs.declared.Resolution.{Resolution}
-use Rattle.iri.specs.declared.Resolution.TheVariants.{Written, Long, NoBase}
+use Rattle.iri.specs.declared.ResolveError.{ResolveError}
+use Rattle.iri.specs.declared.ResolveError.TheVariants.{Long, NoBase}
 
 -- How many bytes stand before the first that passes the test.
 unfoldable pub before : (ℕ → Bool) → Text → ℕ
@@ -33,16 +30,19 @@ scheme_from first [] = false
 scheme_from true (c ∷ s) = let r = scheme_from false s in cond (letter c) r false
 scheme_from false (c ∷ s) = let r = scheme_from false s in cond (scheme_byte c) r (is ":" c)
 
--- What the n bytes that a character has in UTF-8 say of it; v is the character, or the byte where it is one.
-unfoldable pub verdict : Bool → ℕ → ℕ → Verdict
-verdict first n v =
-    cond (eqb n 0) More
-    (cond (ltb 1 n) No
-    (cond first (cond (letter v) More No)
-    (cond (scheme_byte v) More (cond (eqb v 58) Yes No))))
+-- What a byte says of a scheme, at its first place and later: whether there is one, or nothing yet.
+unfoldable pub verdict : Bool → ℕ → Option Bool
+verdict true c = cond (letter c) None (Some false)
+verdict false c = cond (scheme_byte c) None (Some (eqb c 58))
 
-abbrev pub later : Bool → ℕ → Bool
-later first n = cond (ltb 0 n) false first
+-- What a verdict says, where the bytes after it say b.
+abbrev pub told : Option Bool → Bool → Bool
+told None b = b
+told (Some a) b = a
+
+-- The verdict on the bytes s, whatever follows them.
+unfoldable pub Judges : Bool → Text → Option Bool → Type 0
+Judges first s v = (t : Text) → scheme_from first (s ++ t) ≡ told v (scheme_from false t)
 
 -- What stands from at to the end.
 abbrev pub window : Text → ℕ → ℕ → Text
@@ -78,19 +78,17 @@ segment [] = 0
 segment (c ∷ s) = suc (before (is "/") s)
 
 -- n bytes from at have gone to w.
-pub record Moved (x y : MutBor Text) (at w n : ℕ) : Type 0 where
-  pub ref : y ≡ at_last x y.now
-  pub size : length y.now ≡ length x.now
-  pub front : take (w + n) y.now ≡ take w x.now ++ take n (drop at x.now)
-  pub back : drop (at + n) y.now ≡ drop (at + n) x.now
-  pub fits : at + n ≤ length x.now
+pub record Moved (x y : Text) (at w n : ℕ) : Type 0 where
+  pub size : length y ≡ length x
+  pub front : take (w + n) y ≡ take w x ++ take n (drop at x)
+  pub back : drop (at + n) y ≡ drop (at + n) x
+  pub fits : at + n ≤ length x
 
 -- One turn of 5.2.4's loop: the path from at to the end is left and the output is the first w bytes, before it; t says which after it.
-pub record Turned (x y : MutBor Text) (at end w : ℕ) (t : Turn) : Type 0 where
-  pub ref : y ≡ at_last x y.now
-  pub size : length y.now ≡ length x.now
-  pub turned : turn (buffers (take w x.now) (window x.now at end)) ≡ buffers (take t.w y.now) (window y.now t.at t.end)
-  pub back : drop end y.now ≡ drop end x.now
+pub record Turned (x y : Text) (at end w : ℕ) (t : Turn) : Type 0 where
+  pub size : length y ≡ length x
+  pub turned : turn (buffers (take w x) (window x at end)) ≡ buffers (take t.w y) (window y t.at t.end)
+  pub back : drop end y ≡ drop end x
   pub behind : t.w ≤ t.at
   pub inside : t.at ≤ t.end
   pub within : t.end ≤ end
@@ -100,14 +98,6 @@ pub record Turned (x y : MutBor Text) (at end w : ℕ) (t : Turn) : Type 0 where
 -- The turns from an input and an output until nothing is left.
 unfoldable pub clean : Text → Text → Text
 clean i o = (turns (length i) (buffers o i)).out
-
--- The first r bytes are what the turns give; nothing past the path has changed.
-pub record Cleaned (x y : MutBor Text) (at end w r : ℕ) : Type 0 where
-  pub ref : y ≡ at_last x y.now
-  pub size : length y.now ≡ length x.now
-  pub front : take r y.now ≡ clean (window x.now at end) (take w x.now)
-  pub back : drop end y.now ≡ drop end x.now
-  pub short : r + at ≤ w + end
 
 -- The first r bytes are the path of n bytes without its dot segments.
 pub record Removed (x y : Text) (n r : ℕ) : Type 0 where
@@ -183,25 +173,25 @@ pub record Holds (base ref x y : Text) (r : ℕ) : Type 0 where
   pub front : take r y ≡ resolve base ref
 
 -- What resolving a reference without a scheme against a base with one answers, and leaves in the buffer.
-unfoldable pub relative_answer : Text → Text → ℕ → Resolution
-relative_answer base ref room = cond (ltb room (length (resolve_with_dots base ref))) Long (Written (length (resolve base ref)))
+unfoldable pub relative_answer : Text → Text → ℕ → Result ℕ ResolveError
+relative_answer base ref room = cond (ltb room (length (resolve_with_dots base ref))) (Err Long) (Ok (length (resolve base ref)))
 
 -- "A reference with a scheme .. is taken as written"; "relative reference, no base in force"; an IRI "as resolved before
 -- its dot segments go" has to fit the buffer.
-unfoldable pub answer : Text → Text → ℕ → Resolution
-answer base ref room = cond (has_scheme ref) (Written (length ref)) (cond (has_scheme base) (relative_answer base ref room) NoBase)
+unfoldable pub answer : Text → Text → ℕ → Result ℕ ResolveError
+answer base ref room = cond (has_scheme ref) (Ok (length ref)) (cond (has_scheme base) (relative_answer base ref room) (Err NoBase))
 
 -- The reference is the end of the buffer, n bytes; what is written stands in its front.
 unfoldable pub reference : Text → ℕ → Text
 reference x n = drop (length x - n) x
 
-pub record Resolved (base x y : Text) (n : ℕ) (a : Resolution) : Type 0 where
-  pub is : a ≡ cond (ltb (length x) n) Long (answer base (reference x n) (length x))
+pub record Resolved (base x y : Text) (n : ℕ) (a : Result ℕ ResolveError) : Type 0 where
+  pub is : a ≡ cond (ltb (length x) n) (Err Long) (answer base (reference x n) (length x))
   pub size : length y ≡ length x
-  pub front : (k : ℕ) → a ≡ Written k → take k y ≡ resolved base (reference x n)
+  pub front : (k : ℕ) → a ≡ Ok k → take k y ≡ resolved base (reference x n)
 
 -- The same of a reference without a scheme that begins at a place, against a base with one.
-pub record ResolvedAt (base x y : Text) (start : ℕ) (a : Resolution) : Type 0 where
+pub record ResolvedAt (base x y : Text) (start : ℕ) (a : Result ℕ ResolveError) : Type 0 where
   pub is : a ≡ relative_answer base (drop start x) (length x)
   pub size : length y ≡ length x
-  pub front : (k : ℕ) → a ≡ Written k → take k y ≡ resolve base (drop start x)
+  pub front : (k : ℕ) → a ≡ Ok k → take k y ≡ resolve base (drop start x)

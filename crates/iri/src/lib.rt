@@ -5,14 +5,15 @@ ghost use Rattle.std.specs.Prelude.{◌≡◌, ◌++◌, true, false, not, ◌&&
 ghost use Rattle.text.specs.Text.{one_of, some_byte};
 ghost use Rattle.text.specs.Slice.{over, over_at};
 ghost use Rattle.escape.specs.Escape.{unescape};
+ghost use Rattle.escape.specs.Code.{encoded, shown, size};
 ghost use Rattle.iri.specs.Iri.{letter, scheme_byte, has_scheme, forbidden};
-ghost use Rattle.iri.specs.Code.{verdict, later, before, stop, slash_end, window, rule, rule_by, segment, Moved, Turned, Cleaned, Removed};
+ghost use Rattle.iri.specs.Code.{verdict, before, stop, slash_end, window, rule, rule_by, segment, Judges, Moved, Turned, Removed};
 ghost use Rattle.iri.specs.Code.{authority_length, ends_of, plan_by, plan_of, Holds, ResolvedAt, Resolved};
 
-use escape::Scan;
+use escape::{Character, Escapes, Stretch, Stretches};
 
 // The steps of RFC 3986, section 5.2.4, by what the rest of the path begins with.
-#[derive(Clone, Copy)]
+#[derive(Clone, Copy, Debug, PartialEq, Eq)]
 pub enum Rule {
     UpSlash, // 2A: "../"
     HereSlash, // 2A: "./"
@@ -25,7 +26,7 @@ pub enum Rule {
 }
 
 // What a text is cut into, each up to the first byte that it cannot hold; Colon stands behind a scheme.
-#[derive(Clone, Copy)]
+#[derive(Clone, Copy, Debug, PartialEq, Eq)]
 pub enum Part {
     Authority,
     Path,
@@ -34,16 +35,8 @@ pub enum Part {
     Colon,
 }
 
-// What a byte says of a scheme: it may go on, it has ended in a colon, there is none.
-#[derive(Clone, Copy)]
-pub enum Verdict {
-    More,
-    Yes,
-    No,
-}
-
 // Where the authority, the path and the query of a text end.
-#[derive(Clone, Copy)]
+#[derive(Clone, Copy, Debug, PartialEq, Eq)]
 pub struct Ends {
     pub authority: usize,
     pub path: usize,
@@ -52,7 +45,7 @@ pub struct Ends {
 
 // What an IRI is made of before its dot segments go: so many bytes of the base, so many slashes, the reference. Its
 // path starts at from; the reference's ends at path.
-#[derive(Clone, Copy)]
+#[derive(Clone, Copy, Debug, PartialEq, Eq)]
 pub struct Plan {
     pub keep: usize,
     pub slash: usize,
@@ -60,16 +53,15 @@ pub struct Plan {
     pub path: usize,
 }
 
-// A reference, resolved: written, and so long; too long for the buffer before its dot segments go; relative, and no base.
-#[derive(Clone, Copy)]
-pub enum Resolution {
-    Written(usize),
+// Why a reference is not resolved: it is too long for the buffer before its dot segments go; it is relative, and there is no base.
+#[derive(Clone, Copy, Debug, PartialEq, Eq)]
+pub enum ResolveError {
     Long,
     NoBase,
 }
 
 // What is left of the path, from at to end, and how long the output is, after a turn of 5.2.4's loop.
-#[derive(Clone, Copy)]
+#[derive(Clone, Copy, Debug, PartialEq, Eq)]
 pub struct Turn {
     pub at: usize,
     pub end: usize,
@@ -77,9 +69,9 @@ pub struct Turn {
 }
 
 // The k-th byte from at, before the end; 0 past it.
-fn peek(b: &mut &mut [u8], at: usize, end: usize, k: usize) -> u8
-    requires { (at ≤ end) × (end ≤ length b.old.now) }
-    ensures { (b.new ≡ b.old) × (result ≡ get_or (window b.old.now at end) k 0) }
+fn peek(b: &[u8], at: usize, end: usize, k: usize) -> u8
+    requires { (at ≤ end) × (end ≤ length b.now) }
+    ensures { result ≡ get_or (window b.now at end) k 0 }
 {
     if k < end - at {
         return b[at + k];
@@ -135,9 +127,9 @@ fn which(n: usize, c0: u8, c1: u8, c2: u8, c3: u8) -> Rule
 }
 
 // The step for what stands from at to the end.
-fn next_rule(b: &mut &mut [u8], at: usize, end: usize) -> Rule
-    requires { (at ≤ end) × (end ≤ length b.old.now) }
-    ensures { (b.new ≡ b.old) × (result ≡ rule (window b.old.now at end)) }
+fn next_rule(b: &[u8], at: usize, end: usize) -> Rule
+    requires { (at ≤ end) × (end ≤ length b.now) }
+    ensures { result ≡ rule (window b.now at end) }
 {
     let c0 = peek(b, at, end, 0);
     let c1 = peek(b, at, end, 1);
@@ -146,25 +138,30 @@ fn next_rule(b: &mut &mut [u8], at: usize, end: usize) -> Rule
     which(end - at, c0, c1, c2, c3)
 }
 
-// The output's first w bytes without their last segment: how many stay.
-fn cut(b: &mut &mut [u8], w: usize) -> usize
-    requires { w ≤ length b.old.now }
-    ensures { (b.new ≡ b.old) × (result ≡ slash_end b.old.now w - 1) }
+// How many bytes there are up to the right-most slash, with it.
+fn slash_end(s: &[u8]) -> usize
+    ensures { result ≡ slash_end s.now (length s.now) }
 {
-    let mut n = w;
-    while 0 < n {
-        n -= 1;
-        if b[n] == 47 {
-            return n;
+    for n in (0..s.len()).rev() {
+        if s[n] == b'/' {
+            return n + 1;
         }
     }
     0
 }
 
+// The output's first w bytes without their last segment: how many stay.
+fn cut(b: &[u8], w: usize) -> usize
+    requires { w ≤ length b.now }
+    ensures { result ≡ slash_end b.now w - 1 }
+{
+    slash_end(&b[..w]).saturating_sub(1)
+}
+
 // The first segment of what stands from at to the end goes to w; its length.
-fn shift(b: &mut &mut [u8], at: usize, end: usize, w: usize) -> usize
-    requires { (w ≤ at) × ((at < end) × (end ≤ length b.old.now)) }
-    ensures { (result ≡ segment (window b.old.now at end)) × Moved b.old b.new at w result }
+fn shift(b: &mut [u8], at: usize, end: usize, w: usize) -> usize
+    requires { (w ≤ at) × ((at < end) × (end ≤ length b.old)) }
+    ensures { (result ≡ segment (window b.old at end)) × Moved b.old b.new at w result }
 {
     let mut n: usize = 0;
     while at + n < end {
@@ -181,8 +178,8 @@ fn shift(b: &mut &mut [u8], at: usize, end: usize, w: usize) -> usize
 }
 
 // One turn of 5.2.4's loop.
-fn take_turn(b: &mut &mut [u8], at: usize, end: usize, w: usize) -> Turn
-    requires { (w ≤ at) × ((at < end) × (end ≤ length b.old.now)) }
+fn take_turn(b: &mut [u8], at: usize, end: usize, w: usize) -> Turn
+    requires { (w ≤ at) × ((at < end) × (end ≤ length b.old)) }
     ensures { Turned b.old b.new at end w result }
 {
     let r = next_rule(b, at, end);
@@ -233,95 +230,59 @@ fn take_turn(b: &mut &mut [u8], at: usize, end: usize, w: usize) -> Turn
     }
 }
 
-// "Dot segments go one at a time from the front of what remains": the path from at to the end is left, the output is
-// the first w bytes; the output's length when nothing is left.
-fn clean(b: &mut &mut [u8], at: usize, end: usize, w: usize) -> usize
-    requires { (w ≤ at) × ((at ≤ end) × (end ≤ length b.old.now)) }
-    ensures { Cleaned b.old b.new at end w result }
-{
-    if end <= at {
-        return w;
-    }
-    let t = take_turn(b, at, end, w);
-    clean(b, t.at, t.end, t.w)
-}
-
-// The slice becomes a thin reference, and comes back as the result; the new length goes to out.
-fn with_path<'a>(path: &'a mut [u8], n: usize, out: &mut usize) -> &'a mut [u8]
-    requires { n ≤ length path.old }
-    ensures { Cleaned path.entry result 0 n 0 out.new }
-{
-    let mut s = path;
-    let c = clean(&mut s, 0, n, 0);
-    *out = c;
-    let q = s;
-    q
-}
-
-// RFC 3986, section 5.2.4, in place: the path is the first n bytes; the new length.
+// RFC 3986, section 5.2.4, in place: the path is the first n bytes; the new length. "Dot segments go one at a time from the front
+// of what remains".
 fn remove_dots(path: &mut [u8], n: usize) -> usize
     requires { n ≤ length path.old }
     ensures { Removed path.old path.new n result }
 {
-    let mut r: usize = 0;
-    with_path(path, n, &mut r);
-    r
+    let mut t = Turn {
+        at: 0,
+        end: n,
+        w: 0,
+    };
+    while t.at < t.end {
+        t = take_turn(path, t.at, t.end, t.w);
+    }
+    t.w
 }
 
 // Whether the byte is a letter.
 fn is_letter(c: u8) -> bool
     ensures { result ≡ letter c }
 {
-    if c < 65 {
-        return false;
+    match c {
+        b'A'..=b'Z' | b'a'..=b'z' => true,
+        _ => false,
     }
-    if c <= 90 {
-        return true;
-    }
-    if c < 97 {
-        return false;
-    }
-    c <= 122
 }
 
 // Whether a scheme can hold the byte.
 fn is_scheme_byte(c: u8) -> bool
     ensures { result ≡ scheme_byte c }
 {
-    if is_letter(c) {
-        return true;
+    match c {
+        b'A'..=b'Z' | b'a'..=b'z' | b'0'..=b'9' | b'+' | b'-' | b'.' => true,
+        _ => false,
     }
-    if c == 43 {
-        return true;
-    }
-    if c == 45 {
-        return true;
-    }
-    if c == 46 {
-        return true;
-    }
-    if c < 48 {
-        return false;
-    }
-    c <= 57
 }
 
 fn ends_path(c: u8) -> bool
     ensures { result ≡ one_of "?#" c }
 {
-    if c == 63 {
-        return true;
+    match c {
+        b'?' | b'#' => true,
+        _ => false,
     }
-    c == 35
 }
 
 fn ends_authority(c: u8) -> bool
     ensures { result ≡ one_of "/?#" c }
 {
-    if c == 47 {
-        return true;
+    match c {
+        b'/' | b'?' | b'#' => true,
+        _ => false,
     }
-    ends_path(c)
 }
 
 // Whether the byte ends the part.
@@ -342,14 +303,12 @@ fn find(s: &[u8], start: usize, part: Part) -> usize
     requires { start ≤ length s.now }
     ensures { result ≡ start + before (stop part) (drop start s.now) }
 {
-    let mut i = start;
-    while i < s.len() {
+    for i in start..s.len() {
         if stops(part, s[i]) {
             return i;
         }
-        i += 1;
     }
-    i
+    s.len()
 }
 
 // Whether the text has a scheme: "letter, then letters, digits, + - . up to a colon".
@@ -369,74 +328,70 @@ pub fn has_scheme(s: &[u8]) -> bool
     s[n] == 58
 }
 
-// What a byte says of a scheme, at its first place and later.
-fn judge_byte(first: bool, c: u8) -> Verdict
-    ensures { result ≡ verdict first 1 c }
+// What a byte says of a scheme, at its first place and later: whether there is one, or nothing yet.
+fn judge(first: bool, c: u8) -> Option<bool>
+    ensures { result ≡ verdict first c }
 {
     if first {
-        if is_letter(c) {
-            return Verdict::More;
-        }
-        return Verdict::No;
+        return if is_letter(c) { None } else { Some(false) };
     }
     if is_scheme_byte(c) {
-        return Verdict::More;
+        return None;
     }
-    if c == 58 {
-        return Verdict::Yes;
-    }
-    Verdict::No
+    Some(c == b':')
 }
 
-// What a piece of an escaped text says of a scheme: none, a byte, a character of more bytes.
-fn judge(first: bool, n: usize, v: usize) -> Verdict
-    ensures { result ≡ verdict first n v }
+// The same of the bytes of a text that is not empty.
+fn judge_run(first: bool, s: &[u8]) -> Option<bool>
+    requires { 0 < length s.now }
+    ensures { Judges first s.now result }
 {
-    if n == 0 {
-        return Verdict::More;
+    let mut start = first;
+    for c in s {
+        let verdict = judge(start, *c);
+        if verdict.is_some() {
+            return verdict;
+        }
+        start = false;
     }
-    if 1 < n {
-        return Verdict::No;
-    }
-    if 255 < v {
-        return Verdict::No;
-    }
-    judge_byte(first, v as u8)
+    None
 }
 
-// Whether the first byte of the text is still to come.
-fn still_first(first: bool, n: usize) -> bool
-    ensures { result ≡ later first n }
+// The same of an escape: a scheme has none of the bytes of a longer character.
+fn judge_escape(first: bool, c: Character) -> Option<bool>
+    requires { 0 < c.width }
+    ensures { Judges first (encoded c) result }
 {
-    if 0 < n {
-        return false;
+    if 1 < c.width || 255 < c.value {
+        return Some(false);
     }
-    first
+    judge(first, c.value as u8)
+}
+
+// The same of a part of an escaped text.
+fn judge_part(first: bool, part: Stretch) -> Option<bool>
+    requires { 0 < size part }
+    ensures { Judges first (shown part.entry) result }
+{
+    match part {
+        Stretch::Run(run) => judge_run(first, run),
+        Stretch::One(c) => judge_escape(first, c),
+    }
 }
 
 // Whether a reference has a scheme when its escapes are undone.
 pub fn has_scheme_unescaped(s: &[u8]) -> bool
     ensures { result ≡ has_scheme (unescape s.now) }
 {
-    let mut scan = Scan::text();
     let mut first = true;
-    let mut i: usize = 0;
-    while i < s.len() {
-        scan = scan.step(s[i]);
-        let n = scan.n;
-        let v = judge(first, n, scan.value);
-        match v {
-            Verdict::Yes => {
-                return true;
-            }
-            Verdict::No => {
-                return false;
-            }
-            Verdict::More => {
-                first = still_first(first, n);
-                i += 1;
-            }
+    for part in (Stretches {
+        escapes: Escapes::Quoted,
+        rest: s,
+    }) {
+        if let Some(known) = judge_part(first, part) {
+            return known;
         }
+        first = false;
     }
     false
 }
@@ -471,20 +426,6 @@ fn part_ends(s: &[u8], start: usize) -> Ends
         path: p,
         query: q,
     }
-}
-
-// How many bytes there are up to the right-most slash, with it.
-fn slash_end(s: &[u8]) -> usize
-    ensures { result ≡ slash_end s.now (length s.now) }
-{
-    let mut n = s.len();
-    while 0 < n {
-        if s[n - 1] == 47 {
-            return n;
-        }
-        n -= 1;
-    }
-    0
 }
 
 // The plan, from where the parts end; the base's scheme ends at k.
@@ -581,11 +522,8 @@ fn move_left(out: &mut [u8], start: usize, n: usize, to: usize)
     requires { (to ≤ start) × (start + n ≤ length out.old) }
     ensures { out.new ≡ over_at to (take n (drop start out.old)) out.old }
 {
-    let mut i: usize = 0;
-    while i < n {
-        let c = out[start + i];
-        out[to + i] = c;
-        i += 1;
+    for i in 0..n {
+        out[to + i] = out[start + i];
     }
 }
 
@@ -618,7 +556,7 @@ fn put_resolved(base: &[u8], out: &mut [u8], start: usize, p: Plan) -> usize
 }
 
 // Resolves the reference without a scheme that begins at start, against a base with one, into the front of the buffer.
-fn resolve_at(base: &[u8], buffer: &mut [u8], start: usize) -> Resolution
+fn resolve_at(base: &[u8], buffer: &mut [u8], start: usize) -> Result<usize, ResolveError>
     requires { (before (stop Part.Colon) base.now < length base.now) × (start ≤ length buffer.old) }
     ensures { ResolvedAt base.now buffer.old buffer.new start result }
 {
@@ -626,77 +564,51 @@ fn resolve_at(base: &[u8], buffer: &mut [u8], start: usize) -> Resolution
     let keep = p.keep;
     let slash = p.slash;
     if start < keep {
-        return Resolution::Long;
+        return Err(ResolveError::Long);
     }
     if start - keep < slash {
-        return Resolution::Long;
+        return Err(ResolveError::Long);
     }
-    Resolution::Written(put_resolved(base, buffer, start, p))
+    Ok(put_resolved(base, buffer, start, p))
 }
 
 // Resolves the reference that is the buffer's last n bytes, its escapes undone, into the front of the buffer, which
 // bounds it before its dot segments go. What stands behind the result is not told.
-pub fn resolve(base: &[u8], buffer: &mut [u8], n: usize) -> Resolution
+pub fn resolve(base: &[u8], buffer: &mut [u8], n: usize) -> Result<usize, ResolveError>
     ensures { Resolved base.now buffer.old buffer.new n result }
 {
     if buffer.len() < n {
-        return Resolution::Long;
+        return Err(ResolveError::Long);
     }
     let start = buffer.len() - n;
     if has_scheme(&buffer[start..]) {
         move_left(buffer, start, n, 0);
-        return Resolution::Written(n);
+        return Ok(n);
     }
     if has_scheme(base) {
         return resolve_at(base, buffer, start);
     }
-    Resolution::NoBase
+    Err(ResolveError::NoBase)
 }
 
 // Whether an IRIREF forbids the byte unescaped.
 fn is_forbidden(c: u8) -> bool
     ensures { result ≡ forbidden c }
 {
-    if c <= 0x20 {
-        return true;
+    match c {
+        ..=0x20 | b'<' | b'>' | b'"' | b'{' | b'}' | b'|' | b'^' | b'`' | b'\\' => true,
+        _ => false,
     }
-    if c == b'<' {
-        return true;
-    }
-    if c == b'>' {
-        return true;
-    }
-    if c == b'"' {
-        return true;
-    }
-    if c == b'{' {
-        return true;
-    }
-    if c == b'}' {
-        return true;
-    }
-    if c == b'|' {
-        return true;
-    }
-    if c == b'^' {
-        return true;
-    }
-    if c == b'`' {
-        return true;
-    }
-    c == 92
 }
 
 // Whether the text holds a byte that an IRIREF forbids unescaped.
 fn holds_forbidden(s: &[u8]) -> bool
     ensures { result ≡ some_byte forbidden s.now }
 {
-    let mut i: usize = 0;
-    while i < s.len() {
-        if is_forbidden(s[i]) {
+    for c in s {
+        if is_forbidden(*c) {
             return true;
         }
-        i += 1;
     }
     false
 }

@@ -3,7 +3,6 @@
 
 ghost use Rattle.std.specs.Prelude.{◌≡◌, ◌≢◌, ℕ, ◌<◌, ◌≤◌, length, slice_index};
 
-use iri::Resolution;
 use std::io;
 use std::io::Write;
 
@@ -16,7 +15,7 @@ fn show<W: Write>(out: &mut W, reference: &[u8], buffer: &mut [u8]) -> io::Resul
     let start = buffer.len() - n;
     text::copy(reference, &mut buffer[start..]);
     let answer = iri::resolve(b"http://a/b/c/d;p?q", buffer, n);
-    let Resolution::Written(k) = answer else {
+    let Ok(k) = answer else {
         return Ok(());
     };
     if k <= buffer.len() {

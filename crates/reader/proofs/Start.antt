@@ -19,6 +19,8 @@ use Rattle.lexer_words.specs.Ahead.{Clear}
 use Rattle.lexer_words.proofs.Clearing.{clear_none}
 use Rattle.iri.specs.Iri.{has_scheme, forbidden}
 use Rattle.environment.specs.Environment.{start_environment}
+use Rattle.std.specs.Prelude.{Result, is_ok}
+use Rattle.environment.specs.declared.BaseTooLong.{BaseTooLong}
 use Rattle.environment.specs.Code.{words_size, environment_in, listed, base_cell, cell, Usable, SetsBase}
 use Rattle.environment.proofs.Directives.{in_force_words}
 use Rattle.text.proofs.Zeros.{zeros, zero_at}
@@ -69,7 +71,7 @@ from_first : (doc : Text) → lexemes doc ≡ rest doc 0
 unfolding lexemes rest
 from_first doc = refl
 
-module _ {doc base work work₁ work₂ : Text} {st st₁ : List ℕ} {b : Bool} (K : Checked doc base work) (e : work₁ ≡ replicate (length work) 0) (f : st ≡ replicate words_size 0)
+module _ {doc base work work₁ work₂ : Text} {st st₁ : List ℕ} {b : Result (Unit {0}) BaseTooLong} (K : Checked doc base work) (e : work₁ ≡ replicate (length work) 0) (f : st ≡ replicate words_size 0)
     (sets : Usable work₁ st → SetsBase work₁ work₂ st st₁ base b) where
   long₁ : length work₁ ≡ length work
   long₁ = ap length e ∙ length-replicate {A = ℕ} (length work) 0
@@ -82,7 +84,7 @@ module _ {doc base work work₁ work₂ : Text} {st st₁ : List ℕ} {b : Bool}
 
   based : environment_in work₂ st₁ ≡ start_environment base
   based =
-      let true_is : b ≡ true = set.answer ∙ le-leb (length base) iri_limit (short_base base K.good_base) in
+      let true_is : is_ok b ≡ true = set.answer ∙ le-leb (length base) iri_limit (short_base base K.good_base) in
       let none_yet : environment_in work₁ st ≡ start_environment [] = ap (environment_in work₁) f ∙ nothing_in_force work₁ in
       set.after ∙ rw (true_is, none_yet)
 

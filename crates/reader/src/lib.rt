@@ -36,7 +36,8 @@ fn prepare(document: &[u8], base: &[u8], work: &mut [u8], st: &mut [usize; Layou
     ensures { Started document.now base.now work.old work.new st.new }
 {
     work.fill(0);
-    environment::set_base(work, st, base);
+    // The checks have found it short enough.
+    let _ = environment::set_base(work, st, base);
     cursor::seek(document, st, 0, 0);
 }
 

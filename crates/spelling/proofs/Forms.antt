@@ -12,8 +12,7 @@ use Rattle.text.specs.Slice.{over, over_at}
 use Rattle.text.proofs.Compare.{by, begins_short, same_append, and_false}
 use Rattle.text.proofs.Over.{over_length, over_append, rest_all}
 use Rattle.escape.specs.Code.{Written}
-use Rattle.escape.specs.declared.Scan.{Scan}
-use Rattle.escape.proofs.Walk.{text_starts, name_starts, text_start, name_start, plain_good}
+use Rattle.escape.proofs.Walk.{plain_text, plain_name, plain_good}
 use Rattle.spelling.specs.Form.{undo, bad, joined}
 use Rattle.spelling.specs.declared.Form.{Form}
 use Rattle.spelling.specs.declared.Form.TheVariants.{Plain, Escaped, Reserved}
@@ -34,12 +33,8 @@ and_true false = refl
 pub plain_form : (form : Form) (s : Text) → some_byte (is "\\") s ≡ false → (s ≡ undo form s) × (false ≡ bad form s)
 unfolding undo bad
 plain_form Plain s e = (refl, refl)
-plain_form Escaped s e =
-    let at : Scan = record { left = 0; value = 0; n = 0 } in
-    (sym ((text_starts at (refl, (refl, refl))).plain s e) ∙ text_start at (refl, (refl, refl)) s, plain_good s e)
-plain_form Reserved s e =
-    let at : Scan = record { left = 10; value = 0; n = 0 } in
-    (sym ((name_starts at (refl, (refl, refl))).plain s e) ∙ name_start at (refl, (refl, refl)) s, refl)
+plain_form Escaped s e = (sym (plain_text s e), plain_good s e)
+plain_form Reserved s e = (sym (plain_name s e), refl)
 
 module _ (front : Text) (form : Form) (back t : Text) where
   pub joined_short : length t < length front → false ≡ same_text (joined front form back) t

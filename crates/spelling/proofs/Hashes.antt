@@ -5,12 +5,12 @@ use mathlib.Core.List.{[], ◌∷◌, ◌++◌}
 use native.Mathlib.Numerals.{add-one}
 use native.Mathlib.Nat.{mul-le-mul, mod-eq_of_lt, div-add-mod', mul-add-mod_self_right}
 use native.Mathlib.Omega.{arith}
-use lib.ListN.{length, get_or, take, drop, drop_of_length-le}
+use lib.ListN.{length, get_or, drop, drop_of_length-le}
 use lib.Seq.{drop-cons}
 use Rattle.text.specs.Text.{Text}
-use Rattle.escape.specs.Code.{step, four, piece, undone, Fair, Stretch}
-use Rattle.escape.specs.declared.Scan.{Scan}
-use Rattle.escape.proofs.Walk.{undone_more, undone_end}
+use Rattle.escape.specs.Code.{undone, shown, Yields}
+use Rattle.escape.specs.declared.Escapes.{Escapes}
+use Rattle.escape.specs.declared.Stretch.{Stretch}
 use Rattle.spelling.specs.Hash.{first_multiplier, most_multiplier, stir, stir_4, hash_from}
 
 pub product : (m h : ℕ) → m ≤ most_multiplier → h < 4294967296 → h * m ≤ 4294967296 * 33554432
@@ -46,22 +46,13 @@ module _ (m : ℕ) where
   unfolding hash_from
   hash_end h s i l = rw (drop_of_length-le s {i = i} l)
 
-  -- The byte at i moves the scan from s to t, and the bytes b of the piece that ends there are mixed in.
-  pub hash_piece : (s t : Scan) (cs : Text) (i : ℕ) → i < length cs → Fair s → t ≡ step s (get_or cs i 0) → get_or cs i 0 < 256 → (b : Text) → b ≡ four t
-      → (h k : ℕ) → k ≡ hash_from m h (take t.n b) → hash_from m h (undone s (drop i cs)) ≡ hash_from m k (undone t (drop (i + 1) cs))
-  unfolding piece
-  hash_piece s t cs i l f e small b eb h k ek =
-      ap (hash_from m h) (undone_more s t cs i l f e small)
-      ∙ (hash_append h (piece t) (undone t (drop (i + 1) cs)) ∙ rw (ek, eb))
+  -- A part of an escaped text is mixed in.
+  pub hash_part : (k : Escapes) (s t : Text) (p : Stretch) → Yields k s t p → (h n : ℕ) → n ≡ hash_from m h (shown p) → hash_from m h (undone k s) ≡ hash_from m n (undone k t)
+  hash_part k s t p y h n e = ap (hash_from m h) y.text ∙ (hash_append h (shown p) (undone k t) ∙ rw e)
 
-  -- What stands from i to k is mixed in.
-  pub hash_stretch : (s : Scan) (cs : Text) (i k : ℕ) (p : Text) → Stretch s.left cs i k p → (h n : ℕ) → n ≡ hash_from m h p
-      → hash_from m h (undone s (drop i cs)) ≡ hash_from m n (undone s (drop k cs))
-  hash_stretch s cs i k p st h n e = ap (hash_from m h) (st.text s refl) ∙ (hash_append h p (undone s (drop k cs)) ∙ rw e)
-
-  pub hash_done : (s : Scan) (cs : Text) (i h : ℕ) → length cs ≤ i → hash_from m h (undone s (drop i cs)) ≡ h
+  pub hash_none : (k : Escapes) (s : Text) (h : ℕ) → undone k s ≡ [] → hash_from m h (undone k s) ≡ h
   unfolding hash_from
-  hash_done s cs i h l = rw (undone_end s cs i l)
+  hash_none k s h e = rw e
 
 -- Four bytes of a text.
 pub hash_four : (h : ℕ) (s : Text) (i : ℕ) → i + 4 ≤ length s → ((k : ℕ) → get_or s k 0 < 256)

@@ -4,16 +4,16 @@
 ghost use Rattle.std.specs.Prelude.{◌≡◌, false, ◌≤◌, ◌<◌, length, drop};
 ghost use Rattle.text.specs.Text.{same_text};
 ghost use Rattle.text.specs.Slice.{over};
-ghost use Rattle.escape.specs.Code.{undone, Starts, Written};
+ghost use Rattle.escape.specs.Code.{undone, Written};
 ghost use Rattle.spelling.specs.Form.{undo, bad, joined};
 ghost use Rattle.spelling.specs.declared.Form.TheVariants.{Plain};
 ghost use Rattle.spelling.specs.Hash.{first_multiplier, most_multiplier, stir, stir_4, hash_from};
 
-use escape::Scan;
+use escape::{Escapes, Stretch, Stretches};
 use text::wide;
 
 // How the back is written: as it is, with the escapes of strings and references, or with those of local names.
-#[derive(Clone, Copy)]
+#[derive(Clone, Copy, Debug, PartialEq, Eq)]
 pub enum Form {
     Plain,
     Escaped,
@@ -36,8 +36,8 @@ pub fn undone_length(form: Form, back: &[u8]) -> usize
 {
     match form {
         Form::Plain => back.len(),
-        Form::Escaped => escape::unescaped_length(back),
-        Form::Reserved => escape::unreserved_length(back),
+        Form::Escaped => escape::undone_length(Escapes::Quoted, back),
+        Form::Reserved => escape::undone_length(Escapes::Local, back),
     }
 }
 
@@ -47,8 +47,8 @@ fn same_undone(form: Form, back: &[u8], t: &[u8]) -> bool
 {
     match form {
         Form::Plain => text::same(back, t),
-        Form::Escaped => escape::same_unescaped(back, t),
-        Form::Reserved => escape::same_unreserved(back, t),
+        Form::Escaped => escape::same_undone(Escapes::Quoted, back, t),
+        Form::Reserved => escape::same_undone(Escapes::Local, back, t),
     }
 }
 
@@ -93,8 +93,8 @@ fn write_undone(form: Form, back: &[u8], out: &mut [u8]) -> usize
 {
     match form {
         Form::Plain => write_plain(back, out),
-        Form::Escaped => escape::write_unescaped(back, out),
-        Form::Reserved => escape::write_unreserved(back, out),
+        Form::Escaped => escape::write_undone(Escapes::Quoted, back, out),
+        Form::Reserved => escape::write_undone(Escapes::Local, back, out),
     }
 }
 
@@ -143,16 +143,14 @@ fn stir_4(h: usize, a: usize, b: usize, c: usize, d: usize) -> usize
         % 4294967296
 }
 
-// The hash h with the bytes of s from a place on, one by one.
-fn hash_each(m: usize, h: usize, s: &[u8], at: usize) -> usize
-    requires { (m ≤ most_multiplier) × ((h < 4294967296) × (at ≤ length s.now)) }
-    ensures { (result ≡ hash_from m h (drop at s.now)) × (result < 4294967296) }
+// The hash h with the bytes of s, one by one.
+fn hash_each(m: usize, h: usize, s: &[u8]) -> usize
+    requires { (m ≤ most_multiplier) × (h < 4294967296) }
+    ensures { (result ≡ hash_from m h s.now) × (result < 4294967296) }
 {
     let mut total = h;
-    let mut i: usize = at;
-    while i < s.len() {
-        total = stir(m, total, wide(s[i]) % 256);
-        i += 1;
+    for b in s {
+        total = stir(m, total, wide(*b) % 256);
     }
     total
 }
@@ -174,7 +172,7 @@ fn hash_first(h: usize, s: &[u8]) -> usize
         );
         i += 4;
     }
-    hash_each(Multiplier::FIRST, total, s, i)
+    hash_each(Multiplier::FIRST, total, &s[i..])
 }
 
 // The hash h with the bytes of s.
@@ -185,7 +183,7 @@ pub fn hash_bytes(m: usize, h: usize, s: &[u8]) -> usize
     if m == Multiplier::FIRST {
         return hash_first(h, s);
     }
-    hash_each(m, h, s, 0)
+    hash_each(m, h, s)
 }
 
 // The same with bytes that are given as numbers.
@@ -194,44 +192,26 @@ fn hash_numbers(m: usize, h: usize, s: &[usize]) -> usize
     ensures { (result ≡ hash_from m h s.now) × (result < 4294967296) }
 {
     let mut total = h;
-    let mut i: usize = 0;
-    while i < s.len() {
-        total = stir(m, total, s[i] % 256);
-        i += 1;
+    for n in s {
+        total = stir(m, total, *n % 256);
     }
     total
 }
 
-// The same with the text that the scan gives from s.
-fn hash_scan(start: Scan, m: usize, h: usize, s: &[u8]) -> usize
-    requires { Starts start × ((m ≤ most_multiplier) × (h < 4294967296)) }
-    ensures { (result ≡ hash_from m h (undone start s.now)) × (result < 4294967296) }
+// The same with the text that s stands for.
+fn hash_stretches(escapes: Escapes, m: usize, h: usize, s: &[u8]) -> usize
+    requires { (m ≤ most_multiplier) × (h < 4294967296) }
+    ensures { (result ≡ hash_from m h (undone escapes s.now)) × (result < 4294967296) }
 {
     if !escape::has_backslash(s) {
         return hash_bytes(m, h, s);
     }
-    let mut scan = start;
     let mut total = h;
-    let mut i: usize = 0;
-    while i < s.len() {
-        let to = escape::plain_to(scan.left, s, i);
-        if i < to {
-            total = hash_bytes(m, total, &s[i..to]);
-            i = to;
-        } else {
-            let letter = escape::letter_at(scan.left, s, i);
-            if 0 < letter {
-                let one = [letter - 1];
-                total = hash_numbers(m, total, &one);
-                i += 2;
-            } else {
-                scan = scan.step(s[i]);
-                let n = scan.n;
-                let b = scan.bytes();
-                total = hash_numbers(m, total, &b[..n]);
-                i += 1;
-            }
-        }
+    for part in (Stretches { escapes, rest: s }) {
+        total = match part {
+            Stretch::Run(run) => hash_bytes(m, total, run),
+            Stretch::One(c) => hash_numbers(m, total, &c.bytes()[..c.width]),
+        };
     }
     total
 }
@@ -242,8 +222,8 @@ fn hash_undone(m: usize, h: usize, form: Form, back: &[u8]) -> usize
 {
     match form {
         Form::Plain => hash_bytes(m, h, back),
-        Form::Escaped => hash_scan(Scan::text(), m, h, back),
-        Form::Reserved => hash_scan(Scan::name(), m, h, back),
+        Form::Escaped => hash_stretches(Escapes::Quoted, m, h, back),
+        Form::Reserved => hash_stretches(Escapes::Local, m, h, back),
     }
 }
 

@@ -20,12 +20,11 @@ use Rattle.text.proofs.Over.{rest_all}
 use Rattle.iri.specs.Iri.{has_scheme}
 use Rattle.iri.specs.Resolve.{resolved}
 use Rattle.iri.specs.Code.{before}
-use Rattle.iri.specs.declared.Resolution.{Resolution}
-use Rattle.iri.specs.declared.Resolution.TheVariants.{Written, Long, NoBase}
+use Rattle.iri.specs.declared.ResolveError.{ResolveError}
+use Rattle.std.specs.Prelude.{Option, Some, None, Result, Ok, Err}
+use Rattle.iri.specs.declared.ResolveError.TheVariants.{Long, NoBase}
 use Rattle.environment.specs.Environment.{lookup}
 use Rattle.environment.specs.Code.{environment_in, Usable, FoundIn}
-use Rattle.environment.specs.declared.Found.{Found}
-use Rattle.environment.specs.declared.Found.TheVariants.{At, Missing}
 use Rattle.dataset.specs.Constructors.{inner, iri_of, nothing, awaiting}
 use Rattle.token_iri.specs.Tests.{token_as, Sound, iri_refusal, outcome}
 use Rattle.token_iri.specs.Addresses.{Answered, refused_address, front_of, back_of, with_form, Addresses, WritesReference, LocalFrom}
@@ -64,7 +63,7 @@ module _ (token work : Text) (st : List ℕ) (buffer : Text) where
       own_length : n ≡ length (unescape (inner 1 token))
       own_length = en ∙ ap (λ (x : Text). length (unescape x)) et
 
-      long_outcome : iri_limit < n → (base : Text) → Long ≡ outcome base (unescape (inner 1 token))
+      long_outcome : iri_limit < n → (base : Text) → Err Long ≡ outcome base (unescape (inner 1 token))
       unfolding outcome
       long_outcome l base = rw (own_scheme, lt-ltb iri_limit (length (unescape (inner 1 token))) (omega (arith, own_length)))
 
@@ -76,7 +75,7 @@ module _ (token work : Text) (st : List ℕ) (buffer : Text) where
       pub token_long : 2 ≤ length token
       token_long = scheme_inside token own_scheme
 
-      short_outcome : n ≤ iri_limit → (base : Text) → Written (length (resolved base (unescape (inner 1 token)))) ≡ outcome base (unescape (inner 1 token))
+      short_outcome : n ≤ iri_limit → (base : Text) → Ok (length (resolved base (unescape (inner 1 token)))) ≡ outcome base (unescape (inner 1 token))
       unfolding outcome
       short_outcome l base = rw (own_scheme, le-ltb iri_limit (length (unescape (inner 1 token))) (omega (arith, own_length)))
 
@@ -100,21 +99,21 @@ module _ (token work : Text) (st : List ℕ) (buffer : Text) where
       }
 
     -- A reference without a scheme.
-    module _ (a : Resolution) (w : WritesReference text work st buffer a) where
+    module _ (a : Result ℕ ResolveError) (w : WritesReference text work st buffer a) where
       is_outcome : Usable work st → Sound (environment_in work st) → get_or token 0 0 ≡ 60 → a ≡ outcome (environment_in work st).base (unescape (inner 1 token))
       is_outcome u s g = (w.resolves u s (ap bad_escape et ∙ inside_good token g right)).is ∙ ap (λ (x : Text). outcome (environment_in work st).base (unescape x)) et
 
-      pub refused_no_base : a ≡ NoBase → (r : Answered) → r ≡ refused_address 10 → Addresses (kind_code IRIREF) token work st buffer r
+      pub refused_no_base : a ≡ Err NoBase → (r : Answered) → r ≡ refused_address 10 → Addresses (kind_code IRIREF) token work st buffer r
       refused_no_base ea r e =
           refused 1 token work st buffer 10 r (omega arith) e
           (λ u s g at. iri_no_base (environment_in work st) at token nothing refl right (sym ea ∙ is_outcome u s (g refl)))
 
-      pub refused_over : a ≡ Long → (r : Answered) → r ≡ refused_address 11 → Addresses (kind_code IRIREF) token work st buffer r
+      pub refused_over : a ≡ Err Long → (r : Answered) → r ≡ refused_address 11 → Addresses (kind_code IRIREF) token work st buffer r
       refused_over ea r e =
           refused 1 token work st buffer 11 r (omega arith) e
           (λ u s g at. iri_long (environment_in work st) at token nothing refl right (sym ea ∙ is_outcome u s (g refl)))
 
-      pub resolved_there : (k : ℕ) → a ≡ Written k → length buffer ≡ iri_limit → Addresses (kind_code IRIREF) token work st buffer (record { refused = 0; start = 0; end = 0; form = Plain; from = 0; to = k; buffered = true })
+      pub resolved_there : (k : ℕ) → a ≡ Ok k → length buffer ≡ iri_limit → Addresses (kind_code IRIREF) token work st buffer (record { refused = 0; start = 0; end = 0; form = Plain; from = 0; to = k; buffered = true })
       unfolding joined undo bad
       resolved_there k ea room = record {
         order = omega arith;
@@ -123,7 +122,7 @@ module _ (token work : Text) (st : List ℕ) (buffer : Text) where
         back_inside = w.inside k ea;
         stands = λ u s g at.
             let same_end : k ≡ k - 0 = omega arith in
-            let o : Written k ≡ outcome (environment_in work st).base (unescape (inner 1 token)) = sym ea ∙ is_outcome u s (g refl) in
+            let o : Ok k ≡ outcome (environment_in work st).base (unescape (inner 1 token)) = sym ea ∙ is_outcome u s (g refl) in
             let same : iri_of (environment_in work st) (token_as 1 at token) ≡ take (k - 0) buffer =
             iriref_iri (environment_in work st) at token ∙ ap (λ (x : Text). resolved (environment_in work st).base (unescape x)) (sym et)
             ∙ sym ((w.resolves u s (ap bad_escape et ∙ inside_good token (g refl) right)).front k ea) ∙ ap (λ (n : ℕ). take n buffer) same_end in
@@ -138,15 +137,15 @@ module _ (token work : Text) (st : List ℕ) (buffer : Text) where
 -- ---- A prefixed name
 
 -- Where a namespace was found.
-pub found_inside : (p work : Text) (st : List ℕ) (f : Found) (start n : ℕ) → FoundIn p (environment_in work st) work f → f ≡ At start n → (start + n ≤ work_size) × (n ≤ iri_limit)
+pub found_inside : (p work : Text) (st : List ℕ) (f : Option (ℕ × ℕ)) (start n : ℕ) → FoundIn p (environment_in work st) work f → f ≡ Some (start, n) → (start + n ≤ work_size) × (n ≤ iri_limit)
 unfolding FoundIn
 found_inside p work st f start n h e = (subst (FoundIn p (environment_in work st) work) e h).1
 
-found_is : (p work : Text) (st : List ℕ) (f : Found) (start n : ℕ) → FoundIn p (environment_in work st) work f → f ≡ At start n → lookup p (environment_in work st).namespaces ≡ some (take n (drop start work))
+found_is : (p work : Text) (st : List ℕ) (f : Option (ℕ × ℕ)) (start n : ℕ) → FoundIn p (environment_in work st) work f → f ≡ Some (start, n) → lookup p (environment_in work st).namespaces ≡ some (take n (drop start work))
 unfolding FoundIn
 found_is p work st f start n h e = (subst (FoundIn p (environment_in work st) work) e h).0
 
-found_none : (p work : Text) (st : List ℕ) (f : Found) → FoundIn p (environment_in work st) work f → f ≡ Missing → lookup p (environment_in work st).namespaces ≡ none
+found_none : (p work : Text) (st : List ℕ) (f : Option (ℕ × ℕ)) → FoundIn p (environment_in work st) work f → f ≡ None → lookup p (environment_in work st).namespaces ≡ none
 unfolding FoundIn
 found_none p work st f h e = subst (FoundIn p (environment_in work st) work) e h
 
@@ -154,13 +153,13 @@ module _ (kind : ℕ) (token work : Text) (st : List ℕ) (buffer : Text) where
   pub refused_unusable : (r : Answered) → length work < work_size → r ≡ refused_address 9 → Addresses kind token work st buffer r
   refused_unusable r h e = refused kind token work st buffer 9 r (omega arith) e (λ u s g at. absurd (omega (arith, u.room)))
 
-  module _ (least : kind_code PNAME_NS ≤ kind) (most : kind ≤ kind_code PNAME_LN) (i : ℕ) (colon : i ≡ before (is ":") token) (f : Found) (look : work_size ≤ length work → FoundIn (take i token) (environment_in work st) work f) where
-    pub refused_missing : f ≡ Missing → (r : Answered) → r ≡ refused_address 9 → Addresses kind token work st buffer r
+  module _ (least : kind_code PNAME_NS ≤ kind) (most : kind ≤ kind_code PNAME_LN) (i : ℕ) (colon : i ≡ before (is ":") token) (f : Option (ℕ × ℕ)) (look : work_size ≤ length work → FoundIn (take i token) (environment_in work st) work f) where
+    pub refused_missing : f ≡ None → (r : Answered) → r ≡ refused_address 9 → Addresses kind token work st buffer r
     refused_missing ef r e =
         refused kind token work st buffer 9 r (omega arith) e
         (λ u s g at. name_missing (environment_in work st) kind at token least most i colon (found_none (take i token) work st f (look u.room) ef))
 
-    module _ (start n : ℕ) (ef : f ≡ At start n) (room : work_size ≤ length work) (from : ℕ) (behind : LocalFrom token i from) (m : ℕ) (em : m ≡ length (unreserve (take (length token - from) (drop from token)))) where
+    module _ (start n : ℕ) (ef : f ≡ Some (start, n)) (room : work_size ≤ length work) (from : ℕ) (behind : LocalFrom token i from) (m : ℕ) (em : m ≡ length (unreserve (take (length token - from) (drop from token)))) where
       bounds : (start + n ≤ work_size) × (n ≤ iri_limit)
       bounds = found_inside (take i token) work st f start n (look room) ef
 

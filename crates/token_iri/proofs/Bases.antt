@@ -13,19 +13,25 @@ use Rattle.limits.specs.Limits.{iri_limit}
 use Rattle.iri.specs.Iri.{letter, scheme_byte, has_scheme, scheme}
 use Rattle.iri.specs.Resolve.{Parts, recompose, resolve_by, resolve, resolved}
 use Rattle.iri.specs.Code.{scheme_from}
-use Rattle.iri.specs.declared.Resolution.TheVariants.{Written, Long, NoBase}
+use Rattle.std.specs.Prelude.{Result, Ok, Err}
+use Rattle.iri.specs.declared.ResolveError.{ResolveError}
+use Rattle.iri.specs.declared.ResolveError.TheVariants.{Long, NoBase}
 use Rattle.iri.proofs.Escaped.{byte_by_byte}
 use Rattle.machine.specs.Refusals.{long_resolved}
 use Rattle.token_iri.specs.Tests.{outcome}
 
+-- An error by its kind.
+pub err_is : {T E : Type 0} {r : Result T E} {x y : E} → r ≡ Err x → x ≡ y → r ≡ Err y
+err_is e f = rw f at e
+
 -- The answers differ.
-no_base_long : {X : Type 0} → NoBase ≡ Long → X
+no_base_long : {X : Type 0} → ◌≡◌ {A = Result ℕ ResolveError} (Err NoBase) (Err Long) → X
 no_base_long e = absurd (let z : ◌≡◌ {A = ℕ} 0 1 = cc in omega arith)
 
-pub no_base_written : {X : Type 0} {k : ℕ} → NoBase ≡ Written k → X
+pub no_base_written : {X : Type 0} {k : ℕ} → Err NoBase ≡ Ok k → X
 no_base_written e = absurd (let z : ◌≡◌ {A = ℕ} 0 1 = cc in omega arith)
 
-pub long_written : {X : Type 0} {k : ℕ} → Long ≡ Written k → X
+pub long_written : {X : Type 0} {k : ℕ} → Err Long ≡ Ok k → X
 long_written e = absurd (let z : ◌≡◌ {A = ℕ} 0 1 = cc in omega arith)
 
 -- A colon is no byte of a scheme.
@@ -71,7 +77,7 @@ baseless b r = not (has_scheme r) && empty b
 abbrev lengthy : Text → Text → Bool
 lengthy b r = ltb iri_limit (length r) || long_resolved b r
 
-pub outcome_no_base : (b r : Text) → NoBase ≡ outcome b r → (not (has_scheme r) && empty b) ≡ true
+pub outcome_no_base : (b r : Text) → Err NoBase ≡ outcome b r → (not (has_scheme r) && empty b) ≡ true
 unfolding outcome
 outcome_no_base b r e = by (baseless b r) (λ h. h) (λ h. by (lengthy b r) (λ g. no_base_long (rw (h, g) at e)) (λ g. no_base_written (rw (h, g) at e)))
 
@@ -84,18 +90,18 @@ pub record WasWritten (b r : Text) (k : ℕ) : Type 0 where
   pub short : (ltb iri_limit (length r) || long_resolved b r) ≡ false
   pub size : k ≡ length (resolved b r)
 
-pub outcome_long : (b r : Text) → Long ≡ outcome b r → WasLong b r
+pub outcome_long : (b r : Text) → Err Long ≡ outcome b r → WasLong b r
 unfolding outcome
 outcome_long b r e = by (baseless b r) (λ h. no_base_long (sym (rw h at e))) (λ h. by (lengthy b r) (λ g. record { based = h; long = g }) (λ g. long_written (rw (h, g) at e)))
 
-pub outcome_written : (b r : Text) (k : ℕ) → Written k ≡ outcome b r → WasWritten b r k
+pub outcome_written : (b r : Text) (k : ℕ) → Ok k ≡ outcome b r → WasWritten b r k
 unfolding outcome
 outcome_written b r k e =
     by (baseless b r) (λ h. no_base_written (sym (rw h at e)))
-    (λ h. by (lengthy b r) (λ g. long_written (sym (rw (h, g) at e))) (λ g. record { based = h; short = g; size = let q : Written k ≡ Written (length (resolved b r)) = rw (h, g) at e in cc }))
+    (λ h. by (lengthy b r) (λ g. long_written (sym (rw (h, g) at e))) (λ g. record { based = h; short = g; size = let q : Ok k ≡ Ok (length (resolved b r)) = rw (h, g) at e in cc }))
 
 -- A reference that is written out has a scheme.
-pub written_scheme : (b r : Text) (k : ℕ) → (empty b || has_scheme b) ≡ true → Written k ≡ outcome b r → has_scheme (resolved b r) ≡ true
+pub written_scheme : (b r : Text) (k : ℕ) → (empty b || has_scheme b) ≡ true → Ok k ≡ outcome b r → has_scheme (resolved b r) ≡ true
 unfolding resolved
 written_scheme b r k s e =
     let w = outcome_written b r k e in

@@ -2,13 +2,13 @@
 use Prim.Native.Nat.{ℕ, zero, suc, ◌+◌, ◌*◌, ◌-◌, ◌≤◌, ◌<◌}
 use mathlib.Core.Path.{◌≡◌, refl, ap, sym, ◌∙◌}
 use mathlib.Core.List.{[], ◌∷◌}
-use mathlib.Core.Bool.{Bool, true, false, not, ◌&&◌}
+use mathlib.Core.Bool.{true, false}
 use native.Mathlib.Omega.{arith}
 use lib.ListN.{length, get_or, take, drop, drop_of_length-le}
 use lib.Seq.{drop-drop}
 use lib.Dec.{eqb, ltb}
 use borrow.Author.Tests.{ne_eqb, ltb-true, ltb-false}
-use Rattle.text.specs.Text.{Text, empty}
+use Rattle.text.specs.Text.{Text}
 use Rattle.text.proofs.Compare.{by, contrary}
 use Rattle.escape.specs.Escape.{outside, behind, digits, hex_value, pieces_from, pieces, unescape_pieces, unescape, no_character, bad_pieces, bad_escape}
 use Rattle.escape.specs.Escape as escape
@@ -76,11 +76,3 @@ local_behind s at h = record { part = sym (drop-drop 1 at s); inside = omega ari
 
 pub local_none : (s : Text) (at : ℕ) → at ≤ length s → length s ≤ at → LocalFrom s at at
 local_none s at h g = let e : drop at s ≡ [] = drop_of_length-le s {i = at} g in record { part = rw e; inside = h }
-
--- A relative reference and no base.
-pub has_own : (b s : Text) (r : Bool) → r ≡ has_scheme (unescape s) → r ≡ true → false ≡ (not (has_scheme (unescape s)) && empty b)
-has_own b s r e h = rw (← e, h)
-
-pub no_own : (b s : Text) (r : Bool) → r ≡ has_scheme (unescape s) → r ≡ false → eqb (length b) 0 ≡ (not (has_scheme (unescape s)) && empty b)
-no_own [] s r e h = rw (← e, h)
-no_own (c ∷ b) s r e h = rw (← e, h) (ne_eqb (length (c ∷ b)) 0 (λ q. omega arith))

@@ -18,26 +18,27 @@ use Rattle.escape.specs.Code.{Written as Unescaped}
 use Rattle.iri.specs.Iri.{has_scheme}
 use Rattle.iri.specs.Resolve.{resolve, resolve_with_dots, resolved}
 use Rattle.iri.specs.Code.{reference, answer, relative_answer, Resolved}
-use Rattle.iri.specs.declared.Resolution.{Resolution}
-use Rattle.iri.specs.declared.Resolution.TheVariants.{Written, Long, NoBase}
+use Rattle.iri.specs.declared.ResolveError.{ResolveError}
+use Rattle.std.specs.Prelude.{Result, Ok, Err}
+use Rattle.iri.specs.declared.ResolveError.TheVariants.{Long, NoBase}
 use Rattle.environment.specs.Code.{environment_in, Usable}
 use Rattle.token_iri.specs.Tests.{Sound, outcome}
 use Rattle.token_iri.specs.Addresses.{Resolves, WritesReference}
 use Rattle.token_iri.proofs.Bases.{no_base_written, long_written}
 
 -- What is written out is as long as the resolved reference, and lies within the buffer.
-answer_size : (b r : Text) (room k : ℕ) → answer b r room ≡ Written k → k ≡ length (resolved b r)
+answer_size : (b r : Text) (room k : ℕ) → answer b r room ≡ Ok k → k ≡ length (resolved b r)
 unfolding answer relative_answer resolved
 answer_size b r room k e =
-    by (has_scheme r) (λ h. let q : Written (length r) ≡ Written k = rw h at e in rw h (cc))
+    by (has_scheme r) (λ h. let q : Ok (length r) ≡ Ok k = rw h at e in rw h (cc))
     (λ h. by (has_scheme b)
     (λ g. by (ltb room (length (resolve_with_dots b r))) (λ l. long_written (rw (h, g, l) at e))
-    (λ l. let q : Written (length (resolve b r)) ≡ Written k = rw (h, g, l) at e in rw h (cc)))
+    (λ l. let q : Ok (length (resolve b r)) ≡ Ok k = rw (h, g, l) at e in rw h (cc)))
     (λ g. no_base_written (rw (h, g) at e)))
 
-pub written_inside : (b y z : Text) (n k : ℕ) (a : Resolution) → Resolved b y z n a → a ≡ Written k → k ≤ length z
+pub written_inside : (b y z : Text) (n k : ℕ) (a : Result ℕ ResolveError) → Resolved b y z n a → a ≡ Ok k → k ≤ length z
 written_inside b y z n k a r e =
-    let q : cond (ltb (length y) n) Long (answer b (reference y n) (length y)) ≡ Written k = sym r.is ∙ e in
+    let q : cond (ltb (length y) n) (Err Long) (answer b (reference y n) (length y)) ≡ Ok k = sym r.is ∙ e in
     by (ltb (length y) n) (λ h. long_written (rw h at q))
     (λ h. let size : k ≡ length (resolved b (reference y n)) = answer_size b (reference y n) (length y) k (rw h at q) in
     by (ltb (length z) k)
@@ -67,16 +68,16 @@ answer_outcome b r s n h =
     both e m = rw (e, m)
 
 module _ (b s : Text) where
-  pub lacks_base : (not (has_scheme (unescape s)) && empty b) ≡ true → (y : Text) → Resolves b s y NoBase
+  pub lacks_base : (not (has_scheme (unescape s)) && empty b) ≡ true → (y : Text) → Resolves b s y (Err NoBase)
   unfolding outcome
   lacks_base h y = record { is = rw h; front = λ k e. no_base_written e }
 
   module _ (based : (not (has_scheme (unescape s)) && empty b) ≡ false) where
-    pub reference_long : iri_limit < length (unescape s) → (y : Text) → Resolves b s y Long
+    pub reference_long : iri_limit < length (unescape s) → (y : Text) → Resolves b s y (Err Long)
     unfolding outcome
     reference_long h y = record { is = rw (based, lt-ltb iri_limit (length (unescape s)) h); front = λ k e. long_written e }
 
-    pub reference_resolved : (empty b || has_scheme b) ≡ true → (x y z : Text) (n : ℕ) (a : Resolution) → length x ≡ iri_limit → n ≡ length (unescape s) → n ≤ iri_limit
+    pub reference_resolved : (empty b || has_scheme b) ≡ true → (x y z : Text) (n : ℕ) (a : Result ℕ ResolveError) → length x ≡ iri_limit → n ≡ length (unescape s) → n ≤ iri_limit
         → y ≡ over_at (iri_limit - n) (unescape s) x → Resolved b y z n a → Resolves b s z a
     reference_resolved sound x y z n a room en h ey r =
         let t : Text = unescape s in
@@ -90,17 +91,17 @@ module _ (b s : Text) where
 
 -- The answers of `write_reference`; the base is the one in force.
 module _ (s work : Text) (st : List ℕ) (b : Text) (eb : Usable work st → b ≡ (environment_in work st).base) (l : Bool) (el : l ≡ (not (has_scheme (unescape s)) && empty b)) where
-  at_base : (y : Text) (a : Resolution) → Usable work st → Resolves b s y a → Resolves (environment_in work st).base s y a
+  at_base : (y : Text) (a : Result ℕ ResolveError) → Usable work st → Resolves b s y a → Resolves (environment_in work st).base s y a
   at_base y a u r = subst (λ (x : Text). Resolves x s y a) (eb u) r
 
-  pub writes_none : l ≡ true → (y : Text) → WritesReference s work st y NoBase
-  writes_none h y = record { inside = λ k e. no_base_written e; resolves = λ u sound good. at_base y NoBase u (lacks_base b s (sym el ∙ h) y) }
+  pub writes_none : l ≡ true → (y : Text) → WritesReference s work st y (Err NoBase)
+  writes_none h y = record { inside = λ k e. no_base_written e; resolves = λ u sound good. at_base y (Err NoBase) u (lacks_base b s (sym el ∙ h) y) }
 
   module _ (based : l ≡ false) (n : ℕ) (en : n ≡ length (unescape s)) where
-    pub writes_long : iri_limit < n → (y : Text) → WritesReference s work st y Long
-    writes_long h y = record { inside = λ k e. long_written e; resolves = λ u sound good. at_base y Long u (reference_long b s (sym el ∙ based) (omega arith) y) }
+    pub writes_long : iri_limit < n → (y : Text) → WritesReference s work st y (Err Long)
+    writes_long h y = record { inside = λ k e. long_written e; resolves = λ u sound good. at_base y (Err Long) u (reference_long b s (sym el ∙ based) (omega arith) y) }
 
-    pub writes_resolved : n ≤ iri_limit → (x w z : Text) (k m : ℕ) (a : Resolution) → length x ≡ iri_limit → k ≡ length x - (iri_limit - n)
+    pub writes_resolved : n ≤ iri_limit → (x w z : Text) (k m : ℕ) (a : Result ℕ ResolveError) → length x ≡ iri_limit → k ≡ length x - (iri_limit - n)
         → Unescaped (bad_escape s ≡ false) (unescape s) (take k (drop (iri_limit - n) x)) w m
         → Resolved b (take (iri_limit - n) x ++ (w ++ drop k (drop (iri_limit - n) x))) z n a
         → WritesReference s work st z a

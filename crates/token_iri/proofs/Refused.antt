@@ -16,7 +16,8 @@ use Rattle.token.specs.Tokens.{Token, has_kind}
 use Rattle.escape.specs.Escape.{bad_escape, unescape, unreserve}
 use Rattle.iri.specs.Resolve.{resolved}
 use Rattle.iri.specs.Code.{before}
-use Rattle.iri.specs.declared.Resolution.TheVariants.{Written, Long, NoBase}
+use Rattle.std.specs.Prelude.{Ok, Err}
+use Rattle.iri.specs.declared.ResolveError.TheVariants.{Long, NoBase}
 use Rattle.iri.proofs.Places.{until_take, from_drop}
 use Rattle.environment.specs.Environment.{Binding, Environment, lookup}
 use Rattle.environment.specs.Code.{is_declared}
@@ -39,15 +40,15 @@ module _ (e : Environment) (at : ℕ) (s : Text) (a : Awaited) (n : declared_nam
   iri_bad h = rw h
 
   module _ (h : bad_escape s ≡ false) where
-    pub iri_no_base : NoBase ≡ outcome e.base (unescape (inner 1 s)) → 10 ≡ iri_refusal (awaiting a e) (token_as 1 at s)
+    pub iri_no_base : Err NoBase ≡ outcome e.base (unescape (inner 1 s)) → 10 ≡ iri_refusal (awaiting a e) (token_as 1 at s)
     unfolding iri_refusal no_character undeclared no_base reference
     iri_no_base o = rw (h, outcome_no_base e.base (unescape (inner 1 s)) o)
 
-    pub iri_long : Long ≡ outcome e.base (unescape (inner 1 s)) → 11 ≡ iri_refusal (awaiting a e) (token_as 1 at s)
+    pub iri_long : Err Long ≡ outcome e.base (unescape (inner 1 s)) → 11 ≡ iri_refusal (awaiting a e) (token_as 1 at s)
     unfolding iri_refusal no_character undeclared no_base too_long reference
     iri_long o = let w = outcome_long e.base (unescape (inner 1 s)) o in rw (h, w.based, w.long)
 
-    pub iri_written : (k : ℕ) → Written k ≡ outcome e.base (unescape (inner 1 s)) → 0 ≡ iri_refusal (awaiting a e) (token_as 1 at s)
+    pub iri_written : (k : ℕ) → Ok k ≡ outcome e.base (unescape (inner 1 s)) → 0 ≡ iri_refusal (awaiting a e) (token_as 1 at s)
     unfolding iri_refusal no_character undeclared no_base too_long reference
     iri_written k o = let w = outcome_written e.base (unescape (inner 1 s)) k o in rw (h, w.based, w.short, n)
 

@@ -11,8 +11,8 @@ use Rattle.spelling.specs.Form.{bad, joined}
 use Rattle.spelling.specs.declared.Form.{Form}
 use Rattle.spelling.specs.declared.Form.TheVariants.{Plain}
 use Rattle.iri.specs.Resolve.{resolved}
-use Rattle.iri.specs.declared.Resolution.{Resolution}
-use Rattle.iri.specs.declared.Resolution.TheVariants.{Written}
+use Rattle.iri.specs.declared.ResolveError.{ResolveError}
+use Rattle.std.specs.Prelude.{Result, Ok}
 use Rattle.environment.specs.Environment.{Environment, declare, set_base}
 use Rattle.environment.specs.Code.{environment_in, Usable, Beside}
 use Rattle.dataset.specs.Constructors.{iri_of, nothing, new_base, namespace_of, awaiting}
@@ -68,12 +68,12 @@ abbrev pub with_form : Answered → Form → Answered
 with_form a f = record { refused = a.refused; start = a.start; end = a.end; form = f; from = a.from; to = a.to; buffered = a.buffered }
 
 -- The reference s, without bad escapes, is resolved into the front of the buffer.
-pub record Resolves (base s buffer : Text) (a : Resolution) : Type 0 where
+pub record Resolves (base s buffer : Text) (a : Result ℕ ResolveError) : Type 0 where
   pub is : a ≡ outcome base (unescape s)
-  pub front : (k : ℕ) → a ≡ Written k → take k buffer ≡ resolved base (unescape s)
+  pub front : (k : ℕ) → a ≡ Ok k → take k buffer ≡ resolved base (unescape s)
 
-pub record WritesReference (s work : Text) (st : List ℕ) (buffer : Text) (a : Resolution) : Type 0 where
-  pub inside : (k : ℕ) → a ≡ Written k → k ≤ length buffer
+pub record WritesReference (s work : Text) (st : List ℕ) (buffer : Text) (a : Result ℕ ResolveError) : Type 0 where
+  pub inside : (k : ℕ) → a ≡ Ok k → k ≤ length buffer
   pub resolves : Usable work st → Sound (environment_in work st) → bad_escape s ≡ false → Resolves (environment_in work st).base s buffer a
 
 -- The local part, where the colon stands at a place, begins at r.

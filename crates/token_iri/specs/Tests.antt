@@ -6,8 +6,9 @@ use Rattle.token.specs.Kind.{kind_of_code}
 use Rattle.token.specs.Tokens.{Token}
 use Rattle.iri.specs.Iri.{has_scheme}
 use Rattle.iri.specs.Resolve.{resolved}
-use Rattle.iri.specs.declared.Resolution.{Resolution}
-use Rattle.iri.specs.declared.Resolution.TheVariants.{Written, Long, NoBase}
+use Rattle.iri.specs.declared.ResolveError.{ResolveError}
+use Rattle.std.specs.Prelude.{Result, Ok, Err}
+use Rattle.iri.specs.declared.ResolveError.TheVariants.{Long, NoBase}
 use Rattle.environment.specs.Environment.{Environment}
 use Rattle.dataset.specs.Constructors.{InForce}
 use Rattle.table.specs.Tables.{or_zero}
@@ -30,5 +31,5 @@ unfoldable pub namespace_refusal : InForce → Token → ℕ
 namespace_refusal f t = or_zero (first_refusal (escape_tests t ++ iri_tests f t ++ prefix_tests f))
 
 -- What becomes of a reference without bad escapes against the base in force.
-unfoldable pub outcome : Text → Text → Resolution
-outcome b r = cond (not (has_scheme r) && empty b) NoBase (cond (ltb iri_limit (length r) || long_resolved b r) Long (Written (length (resolved b r))))
+unfoldable pub outcome : Text → Text → Result ℕ ResolveError
+outcome b r = cond (not (has_scheme r) && empty b) (Err NoBase) (cond (ltb iri_limit (length r) || long_resolved b r) (Err Long) (Ok (length (resolved b r))))

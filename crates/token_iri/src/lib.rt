@@ -16,8 +16,9 @@ ghost use Rattle.dataset.specs.Constructors.{inner};
 ghost use Rattle.token_iri.specs.Tests.{Sound};
 ghost use Rattle.token_iri.specs.Addresses.{answered, Addresses, WritesReference, LocalFrom, GoodReference, DeclaresNamespace, DeclaresBase};
 
-use environment::{Declared, Found, Layout};
-use iri::Resolution;
+use environment::{BaseTooLong, DeclareError, Layout};
+use escape::Escapes;
+use iri::ResolveError;
 use limits::{Limits, Refusal};
 use spelling::Form;
 use token::Kind;
@@ -48,10 +49,10 @@ fn inside<'a>(token: &'a [u8]) -> &'a [u8]
 fn lacks_base(base: &[u8], text: &[u8]) -> bool
     ensures { result ≡ (not (has_scheme (unescape text.now)) && empty base.now) }
 {
-    if iri::has_scheme_unescaped(text) {
-        return false;
+    if base.is_empty() {
+        return !iri::has_scheme_unescaped(text);
     }
-    base.len() == 0
+    false
 }
 
 // Writes the IRI of a reference into the front of the buffer.
@@ -60,20 +61,20 @@ fn write_reference(
     work: &[u8],
     st: &[usize; Layout::WORDS],
     buffer: &mut [u8],
-) -> Resolution
+) -> Result<usize, ResolveError>
     requires { length buffer.old ≡ iri_limit }
     ensures { WritesReference text.now work.now st.now buffer.new result }
 {
     let base = environment::base(work, st);
     if lacks_base(base, text) {
-        return Resolution::NoBase;
+        return Err(ResolveError::NoBase);
     }
-    let n = escape::unescaped_length(text);
+    let n = escape::undone_length(Escapes::Quoted, text);
     if Limits::IRI < n {
-        return Resolution::Long;
+        return Err(ResolveError::Long);
     }
     let start = Limits::IRI - n;
-    escape::write_unescaped(text, &mut buffer[start..]);
+    escape::write_undone(Escapes::Quoted, text, &mut buffer[start..]);
     iri::resolve(base, buffer, n)
 }
 
@@ -119,9 +120,9 @@ fn reference_address(
     }
     let a = write_reference(text, work, st, buffer);
     match a {
-        Resolution::NoBase => Err(Refusal::NoBase),
-        Resolution::Long => Err(Refusal::IriLength),
-        Resolution::Written(k) => Ok(Address {
+        Err(ResolveError::NoBase) => Err(Refusal::NoBase),
+        Err(ResolveError::Long) => Err(Refusal::IriLength),
+        Ok(k) => Ok(Address {
             start: 0,
             end: 0,
             form: Form::Plain,
@@ -172,7 +173,7 @@ fn name_address(
     }
     let at = colon(token);
     let found = environment::look_up(work, st, &token[..at]);
-    let Found::At(start, n) = found else {
+    let Some((start, n)) = found else {
         return Err(Refusal::Prefix);
     };
     let from = local_start(token, at);
@@ -221,14 +222,14 @@ fn declare_written(
     let text = inside(token);
     let a = write_reference(text, &work[0..], st, buffer);
     match a {
-        Resolution::NoBase => Err(Refusal::NoBase),
-        Resolution::Long => Err(Refusal::IriLength),
-        Resolution::Written(k) => {
+        Err(ResolveError::NoBase) => Err(Refusal::NoBase),
+        Err(ResolveError::Long) => Err(Refusal::IriLength),
+        Ok(k) => {
             let d = environment::declare(work, st, prefix, &buffer[..k]);
             match d {
-                Declared::Done => Ok(()),
-                Declared::TooLong => Err(Refusal::IriLength),
-                Declared::TooMany => Err(Refusal::Prefixes),
+                Ok(()) => Ok(()),
+                Err(DeclareError::TooLong) => Err(Refusal::IriLength),
+                Err(DeclareError::TooMany) => Err(Refusal::Prefixes),
             }
         }
     }
@@ -264,13 +265,14 @@ fn set_written(
     let text = inside(token);
     let a = write_reference(text, &work[0..], st, buffer);
     match a {
-        Resolution::NoBase => Err(Refusal::NoBase),
-        Resolution::Long => Err(Refusal::IriLength),
-        Resolution::Written(k) => {
-            if environment::set_base(work, st, &buffer[..k]) {
-                return Ok(());
+        Err(ResolveError::NoBase) => Err(Refusal::NoBase),
+        Err(ResolveError::Long) => Err(Refusal::IriLength),
+        Ok(k) => {
+            let d = environment::set_base(work, st, &buffer[..k]);
+            match d {
+                Ok(()) => Ok(()),
+                Err(BaseTooLong) => Err(Refusal::IriLength),
             }
-            Err(Refusal::IriLength)
         }
     }
 }

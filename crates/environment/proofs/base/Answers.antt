@@ -6,4 +6,4 @@ pub returns-then-work-lt-WORK : goal.returns-then-work-lt-WORK
 returns-then-work-lt-WORK c = λ u. absurd (omega (arith, u.room))
 
 pub returns : goal.returns
-returns c = λ u. base_read c.args.work.now c.args.lens.now c.at_most-end.result c.at_most-end.ensures.0
+returns c = λ u. base_read c.args.work.now c.args.lens.now _ c.min-end.ensures

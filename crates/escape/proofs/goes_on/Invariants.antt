@@ -1,5 +1,5 @@
 -- The invariant: t goes on with the numbers just if it does from the place reached on.
-use Prim.Native.Nat.{◌≤◌, ◌-◌, ◌+◌}
+use Prim.Native.Nat.{◌≤◌, ◌+◌}
 use mathlib.Core.Path.{◌≡◌}
 use lib.ListN.{length, drop}
 use Rattle.text.specs.Text.{begins}
@@ -7,6 +7,3 @@ use Rattle.escape.proofs.goes_on.Given as goal
 
 abbrev pub invariant-loop-i : goal.invariant-loop-i
 invariant-loop-i l = (l.i ≤ length l.b) × (begins l.b (drop l.j l.t) ≡ begins (drop l.i l.b) (drop (l.j + l.i) l.t))
-
-abbrev pub decreases-loop-i : goal.decreases-loop-i
-decreases-loop-i l = length l.b - l.i

@@ -1,15 +1,11 @@
--- The invariant: the text has a bad escape just if the rest has one.
-use Prim.Native.Nat.{◌≤◌, ◌-◌}
+-- The invariant: an escape of the text names no character just if one of the rest does.
 use mathlib.Core.Path.{◌≡◌}
-use lib.ListN.{length, drop}
-use mathlib.Core.Bool.{false}
-use lib.Dec.{eqb}
-use Rattle.escape.specs.Escape.{bad_escape, bad_pieces, pieces_from}
-use Rattle.escape.specs.Code.{place, Fair}
+use Rattle.escape.specs.Escape.{bad_escape}
+use Rattle.escape.specs.declared.Escapes.TheVariants.{Quoted}
 use Rattle.escape.proofs.has_bad_escape.Given as goal
 
-abbrev pub invariant-loop-i : goal.invariant-loop-i
-invariant-loop-i l = ((l.i ≤ length l.s) × Fair l.scan) × ((eqb l.scan.left 10 ≡ false) × (bad_escape l.s ≡ bad_pieces (pieces_from (place l.scan) (drop l.i l.s))))
-
-abbrev pub decreases-loop-i : goal.decreases-loop-i
-decreases-loop-i l = length l.s - l.i
+abbrev pub invariant-loop-part : goal.invariant-loop-part
+invariant-loop-part l = record {
+  kind : l.part-iterator.escapes ≡ Quoted;
+  bad : bad_escape l.s ≡ bad_escape l.part-iterator.rest.now;
+}

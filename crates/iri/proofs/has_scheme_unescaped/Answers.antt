@@ -1,21 +1,27 @@
-use mathlib.Core.Path.{sym, ◌∙◌}
-use native.Mathlib.Omega.{arith}
-use Rattle.escape.proofs.Steps.{fair_start}
-use Rattle.escape.proofs.Walk.{fair_more}
-use Rattle.iri.proofs.Escaped.{walk_start, walk_yes, walk_no, walk_more, walk_end}
+use mathlib.Core.Path.{refl, sym, ◌∙◌}
+use Rattle.escape.specs.Code.{Yields}
+use Rattle.escape.specs.declared.Escapes.TheVariants.{Quoted}
+use Rattle.iri.proofs.Escaped.{walk_start, walk_known, walk_more, walk_end}
 use Rattle.iri.proofs.has_scheme_unescaped.Goals as goal
 
-pub loop-i-init : goal.loop-i-init
-loop-i-init c = ((omega arith, fair_start c.text-scan.result c.text-scan.ensures), walk_start c.text-scan.result c.text-scan.ensures c.args.s.now)
+pub loop-part-init : goal.loop-part-init
+loop-part-init c = let e = c.into_iter-part-iterator.ensures.into_iter_gives in rw e (record { kind = refl; same = walk_start c.args.s.now })
 
-pub returns-in-Yes : goal.returns-in-Yes
-returns-in-Yes c = sym (c.loop-i.invariant.1 ∙ walk_yes c.loop-i.scan c.step-scan.result c.args.s.now c.loop-i.i (omega arith) c.loop-i.invariant.0.1 c.step-scan.ensures (c.type_inv.s c.loop-i.i).fits c.loop-i.first c.judge-v.result c.judge-v.ensures c.in-Yes.is)
+pub judge_part-requires : goal.judge_part-requires
+judge_part-requires c = c.in-Some.ensures.steps.0.some c.loop-part.invariant.kind
 
-pub returns-in-No : goal.returns-in-No
-returns-in-No c = sym (c.loop-i.invariant.1 ∙ walk_no c.loop-i.scan c.step-scan.result c.args.s.now c.loop-i.i (omega arith) c.loop-i.invariant.0.1 c.step-scan.ensures (c.type_inv.s c.loop-i.i).fits c.loop-i.first c.judge-v.result c.judge-v.ensures c.in-No.is)
+pub returns-in-Some-judge_part : goal.returns-in-Some-judge_part
+returns-in-Some-judge_part c =
+    let y : Yields Quoted c.loop-part.part-iterator.rest.now c.next.new.self.rest.now c.in-Some.part = rw c.loop-part.invariant.kind at c.in-Some.ensures.steps.0 in
+    sym (c.loop-part.invariant.same ∙ walk_known c.loop-part.part-iterator.rest.now c.next.new.self.rest.now c.in-Some.part y c.loop-part.first c.judge_part.result c.judge_part.ensures c.in-Some-judge_part.known c.in-Some-judge_part.is)
 
-pub loop-i-preserved : goal.loop-i-preserved
-loop-i-preserved c = ((omega arith, fair_more c.loop-i.scan c.step-scan.result c.args.s.now c.loop-i.i (omega arith) c.loop-i.invariant.0.1 c.step-scan.ensures (c.type_inv.s c.loop-i.i).fits), c.loop-i.invariant.1 ∙ walk_more c.loop-i.scan c.step-scan.result c.args.s.now c.loop-i.i (omega arith) c.loop-i.invariant.0.1 c.step-scan.ensures (c.type_inv.s c.loop-i.i).fits c.loop-i.first c.judge-v.result c.judge-v.ensures c.still_first-first.result c.still_first-first.ensures c.in-More.is)
+pub loop-part-preserved : goal.loop-part-preserved
+loop-part-preserved c =
+    let y : Yields Quoted c.loop-part.part-iterator.rest.now c.next.new.self.rest.now c.in-Some.part = rw c.loop-part.invariant.kind at c.in-Some.ensures.steps.0 in
+    record {
+      kind = c.in-Some.ensures.steps.1 ∙ c.loop-part.invariant.kind;
+      same = c.loop-part.invariant.same ∙ walk_more c.loop-part.part-iterator.rest.now c.next.new.self.rest.now c.in-Some.part y c.loop-part.first c.judge_part.result c.judge_part.ensures c.in_default.is;
+    }
 
 pub returns : goal.returns
-returns c = sym (c.loop-i.invariant.1 ∙ walk_end c.loop-i.scan c.args.s.now c.loop-i.i c.loop-i.first (omega arith))
+returns c = sym (c.loop-part.invariant.same ∙ walk_end c.loop-part.part-iterator.rest.now c.loop-part.first (rw c.loop-part.invariant.kind at (c.in-None.ensures.steps.text)))

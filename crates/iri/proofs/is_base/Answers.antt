@@ -1,6 +1,5 @@
 use mathlib.Core.Path.{ap, sym, ◌∙◌}
 use mathlib.Core.Bool.{not}
-use Rattle.iri.specs.Iri.{has_scheme}
 use Rattle.iri.proofs.is_base.Goals as goal
 
 pub returns-then-has_scheme : goal.returns-then-has_scheme

@@ -1,15 +1,19 @@
-use native.Mathlib.Omega.{arith}
-use Rattle.iri.proofs.Escaped.{judged_none, judged_many, judged_high, judged_one}
+use mathlib.Core.Path.{sym, ◌∙◌}
+use Rattle.iri.specs.Code.{verdict}
 use Rattle.iri.proofs.judge.Goals as goal
 
-pub returns-then-n-eq0 : goal.returns-then-n-eq0
-returns-then-n-eq0 c = judged_none c.args.first c.args.n c.args.v c.if-n-eq0.true
+pub returns-then-is_letter : goal.returns-then-is_letter
+unfolding verdict
+returns-then-is_letter c = rw (c.if-first.true, sym c.is_letter.ensures ∙ c.if-is_letter.true)
 
-pub returns-then-n-gt1 : goal.returns-then-n-gt1
-returns-then-n-gt1 c = judged_many c.args.first c.args.n c.args.v c.if-n-gt1.true
+pub returns-else-is_letter : goal.returns-else-is_letter
+unfolding verdict
+returns-else-is_letter c = rw (c.if-first.true, sym c.is_letter.ensures ∙ c.if-is_letter.false)
 
-pub returns-then-v-gt255 : goal.returns-then-v-gt255
-returns-then-v-gt255 c = judged_high c.args.first c.args.n c.args.v c.if-n-eq0.false (omega arith) (omega arith)
+pub returns-then-is_scheme_byte : goal.returns-then-is_scheme_byte
+unfolding verdict
+returns-then-is_scheme_byte c = rw (c.if-first.false, sym c.is_scheme_byte.ensures ∙ c.if-is_scheme_byte.true)
 
 pub returns : goal.returns
-returns c = judged_one c.args.first c.args.n c.args.v _ c.if-n-eq0.false (omega arith) c.judge_byte.ensures
+unfolding verdict
+returns c = rw (c.if-first.false, sym c.is_scheme_byte.ensures ∙ c.if-is_scheme_byte.false)

@@ -1,16 +1,10 @@
-use mathlib.Core.Path.{refl, sym, ◌∙◌}
+use mathlib.Core.Path.{sym, ◌∙◌}
 use native.Mathlib.Omega.{arith}
 use Rattle.spelling.proofs.Hashes.{hash_more, hash_end}
 use Rattle.spelling.proofs.hash_each.Goals as goal
 
-pub loop-i-init : goal.loop-i-init
-loop-i-init c = ((c.requires.1.1, c.requires.1.0), refl)
-
-pub stir-total-requires : goal.stir-total-requires
-stir-total-requires c = (c.requires.0, (c.loop-i.invariant.0.1, omega arith))
-
-pub loop-i-preserved : goal.loop-i-preserved
-loop-i-preserved c = ((omega arith, c.stir-total.ensures.1), c.loop-i.invariant.1 ∙ rw (c.stir-total.ensures.0, c.wide.ensures.0) (hash_more c.args.m c.loop-i.total c.args.s.now c.loop-i.i (omega arith)))
+pub loop-b-preserved : goal.loop-b-preserved
+loop-b-preserved c = (c.stir-total.ensures.1, c.loop-b.invariant.1 ∙ rw (c.stir-total.ensures.0, c.wide.ensures.0) (hash_more c.args.m c.loop-b.total c.args.s.now c.loop-b.b-index (omega arith)))
 
 pub returns : goal.returns
-returns c = (sym (c.loop-i.invariant.1 ∙ hash_end c.args.m c.loop-i.total c.args.s.now c.loop-i.i (omega arith)), c.loop-i.invariant.0.1)
+returns c = (sym (c.loop-b.invariant.1 ∙ hash_end c.args.m c.loop-b.total c.args.s.now c.loop-b.b-index (omega arith)), c.loop-b.invariant.0)

@@ -17,13 +17,13 @@ pub returns-in_default : goal.returns-in_default
 returns-in_default c = λ buffer. refused_missing c.args.kind c.args.token.now c.args.work.now c.args.st.now buffer (omega arith) (omega arith) c.colon-at.result c.colon-at.ensures.0 c.look_up-found.result c.look_up-found.ensures c.in_default.is (refused_address 9) refl
 
 pub overflow_sub-n : goal.overflow_sub-n
-overflow_sub-n c = (found_inside (_) c.args.work.now c.args.st.now c.look_up-found.result c.in-At.start c.in-At.n (c.look_up-found.ensures (omega arith)) c.in-At.is).1
+overflow_sub-n c = (found_inside (_) c.args.work.now c.args.st.now c.look_up-found.result c.in-Some.start c.in-Some.n (c.look_up-found.ensures (omega arith)) c.in-Some.is).1
 
 pub returns-then-n-undone_length : goal.returns-then-n-undone_length
-returns-then-n-undone_length c = λ buffer. refused_joined c.args.kind c.args.token.now c.args.work.now c.args.st.now buffer (omega arith) (omega arith) c.colon-at.result c.colon-at.ensures.0 c.look_up-found.result c.look_up-found.ensures c.in-At.start c.in-At.n c.in-At.is (omega arith) c.local_start-from.result c.local_start-from.ensures c.undone_length.result (reserved_length c.simplest-form.result (take (length c.args.token.now - c.local_start-from.result) (drop c.local_start-from.result c.args.token.now)) _ c.undone_length.ensures c.simplest-form.ensures) c.if-n-undone_length.true (refused_address 11) refl
+returns-then-n-undone_length c = λ buffer. refused_joined c.args.kind c.args.token.now c.args.work.now c.args.st.now buffer (omega arith) (omega arith) c.colon-at.result c.colon-at.ensures.0 c.look_up-found.result c.look_up-found.ensures c.in-Some.start c.in-Some.n c.in-Some.is (omega arith) c.local_start-from.result c.local_start-from.ensures c.undone_length.result (reserved_length c.simplest-form.result (take (length c.args.token.now - c.local_start-from.result) (drop c.local_start-from.result c.args.token.now)) _ c.undone_length.ensures c.simplest-form.ensures) c.if-n-undone_length.true (refused_address 11) refl
 
 pub overflow_add-result : goal.overflow_add-result
-overflow_add-result c = omega (arith, (found_inside (_) c.args.work.now c.args.st.now c.look_up-found.result c.in-At.start c.in-At.n (c.look_up-found.ensures (omega arith)) c.in-At.is).0)
+overflow_add-result c = omega (arith, (found_inside (_) c.args.work.now c.args.st.now c.look_up-found.result c.in-Some.start c.in-Some.n (c.look_up-found.ensures (omega arith)) c.in-Some.is).0)
 
 pub returns : goal.returns
-returns c = λ buffer. in_form c.args.kind c.args.token.now c.args.work.now c.args.st.now buffer _ c.simplest-form.result c.simplest-form.ensures (joined_there c.args.kind c.args.token.now c.args.work.now c.args.st.now buffer (omega arith) (omega arith) c.colon-at.result c.colon-at.ensures.0 c.look_up-found.result c.look_up-found.ensures c.in-At.start c.in-At.n c.in-At.is (omega arith) c.local_start-from.result c.local_start-from.ensures c.undone_length.result (reserved_length c.simplest-form.result (take (length c.args.token.now - c.local_start-from.result) (drop c.local_start-from.result c.args.token.now)) _ c.undone_length.ensures c.simplest-form.ensures) c.if-n-undone_length.false)
+returns c = λ buffer. in_form c.args.kind c.args.token.now c.args.work.now c.args.st.now buffer _ c.simplest-form.result c.simplest-form.ensures (joined_there c.args.kind c.args.token.now c.args.work.now c.args.st.now buffer (omega arith) (omega arith) c.colon-at.result c.colon-at.ensures.0 c.look_up-found.result c.look_up-found.ensures c.in-Some.start c.in-Some.n c.in-Some.is (omega arith) c.local_start-from.result c.local_start-from.ensures c.undone_length.result (reserved_length c.simplest-form.result (take (length c.args.token.now - c.local_start-from.result) (drop c.local_start-from.result c.args.token.now)) _ c.undone_length.ensures c.simplest-form.ensures) c.if-n-undone_length.false)

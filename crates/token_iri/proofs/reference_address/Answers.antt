@@ -2,6 +2,7 @@ use mathlib.Core.Path.{refl}
 use Rattle.token_iri.specs.Addresses.{refused_address}
 use native.Mathlib.Omega.{arith}
 use Rattle.token_iri.proofs.Answers.{refused_bad, refused_long, token_long, as_written, refused_no_base, refused_over, resolved_there, in_form, as_escaped, escaped_length, inside_reads}
+use Rattle.token_iri.proofs.Bases.{err_is}
 use Rattle.token_iri.proofs.reference_address.Goals as goal
 
 pub returns-then-has_bad_escape : goal.returns-then-has_bad_escape
@@ -19,11 +20,11 @@ overflow_sub-result c = omega (arith, token_long c.args.token.now c.args.work.no
 pub returns-then-with_scheme : goal.returns-then-with_scheme
 returns-then-with_scheme c = in_form 1 c.args.token.now c.args.work.now c.args.st.now _ _ c.simplest-form.result (inside_reads c.simplest-form.result c.args.token.now c.inside-text.result.now (token_long c.args.token.now c.args.work.now c.args.st.now c.args.buffer.now c.has_bad_escape.result c.has_bad_escape.ensures c.if-has_bad_escape.false c.inside-text.result.now c.inside-text.ensures c.with_scheme.result c.with_scheme.ensures c.if-with_scheme.true c.undone_length.result (escaped_length c.simplest-form.result c.inside-text.result.now _ c.undone_length.ensures c.simplest-form.ensures)) c.inside-text.ensures c.simplest-form.ensures) (as_written c.args.token.now c.args.work.now c.args.st.now _ c.has_bad_escape.result c.has_bad_escape.ensures c.if-has_bad_escape.false c.inside-text.result.now c.inside-text.ensures c.with_scheme.result c.with_scheme.ensures c.if-with_scheme.true c.undone_length.result (escaped_length c.simplest-form.result c.inside-text.result.now _ c.undone_length.ensures c.simplest-form.ensures) c.if-undone_length-gt-IRI.false)
 
-pub returns-in-NoBase : goal.returns-in-NoBase
-returns-in-NoBase c = refused_no_base c.args.token.now c.args.work.now c.args.st.now _ c.has_bad_escape.result c.has_bad_escape.ensures c.if-has_bad_escape.false c.inside-text.result.now c.inside-text.ensures c.write_reference-a.result c.write_reference-a.ensures c.in-NoBase.is (refused_address 10) refl
+pub returns-in-Err-NoBase : goal.returns-in-Err-NoBase
+returns-in-Err-NoBase c = refused_no_base c.args.token.now c.args.work.now c.args.st.now _ c.has_bad_escape.result c.has_bad_escape.ensures c.if-has_bad_escape.false c.inside-text.result.now c.inside-text.ensures c.write_reference-a.result c.write_reference-a.ensures (err_is c.in-Err-NoBase.is (rw c.in-Err-NoBase.is at c.in-Err-NoBase.field-0-is)) (refused_address 10) refl
 
-pub returns-in-Long : goal.returns-in-Long
-returns-in-Long c = refused_over c.args.token.now c.args.work.now c.args.st.now _ c.has_bad_escape.result c.has_bad_escape.ensures c.if-has_bad_escape.false c.inside-text.result.now c.inside-text.ensures c.write_reference-a.result c.write_reference-a.ensures c.in-Long.is (refused_address 11) refl
+pub returns-in-Err-Long : goal.returns-in-Err-Long
+returns-in-Err-Long c = refused_over c.args.token.now c.args.work.now c.args.st.now _ c.has_bad_escape.result c.has_bad_escape.ensures c.if-has_bad_escape.false c.inside-text.result.now c.inside-text.ensures c.write_reference-a.result c.write_reference-a.ensures (err_is c.in-Err-Long.is (rw c.in-Err-Long.is at c.in-Err-Long.field-0-is)) (refused_address 11) refl
 
-pub returns-in-Written : goal.returns-in-Written
-returns-in-Written c = resolved_there c.args.token.now c.args.work.now c.args.st.now _ c.has_bad_escape.result c.has_bad_escape.ensures c.if-has_bad_escape.false c.inside-text.result.now c.inside-text.ensures c.write_reference-a.result c.write_reference-a.ensures c.in-Written.k c.in-Written.is (omega arith)
+pub returns-in-Ok : goal.returns-in-Ok
+returns-in-Ok c = resolved_there c.args.token.now c.args.work.now c.args.st.now _ c.has_bad_escape.result c.has_bad_escape.ensures c.if-has_bad_escape.false c.inside-text.result.now c.inside-text.ensures c.write_reference-a.result c.write_reference-a.ensures c.in-Ok.k c.in-Ok.is (omega arith)
