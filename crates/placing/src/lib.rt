@@ -1,11 +1,12 @@
 // A node at its place: whether there is room for all that one token writes is decided first, then it is written.
 #![tactic(auto)]
 
-ghost use Rattle.std.specs.Prelude.{◌≡◌};
+ghost use Rattle.limits.specs.Refusal.{code};
 ghost use Rattle.state.specs.Represents.{lent_tables, Represented, Puts};
 ghost use Rattle.state.specs.Writes.{node_write, placed, opened_at, closed, SpotFits, NodeFits};
 
 use environment::Layout;
+use limits::Refusal;
 use state::{Node, Spot};
 
 // A node, with the row that holds it.
@@ -20,16 +21,13 @@ pub fn place(
     back: &[u8],
     text: &[u8],
     tag: &[u8],
-) -> u8
+) -> Result<(), Refusal>
     requires { Represented work.old (lent_tables rows.old terms.old store.old) st.old × (SpotFits spot × NodeFits node work.old back.now text.now tag.now) }
-    ensures { Puts (placed spot (node_write node work.old back.now text.now tag.now spot.at)) work.old work.new (lent_tables rows.old terms.old store.old) (lent_tables rows.new terms.new store.new) st.old st.new result }
+    ensures { Puts (placed spot (node_write node work.old back.now text.now tag.now spot.at)) work.old work.new (lent_tables rows.old terms.old store.old) (lent_tables rows.new terms.new store.new) st.old st.new (code result) }
 {
-    let r = room::room_to_place(work, rows, terms, store, st, spot, node, back, text, tag);
-    if r != 0 {
-        return r;
-    }
+    room::room_to_place(work, rows, terms, store, st, spot, node, back, text, tag)?;
     writes::write_placed(work, rows, terms, store, st, spot, node, back, text, tag);
-    0
+    Ok(())
 }
 
 // The place of a node that comes later.
@@ -40,16 +38,13 @@ pub fn open(
     store: &mut [u8],
     st: &mut [usize; Layout::WORDS],
     spot: Spot,
-) -> u8
+) -> Result<(), Refusal>
     requires { Represented work.old (lent_tables rows.old terms.old store.old) st.old × SpotFits spot }
-    ensures { Puts (opened_at spot) work.old work.new (lent_tables rows.old terms.old store.old) (lent_tables rows.new terms.new store.new) st.old st.new result }
+    ensures { Puts (opened_at spot) work.old work.new (lent_tables rows.old terms.old store.old) (lent_tables rows.new terms.new store.new) st.old st.new (code result) }
 {
-    let r = room::room_to_open(work, rows, terms, store, st, spot);
-    if r != 0 {
-        return r;
-    }
+    room::room_to_open(work, rows, terms, store, st, spot)?;
     writes::write_opened(work, rows, terms, store, st, spot);
-    0
+    Ok(())
 }
 
 // The end of a list.
@@ -60,14 +55,11 @@ pub fn close(
     store: &mut [u8],
     st: &mut [usize; Layout::WORDS],
     spot: Spot,
-) -> u8
+) -> Result<(), Refusal>
     requires { Represented work.old (lent_tables rows.old terms.old store.old) st.old × SpotFits spot }
-    ensures { Puts (closed spot) work.old work.new (lent_tables rows.old terms.old store.old) (lent_tables rows.new terms.new store.new) st.old st.new result }
+    ensures { Puts (closed spot) work.old work.new (lent_tables rows.old terms.old store.old) (lent_tables rows.new terms.new store.new) st.old st.new (code result) }
 {
-    let r = room::room_to_close(work, rows, terms, store, st, spot);
-    if r != 0 {
-        return r;
-    }
+    room::room_to_close(work, rows, terms, store, st, spot)?;
     writes::write_closed(work, rows, terms, store, st, spot);
-    0
+    Ok(())
 }

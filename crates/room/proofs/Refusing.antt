@@ -26,7 +26,16 @@ use Rattle.room.specs.Counting.{tally, count_before, count_place, count_close, H
 use Rattle.room.proofs.Asks.{Asks, opened_asks, closed_asks, placed_asks}
 use Rattle.room.proofs.Counting.{Counted, opening_counted, place_counted, close_counted}
 use Rattle.room.proofs.Bounds.{Within, before_within, place_within, close_within}
+use Rattle.std.specs.Prelude.{Result, Ok, Err, true}
+use Rattle.std.specs.Result.{is_ok}
+use Rattle.limits.specs.declared.Refusal.{Refusal}
+use Rattle.limits.specs.Refusal.{code}
 use Rattle.limits.specs.Limits.{iri_limit}
+
+-- An answer that refuses nothing.
+pub ok_code : {T : Type 0} → (r : Result T Refusal) → is_ok r ≡ true → code r ≡ 0
+ok_code (Ok x) e = refl
+ok_code (Err x) e = cc
 
 -- Where there is room for more, there is room.
 pub enough_more : (room : Room) (n : ℕ) (c d : Tally) → refusal_of room n c ≡ 0 → d.terms ≤ c.terms → d.bytes ≤ c.bytes → refusal_of room n d ≡ 0

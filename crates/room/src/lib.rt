@@ -1,10 +1,10 @@
-// Whether the lent tables have room for all that one token writes, decided before anything is written: 14 where rows are
-// missing, 15 terms, 16 bytes of the store, else 0. Nothing is changed. Terms are looked for only where a safe bound
-// of what is new does not fit.
+// Whether the lent tables have room for all that one token writes, decided before anything is written: an error says what
+// is missing. Nothing is changed. Terms are looked for only where a safe bound of what is new does not fit.
 #![tactic(auto)]
 
 ghost use Rattle.std.specs.Prelude.{◌≡◌, ◌+◌, ◌-◌, ◌≤◌, ◌<◌, length, take, drop};
 ghost use Rattle.limits.specs.Limits.{document_limit, work_size};
+ghost use Rattle.limits.specs.Refusal.{code};
 ghost use Rattle.spelling.specs.Form.{undo, joined};
 ghost use Rattle.dataset.specs.Terms.{iri, blank, label, literal, tagged};
 ghost use Rattle.term_tree.specs.Holds.{Finds};
@@ -14,7 +14,7 @@ ghost use Rattle.room.specs.Asks.{supplied, place_iri, place_rows, before_iri, b
 ghost use Rattle.room.specs.Counting.{tally, more, count_term, count_supply, is_supplied, count_iri, count_node, asks_first, count_behind, count_before, count_place, count_close, Held, Numbers, Tallies, LiteralTallies, Answers, Small, Named, rows_in, tally_in, refusal_of};
 
 use environment::Layout;
-use limits::{Answer, Limits};
+use limits::{Limits, Refusal};
 use spelling::Form;
 use state::{Node, Spot, Words};
 use table::TermKind;
@@ -584,26 +584,29 @@ fn tally_close(
 fn at_most(n: usize) -> usize
     ensures { result ≡ at_most n }
 {
-    if n <= 4294967294 {
-        return n;
-    }
-    4294967294
+    n.min(4294967294)
 }
 
-// The answer where there would be so many rows, and so many terms and bytes.
-fn refusal(rows: &[u32], terms: &[u32], store: &[u8], count: usize, t: Tally) -> u8
-    ensures { result ≡ refusal_of (room_in (lent_tables rows.now terms.now store.now)) count t }
+// Which room is missing where there would be so many rows, and so many terms and bytes.
+fn room_for(
+    rows: &[u32],
+    terms: &[u32],
+    store: &[u8],
+    count: usize,
+    t: Tally,
+) -> Result<(), Refusal>
+    ensures { code result ≡ refusal_of (room_in (lent_tables rows.now terms.now store.now)) count t }
 {
     if at_most(rows.len() / table::Layout::ROW_WORDS) < count {
-        return Answer::ROWS;
+        return Err(Refusal::Rows);
     }
     if at_most(terms.len() / table::Layout::TERM_WORDS) < t.terms {
-        return Answer::TERMS;
+        return Err(Refusal::Terms);
     }
     if at_most(store.len()) < t.bytes {
-        return Answer::STORE;
+        return Err(Refusal::Store);
     }
-    0
+    Ok(())
 }
 
 fn rows_in(st: &[usize; Layout::WORDS]) -> usize
@@ -644,15 +647,15 @@ pub fn room_to_place(
     back: &[u8],
     text: &[u8],
     tag: &[u8],
-) -> u8
+) -> Result<(), Refusal>
     requires { Represented work.now (lent_tables rows.now terms.now store.now) st.now × NodeFits node work.now back.now text.now tag.now }
-    ensures { Answers work.now (lent_tables rows.now terms.now store.now) st.now (placed spot (node_write node work.now back.now text.now tag.now spot.at)) result }
+    ensures { Answers work.now (lent_tables rows.now terms.now store.now) st.now (placed spot (node_write node work.now back.now text.now tag.now spot.at)) (code result) }
 {
     let count = rows_in(st) + (before_rows(spot) + behind_rows(spot));
     let t = tally_in(st);
     let most = raised(t, 5, 1120 + (text.len() + tag.len()));
-    if refusal(rows, terms, store, count, most) == 0 {
-        return 0;
+    if room_for(rows, terms, store, count, most).is_ok() {
+        return Ok(());
     }
     let exact = tally_place(
         work,
@@ -666,7 +669,7 @@ pub fn room_to_place(
         tag,
         t,
     );
-    refusal(rows, terms, store, count, exact)
+    room_for(rows, terms, store, count, exact)
 }
 
 // Whether a place can be made for a bracket or a list.
@@ -677,18 +680,18 @@ pub fn room_to_open(
     store: &[u8],
     st: &[usize; Layout::WORDS],
     spot: Spot,
-) -> u8
+) -> Result<(), Refusal>
     requires { Represented work.now (lent_tables rows.now terms.now store.now) st.now }
-    ensures { Answers work.now (lent_tables rows.now terms.now store.now) st.now (opened_at spot) result }
+    ensures { Answers work.now (lent_tables rows.now terms.now store.now) st.now (opened_at spot) (code result) }
 {
     let count = rows_in(st) + before_rows(spot);
     let t = tally_in(st);
     let most = raised(t, 2, 48);
-    if refusal(rows, terms, store, count, most) == 0 {
-        return 0;
+    if room_for(rows, terms, store, count, most).is_ok() {
+        return Ok(());
     }
     let exact = tally_before(work, terms, store, state::counts(st), spot, t);
-    refusal(rows, terms, store, count, exact)
+    room_for(rows, terms, store, count, exact)
 }
 
 // Whether a list can be ended.
@@ -699,16 +702,16 @@ pub fn room_to_close(
     store: &[u8],
     st: &[usize; Layout::WORDS],
     spot: Spot,
-) -> u8
+) -> Result<(), Refusal>
     requires { Represented work.now (lent_tables rows.now terms.now store.now) st.now }
-    ensures { Answers work.now (lent_tables rows.now terms.now store.now) st.now (closed spot) result }
+    ensures { Answers work.now (lent_tables rows.now terms.now store.now) st.now (closed spot) (code result) }
 {
     let count = rows_in(st) + close_rows(spot);
     let t = tally_in(st);
     let most = raised(t, 2, 96);
-    if refusal(rows, terms, store, count, most) == 0 {
-        return 0;
+    if room_for(rows, terms, store, count, most).is_ok() {
+        return Ok(());
     }
     let exact = tally_close(work, terms, store, state::counts(st), spot, t);
-    refusal(rows, terms, store, count, exact)
+    room_for(rows, terms, store, count, exact)
 }

@@ -1,14 +1,5 @@
-use Rattle.placing.proofs.Putting.{put_ready, put_refused, put_written}
+use Rattle.placing.proofs.Putting.{put_ready}
 use Rattle.placing.proofs.close.Goals as goal
 
-pub room_to_close-r-requires : goal.room_to_close-r-requires
-room_to_close-r-requires c = c.requires.0
-
-pub returns-then-r-ne0 : goal.returns-then-r-ne0
-returns-then-r-ne0 c = search put_refused
-
 pub write_closed-requires : goal.write_closed-requires
-write_closed-requires c = (put_ready _ _ _ _ _ _ _ c.room_to_close-r.ensures c.if-r-ne0.false c.requires.0, c.requires.1)
-
-pub returns : goal.returns
-returns c = search put_written
+write_closed-requires c = (put_ready _ _ _ _ c.in_ok-room_to_close.ensures c.requires.0, c.requires.1)

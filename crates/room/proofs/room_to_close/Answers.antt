@@ -1,9 +1,10 @@
 use Prim.Native.Nat.{◌+◌}
 use mathlib.Core.Path.{sym, ◌∙◌}
 use Rattle.room.proofs.Tests.{few_end_rows}
+use Rattle.limits.specs.Refusal.{code}
 use native.Mathlib.Omega.{arith}
 use Rattle.state.specs.Represents.{lent_tables}
-use Rattle.room.proofs.Refusing.{held, rows_small, tally_small, close_surely, close_exactly}
+use Rattle.room.proofs.Refusing.{ok_code, held, rows_small, tally_small, close_surely, close_exactly}
 use Rattle.room.proofs.room_to_close.Goals as goal
 
 pub overflow_add-count : goal.overflow_add-count
@@ -12,11 +13,11 @@ overflow_add-count c = omega (arith, c.close_rows.ensures, few_end_rows c.args.s
 pub raised-most-requires : goal.raised-most-requires
 raised-most-requires c = (tally_small c.args.work.now (lent_tables c.args.rows.now c.args.terms.now c.args.store.now) c.args.st.now c.tally_in-t.result c.tally_in-t.ensures c.requires, (omega arith, omega (arith)))
 
-pub returns-then-refusal-eq0 : goal.returns-then-refusal-eq0
-returns-then-refusal-eq0 c = close_surely c.args.work.now (lent_tables c.args.rows.now c.args.terms.now c.args.store.now) c.args.st.now c.args.spot (c.rows_in.result + c.close_rows.result) c.tally_in-t.result c.raised-most.result (omega (arith, c.rows_in.ensures, c.close_rows.ensures)) c.tally_in-t.ensures c.raised-most.ensures (sym c.refusal.ensures ∙ c.if-refusal-eq0.true)
+pub returns-then-is_ok : goal.returns-then-is_ok
+returns-then-is_ok c = close_surely c.args.work.now (lent_tables c.args.rows.now c.args.terms.now c.args.store.now) c.args.st.now c.args.spot (c.rows_in.result + c.close_rows.result) c.tally_in-t.result c.raised-most.result (omega (arith, c.rows_in.ensures, c.close_rows.ensures)) c.tally_in-t.ensures c.raised-most.ensures (sym c.room_for.ensures ∙ ok_code c.room_for.result (sym c.is_ok.ensures.value ∙ c.if-is_ok.true))
 
 pub tally_close-exact-requires : goal.tally_close-exact-requires
 tally_close-exact-requires c = (held c.args.work.now (lent_tables c.args.rows.now c.args.terms.now c.args.store.now) c.args.st.now c.counts.result c.counts.ensures c.requires, tally_small c.args.work.now (lent_tables c.args.rows.now c.args.terms.now c.args.store.now) c.args.st.now c.tally_in-t.result c.tally_in-t.ensures c.requires)
 
 pub returns : goal.returns
-returns c = close_exactly c.args.work.now (lent_tables c.args.rows.now c.args.terms.now c.args.store.now) c.args.st.now c.args.spot (c.rows_in.result + c.close_rows.result) c.tally_in-t.result c.tally_close-exact.result c.counts.result c.refusal-2.result (omega (arith, c.rows_in.ensures, c.close_rows.ensures)) c.tally_in-t.ensures c.counts.ensures c.tally_close-exact.ensures c.refusal-2.ensures
+returns c = close_exactly c.args.work.now (lent_tables c.args.rows.now c.args.terms.now c.args.store.now) c.args.st.now c.args.spot (c.rows_in.result + c.close_rows.result) c.tally_in-t.result c.tally_close-exact.result c.counts.result (code c.room_for-2.result) (omega (arith, c.rows_in.ensures, c.close_rows.ensures)) c.tally_in-t.ensures c.counts.ensures c.tally_close-exact.ensures c.room_for-2.ensures

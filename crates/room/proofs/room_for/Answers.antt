@@ -2,7 +2,7 @@ use Rattle.room.proofs.Tests.{enough}
 use Rattle.room.proofs.Tests.{no_bytes}
 use Rattle.room.proofs.Tests.{no_terms}
 use Rattle.room.proofs.Tests.{no_rows}
-use Rattle.room.proofs.refusal.Goals as goal
+use Rattle.room.proofs.room_for.Goals as goal
 
 pub returns-then-at_most-count : goal.returns-then-at_most-count
 returns-then-at_most-count c = search no_rows
