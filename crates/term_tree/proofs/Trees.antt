@@ -1,7 +1,7 @@
 -- Following a tree, and putting a term into it.
 use mathlib.Core.Path.{◌≡◌, refl, sym, ap, subst, ◌∙◌}
 use mathlib.Core.Bool.{Bool, true, false}
-use Prim.Native.Nat.{ℕ, zero, suc, ◌+◌, ◌*◌, ◌-◌, ◌<◌, ◌≤◌}
+use Prim.Native.Nat.{ℕ, zero, suc, ◌+◌, ◌*◌, ◌-◌, ◌<◌, ◌≤◌, min}
 use native.Mathlib.Decide.{dec_le}
 use native.Mathlib.Omega.{arith}
 use native.Mathlib.Numerals.{add-one}
@@ -25,6 +25,9 @@ least_left a b = by (ltb a b) (λ e. rw e (omega arith)) (λ e. rw e (omega (ari
 
 pub least_right : (a b : ℕ) → least a b ≤ b
 least_right a b = by (ltb a b) (λ e. rw e (omega (arith, ltb-true a b e))) (λ e. rw e (omega arith))
+
+pub min_least : (a b : ℕ) → min a b ≡ least a b
+min_least a b = by (ltb a b) (λ e. rw e (omega (arith, ltb-true a b e))) (λ e. rw e (omega (arith, ltb-false a b e)))
 
 pub least_low : (a b : ℕ) → a ≤ b → least a b ≡ a
 least_low a b h = by (ltb a b) (λ e. rw e) (λ e. rw e (omega (arith, ltb-false a b e)))
