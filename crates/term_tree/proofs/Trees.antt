@@ -219,3 +219,10 @@ module _ {m : ℕ} {bucket : ℕ → ℕ} {turn : ℕ → ℕ → ℕ} {slot : �
           (λ e. omega (arith, ap slot' e, filled, below c t n h e way))
           (λ ne. omega (arith, others (child m c t) ne, I.deeper c t l h (omega (arith, others (child m c t) ne))));
     }
+
+-- No term is indexed.
+pub nothing_followed : (p : ℕ → Bool) (count : ℕ) → count ≡ 0 → Followed p count 0
+nothing_followed p count e = record { within = omega arith; found = λ h. absurd (omega arith); absent = λ z i h. absurd (omega arith) }
+
+pub some_bucket : (m : ℕ) → (m ≡ 0 → ⊥) → 0 < m
+some_bucket m ne = elim (dec_le 1 m) [ yes p ↦ p | no p ↦ absurd (ne (omega (arith, p))) ]

@@ -35,6 +35,7 @@ fn set_slot(s: &mut [u8], i: usize, v: usize)
 }
 
 // A hash of what a term is known by; the first of them chooses its bucket.
+#[inline(always)]
 fn key_at(k: usize, sought: &Sought<'_>) -> usize
     ensures { (result ≡ key_at k (text_in sought.now) sought.now.tag.now (type_of sought.now.sort)) × (result < 4294967296) }
 {
@@ -63,6 +64,7 @@ fn next_key(key: usize, level: usize, sought: &Sought<'_>) -> usize
 }
 
 // The number of the equal term in the tree of its bucket, or else the slot where it would stand.
+#[inline(always)]
 fn follow(
     index: &[u8],
     count: usize,
@@ -70,10 +72,13 @@ fn follow(
     store: &[u8],
     sought: &Sought<'_>,
 ) -> Result<usize, usize>
-    requires { (Linked index.now count × (0 < buckets index.now)) × Readable terms.now store.now count }
+    requires { Linked index.now count × Readable terms.now store.now count }
     ensures { Follows index.now (key_at 0 (text_in sought.now) sought.now.tag.now (type_of sought.now.sort) % buckets index.now) (turn_at (text_in sought.now) sought.now.tag.now (type_of sought.now.sort)) (least count (buckets index.now)) (λ i. matches store.now (entry_at terms.now (suc i)) sought.now.sort (text_in sought.now) sought.now.tag.now) (found result) × MatchResult result (λ n. 0 < n) (λ s. Vacant index.now (text_in sought.now) sought.now.tag.now (type_of sought.now.sort) s × InSlots index.now s) }
 {
     let m = index.len() / 12;
+    if m == 0 {
+        return Err(0);
+    }
     let first = key_at(0, sought);
     let mut key = first;
     let mut place = first % m;
@@ -93,6 +98,7 @@ fn follow(
 }
 
 // The number of the equal term, or else the slot where it would stand.
+#[inline(always)]
 pub fn find(
     index: &[u8],
     terms: &[u32],
@@ -103,14 +109,13 @@ pub fn find(
     requires { Searchable terms.now store.now index.now counts }
     ensures { Finds terms.now store.now index.now counts sought.now.sort (text_in sought.now) sought.now.tag.now (found result) × MatchResult result (λ n. 0 < n) (λ s. Vacant index.now (text_in sought.now) sought.now.tag.now (type_of sought.now.sort) s × InSlots index.now s) }
 {
-    let m = index.len() / 12;
     let count = counts.terms;
-    if m == 0 {
-        return terms::find_from(terms, store, 0, count, sought).ok_or(0);
-    }
     match follow(index, count, terms, store, sought) {
         Ok(number) => Ok(number),
-        Err(slot) => terms::find_from(terms, store, count.min(m), count, sought).ok_or(slot),
+        Err(slot) => {
+            let from = count.min(index.len() / 12);
+            terms::find_from(terms, store, from, count, sought).ok_or(slot)
+        }
     }
 }
 

@@ -82,6 +82,7 @@ fn same_rest(terms: &[u32], store: &[u8], i: usize, sort: Sort, tag: &[u8]) -> b
 }
 
 // Whether the entry at i is of the term that is sought.
+#[inline(always)]
 pub fn is_term(terms: &[u32], store: &[u8], i: usize, sought: &Sought<'_>) -> bool
     requires { Inside terms.now store.now i }
     ensures { result ≡ matches store.now (entry_at terms.now (suc i)) sought.now.sort (text_in sought.now) sought.now.tag.now }
