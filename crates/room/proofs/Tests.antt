@@ -7,14 +7,13 @@ use native.Mathlib.Omega.{arith}
 use lib.ListN.{length, take, drop, length-drop}
 use lib.Seq.{length-take-le}
 use borrow.Author.Tests.{eq-eqb, ne_eqb, le-leb, lt-leb, lt-ltb, le-ltb}
-use Rattle.text.specs.Text.{Text}
+use Rattle.text.specs.Text.{Text, same_text}
 use Rattle.text.proofs.Compare.{by}
 use Rattle.spelling.specs.Form.{undo}
 use Rattle.spelling.proofs.Forms.{joined_length}
 use Rattle.dataset.specs.Terms.{Term, iri, blank, literal, tagged, label}
 use Rattle.table.specs.Tables.{number, or_zero, term_bytes}
 use Rattle.table.specs.Layout.{iri_kind, blank_kind, literal_kind, tagged_kind}
-use Rattle.terms.specs.declared.Counts.{Counts}
 use Rattle.terms.specs.Keeps.{findable}
 use Rattle.machine.specs.Frame.{Place, top, subject_before, object_of, element_of, Cells, no_cell, cells}
 use Rattle.machine.specs.Step.{Room}
@@ -22,10 +21,17 @@ use Rattle.state.specs.declared.Spot.{Spot}
 use Rattle.state.specs.declared.Node.{Node}
 use Rattle.state.specs.Represents.{counted as at_most}
 use Rattle.state.specs.Writes.{place_of, cells_of, node_iri}
+use Rattle.std.specs.Prelude.{Option as Maybe, Some, None, unwrap_or, is_some, IfSome}
+use Rattle.std.specs.Option.{option_eq}
+use Rattle.state.specs.contracts.SuppliedPartialEq.TheImpl.{eq-value}
+use Rattle.state.specs.declared.Supplied.{Supplied}
+use Rattle.state.specs.declared.Supplied.TheVariants.{First, Rest, Nil}
+use Rattle.state.specs.Supplies.{supplied as supplied_text}
+use Rattle.room.specs.Supply.{number_of}
 use Rattle.room.specs.declared.Tally.{Tally}
 use Rattle.room.specs.Asks.{supplied, place_iri, place_rows, cell_iri, cell_rows, end_iri, last_iri, spot_place, before_iri, before_rows, behind_iri, behind_rows, close_rows}
-use Rattle.room.specs.Counting.{tally, more, count_term, count_supply, is_supplied, count_iri, count_node, has_iri, asks_first, count_behind, count_before, count_place, count_close, Numbers, Named, refusal_of}
-use Rattle.room.proofs.Bounds.{iri_bytes, supplied_small}
+use Rattle.room.specs.Counting.{tally, more, count_term, count_supply, is_supplied, count_iri, count_node, has_iri, asks_first, count_behind, count_before, count_place, count_close, Named, refusal_of}
+use Rattle.room.proofs.Bounds.{iri_bytes}
 
 -- ---- Places
 
@@ -129,40 +135,45 @@ module _ (s : Spot) where
 
 -- ---- Supplied IRIs
 
-pub supplied_first : (p : ℕ) → p ≡ 1 → supplied p ≡ supplied 1
-supplied_first p e = ap supplied e
-
-pub supplied_nil : (p : ℕ) → (p ≡ 1 → ⊥) → (p ≡ 2 → ⊥) → supplied p ≡ supplied 3
+pub supplied_is : (w : Supplied) → supplied_text w ≡ supplied (number_of (Some w))
 unfolding supplied
-supplied_nil p h g = rw (ne_eqb p 1 h, ne_eqb p 2 g)
+supplied_is First = refl
+supplied_is Rest = refl
+supplied_is Nil = refl
 
-pub numbers_as : (work : Text) (terms : List ℕ) (store : Text) (c : Counts) (x y : Text) (r : ℕ) → x ≡ y → Numbers work terms store c (iri y) r → Numbers work terms store c (iri x) r
-numbers_as work terms store c x y r e N = λ ts H. N ts H ∙ ap (λ z. or_zero (number (iri z) ts)) (sym e)
+pub some_number : (w : Supplied) → number_of (Some w) ≡ 0 → ⊥
+some_number First e = omega arith
+some_number Rest e = omega arith
+some_number Nil e = omega arith
 
-pub sized : (p n : ℕ) (q : ℕ) → supplied p ≡ supplied q → n ≡ length (supplied q) → (n ≡ length (supplied p)) × (n ≤ 48)
-sized p n q e h = let k : n ≡ length (supplied p) = h ∙ sym (ap length e) in (k, omega (arith, supplied_small p))
-
-pub size_first : 48 ≡ length (supplied 1)
-unfolding supplied
-size_first = refl
-
-pub size_rest : 47 ≡ length (supplied 2)
-unfolding supplied
-size_rest = refl
-
-pub size_nil : 46 ≡ length (supplied 3)
-unfolding supplied
-size_nil = refl
-
-pub is_first_one : (p : ℕ) (x : Text) (r : Bool) → p ≡ 1 → r ≡ is_supplied 1 x → r ≡ is_supplied p x
-is_first_one p x r e h = h ∙ ap (λ q. is_supplied q x) (sym e)
-
-pub is_rest_one : (p : ℕ) (x : Text) (r : Bool) → p ≡ 2 → r ≡ is_supplied 2 x → r ≡ is_supplied p x
-is_rest_one p x r e h = h ∙ ap (λ q. is_supplied q x) (sym e)
-
-pub is_other : (p : ℕ) (x : Text) → (p ≡ 1 → ⊥) → (p ≡ 2 → ⊥) → false ≡ is_supplied p x
+pub named_is : (w : Supplied) (x : Text) → (w ≡ Nil → ⊥) → same_text x (supplied (number_of (Some w))) ≡ is_supplied (number_of (Some w)) x
 unfolding is_supplied
-is_other p x h g = rw (ne_eqb p 1 h, ne_eqb p 2 g)
+named_is First x h = refl
+named_is Rest x h = refl
+named_is Nil x h = absurd (h refl)
+
+pub none_number : (q : Maybe Supplied) → is_some q ≡ false → number_of q ≡ 0
+none_number None e = refl
+none_number (Some w) e = cc
+
+pub some_supplied : (q : Maybe Supplied) → is_some q ≡ true → number_of q ≡ 0 → ⊥
+some_supplied None h e = cc
+some_supplied (Some w) h e = some_number w e
+
+abbrev is_first : Maybe Supplied → Bool
+is_first p = option_eq eq-value.it p (Some First)
+
+pub first_number : (p : Maybe Supplied) → is_first p ≡ true → number_of p ≡ 1
+first_number None e = cc
+first_number (Some First) e = refl
+first_number (Some Rest) e = cc
+first_number (Some Nil) e = cc
+
+pub not_first : (p : Maybe Supplied) → is_first p ≡ false → number_of p ≡ 1 → ⊥
+not_first None h e = omega arith
+not_first (Some First) h e = cc
+not_first (Some Rest) h e = omega arith
+not_first (Some Nil) h e = omega arith
 
 -- ---- Counting
 
@@ -173,6 +184,11 @@ more_new t n size e = rw e
 pub more_old : (t : Tally) (n size : ℕ) → (n ≡ 0 → ⊥) → t ≡ more t n size
 unfolding more
 more_old t n size h = rw (ne_eqb n 0 h)
+
+pub more_known : (t : Tally) (o : Maybe ℕ) (n size : ℕ) → o ≡ Some n → IfSome o (λ n. 0 < n) → t ≡ more t (unwrap_or o 0) size
+more_known t o n size e h =
+    let k : 0 < n = rw e at h in
+    rw e (more_old t n size (λ z. omega arith))
 
 pub one_counted : (ts : List Term) (t : Term) (c r : Tally) (n size : ℕ) → r ≡ more c n size → n ≡ or_zero (number t ts) → size ≡ length (term_bytes t) → r ≡ count_term ts t c
 unfolding count_term

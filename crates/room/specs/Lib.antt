@@ -1,2 +1,3 @@
+pub mod Supply
 pub mod Asks
 pub mod Counting

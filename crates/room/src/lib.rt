@@ -2,7 +2,8 @@
 // is missing. Nothing is changed. Terms are looked for only where a safe bound of what is new does not fit.
 #![tactic(auto)]
 
-ghost use Rattle.std.specs.Prelude.{◌≡◌, ◌+◌, ◌-◌, ◌≤◌, ◌<◌, length, take, drop};
+ghost use Rattle.std.specs.Prelude.{◌≡◌, ◌+◌, ◌-◌, ◌≤◌, ◌<◌, length, take, drop, unwrap_or, IfSome};
+ghost use Rattle.text.specs.Text.{same_text};
 ghost use Rattle.limits.specs.Limits.{document_limit, work_size};
 ghost use Rattle.limits.specs.Refusal.{code};
 ghost use Rattle.spelling.specs.Form.{undo, joined};
@@ -10,15 +11,15 @@ ghost use Rattle.dataset.specs.Terms.{iri, blank, label, literal, tagged};
 ghost use Rattle.term_tree.specs.Holds.{Finds};
 ghost use Rattle.state.specs.Represents.{counted as at_most, lent_tables, room_in, Represented};
 ghost use Rattle.state.specs.Writes.{place_of, node_iri, node_write, placed, opened_at, closed, NodeFits};
+ghost use Rattle.room.specs.Supply.{number_of};
 ghost use Rattle.room.specs.Asks.{supplied, place_iri, place_rows, before_iri, before_rows, behind_iri, behind_rows, close_rows};
 ghost use Rattle.room.specs.Counting.{tally, more, count_term, count_supply, is_supplied, count_iri, count_node, asks_first, count_behind, count_before, count_place, count_close, Held, Numbers, Tallies, LiteralTallies, Answers, Small, Named, rows_in, tally_in, refusal_of};
 
 use environment::Layout;
 use limits::{Limits, Refusal};
 use spelling::Form;
-use state::{Node, Spot, Words};
-use table::TermKind;
-use terms::{Counts, Sort};
+use state::{Node, Spot, Supplied, Words};
+use terms::{Counts, Sort, Sought};
 
 // How many terms there would be, and how many bytes of the store they would use.
 #[derive(Clone, Copy)]
@@ -27,23 +28,36 @@ struct Tally {
     bytes: usize,
 }
 
-// One term more of so many bytes, where its number is 0.
-fn more(t: Tally, number: usize, size: usize) -> Tally
-    requires { Small t 9000000000 × (size ≤ 2097152) }
-    ensures { result ≡ more t number size }
-{
-    if number == 0 {
-        return Tally {
-            terms: t.terms + 1,
-            bytes: t.bytes + size,
-        };
+impl Tally {
+    // With one term more of so many bytes, where it has no number yet.
+    fn more(self, number: Option<usize>, size: usize) -> Tally
+        requires { Small self 9000000000 × ((size ≤ 2097152) × IfSome number (λ n. 0 < n)) }
+        ensures { result ≡ more self (unwrap_or number 0) size }
+    {
+        match number {
+            None => Tally {
+                terms: self.terms + 1,
+                bytes: self.bytes + size,
+            },
+            Some(_) => self,
+        }
     }
-    t
+
+    // With so many terms and bytes more.
+    fn raised(self, terms: usize, bytes: usize) -> Tally
+        requires { Small self 4294967294 × ((terms ≤ 5) × (bytes ≤ 4194304)) }
+        ensures { result ≡ tally (self.terms + terms) (self.bytes + bytes) }
+    {
+        Tally {
+            terms: self.terms + terms,
+            bytes: self.bytes + bytes,
+        }
+    }
 }
 
 // ---- Looking for terms
 
-// The number of an IRI, or 0: its front is a part of the work slice.
+// The number of an IRI: its front is a part of the work slice.
 fn find_iri(
     work: &[u8],
     terms: &[u32],
@@ -53,133 +67,36 @@ fn find_iri(
     end: usize,
     form: Form,
     back: &[u8],
-) -> usize
+) -> Option<usize>
     requires { Held work.now terms.now store.now counts × ((start ≤ end) × (end ≤ length work.now)) }
-    ensures { Numbers work.now terms.now store.now counts (iri (joined (take (end - start) (drop start work.now)) form back.now)) result }
+    ensures { Numbers work.now terms.now store.now counts (iri (joined (take (end - start) (drop start work.now)) form back.now)) (unwrap_or result 0) × IfSome result (λ n. 0 < n) }
 {
     term_tree::find_name(work, start, end, terms, store, counts, form, back)
 }
 
-fn find_first(work: &[u8], terms: &[u32], store: &[u8], counts: Counts) -> usize
-    requires { Held work.now terms.now store.now counts }
-    ensures { Numbers work.now terms.now store.now counts (iri (supplied 1)) result }
-{
-    find_iri(
-        work,
-        terms,
-        store,
-        counts,
-        0,
-        0,
-        Form::Plain,
-        b"http://www.w3.org/1999/02/22-rdf-syntax-ns#first",
-    )
-}
-
-fn find_rest(work: &[u8], terms: &[u32], store: &[u8], counts: Counts) -> usize
-    requires { Held work.now terms.now store.now counts }
-    ensures { Numbers work.now terms.now store.now counts (iri (supplied 2)) result }
-{
-    find_iri(
-        work,
-        terms,
-        store,
-        counts,
-        0,
-        0,
-        Form::Plain,
-        b"http://www.w3.org/1999/02/22-rdf-syntax-ns#rest",
-    )
-}
-
-fn find_nil(work: &[u8], terms: &[u32], store: &[u8], counts: Counts) -> usize
-    requires { Held work.now terms.now store.now counts }
-    ensures { Numbers work.now terms.now store.now counts (iri (supplied 3)) result }
-{
-    find_iri(
-        work,
-        terms,
-        store,
-        counts,
-        0,
-        0,
-        Form::Plain,
-        b"http://www.w3.org/1999/02/22-rdf-syntax-ns#nil",
-    )
-}
-
-// The number of an IRI that lists supply, or 0: 1 is rdf:first, 2 rdf:rest, 3 rdf:nil.
-fn find_supplied(work: &[u8], terms: &[u32], store: &[u8], counts: Counts, p: usize) -> usize
-    requires { Held work.now terms.now store.now counts }
-    ensures { Numbers work.now terms.now store.now counts (iri (supplied p)) result }
-{
-    if p == 1 {
-        return find_first(work, terms, store, counts);
-    }
-    if p == 2 {
-        return find_rest(work, terms, store, counts);
-    }
-    find_nil(work, terms, store, counts)
-}
-
-fn supplied_size(p: usize) -> usize
-    ensures { (result ≡ length (supplied p)) × (result ≤ 48) }
-{
-    if p == 1 {
-        return 48;
-    }
-    if p == 2 {
-        return 47;
-    }
-    46
-}
-
-// Whether the node's IRI is rdf:first, or rdf:rest.
-fn is_first(work: &[u8], node: Node, back: &[u8]) -> bool
+// Whether the node's IRI is this one.
+fn is_named(work: &[u8], node: Node, back: &[u8], which: Supplied) -> bool
     requires { Named node work.now back.now }
-    ensures { result ≡ is_supplied 1 (node_iri node work.now back.now) }
+    ensures { result ≡ same_text (node_iri node work.now back.now) (supplied (number_of (Some which))) }
 {
-    let start = node.start;
-    let end = node.end;
-    let form = node.form;
-    spelling::same_joined(
-        &work[start..end],
-        form,
-        back,
-        b"http://www.w3.org/1999/02/22-rdf-syntax-ns#first",
-    )
+    spelling::same_joined(&work[node.start..node.end], node.form, back, which.text())
 }
 
-fn is_rest(work: &[u8], node: Node, back: &[u8]) -> bool
+// Whether it is the one that was supplied before it, which is never rdf:nil.
+fn is_supplied(p: Option<Supplied>, work: &[u8], node: Node, back: &[u8]) -> bool
     requires { Named node work.now back.now }
-    ensures { result ≡ is_supplied 2 (node_iri node work.now back.now) }
+    ensures { result ≡ is_supplied (number_of p) (node_iri node work.now back.now) }
 {
-    let start = node.start;
-    let end = node.end;
-    let form = node.form;
-    spelling::same_joined(
-        &work[start..end],
-        form,
-        back,
-        b"http://www.w3.org/1999/02/22-rdf-syntax-ns#rest",
-    )
+    match p {
+        None => false,
+        Some(which) => match which {
+            Supplied::Nil => false,
+            _ => is_named(work, node, back, which),
+        },
+    }
 }
 
-// Whether it is the IRI that was supplied before it.
-fn is_supplied(p: usize, work: &[u8], node: Node, back: &[u8]) -> bool
-    requires { Named node work.now back.now }
-    ensures { result ≡ is_supplied p (node_iri node work.now back.now) }
-{
-    if p == 1 {
-        return is_first(work, node, back);
-    }
-    if p == 2 {
-        return is_rest(work, node, back);
-    }
-    false
-}
-
-// The number of a label or literal, or 0.
+// The number of a label or literal.
 fn find_text(
     work: &[u8],
     terms: &[u32],
@@ -189,47 +106,42 @@ fn find_text(
     form: Form,
     text: &[u8],
     tag: &[u8],
-) -> usize
+) -> Option<usize>
     requires { Held work.now terms.now store.now counts }
-    ensures { Finds terms.now store.now (drop work_size work.now) counts sort (undo form text.now) tag.now result }
+    ensures { Finds terms.now store.now (drop work_size work.now) counts sort (undo form text.now) tag.now (unwrap_or result 0) × IfSome result (λ n. 0 < n) }
 {
-    let n = Limits::work_size();
-    let found = term_tree::find(
-        &work[n..],
-        terms,
-        store,
-        counts,
-        sort,
-        &text[..0],
-        form,
-        text,
-        tag,
-    );
-    found.number
+    let sought = Sought {
+        sort: sort,
+        front: b"",
+        form: form,
+        back: text,
+        tag: tag,
+    };
+    term_tree::find(&work[Limits::WORK..], terms, store, counts, &sought).ok()
 }
 
 // ---- Counting what is new
 
-// With an IRI that lists supply; 0 is none.
+// With an IRI that lists supply.
 fn tally_supply(
     work: &[u8],
     terms: &[u32],
     store: &[u8],
     counts: Counts,
-    p: usize,
+    p: Option<Supplied>,
     t: Tally,
 ) -> Tally
     requires { Held work.now terms.now store.now counts × Small t 8000000000 }
-    ensures { Tallies work.now terms.now store.now counts (λ ts. count_supply ts p t) result }
+    ensures { Tallies work.now terms.now store.now counts (λ ts. count_supply ts (number_of p) t) result }
 {
-    if p == 0 {
-        return t;
+    match p {
+        None => t,
+        Some(which) => {
+            let text = which.text();
+            let n = find_iri(work, terms, store, counts, 0, 0, Form::Plain, text);
+            t.more(n, text.len())
+        }
     }
-    more(
-        t,
-        find_supplied(work, terms, store, counts, p),
-        supplied_size(p),
-    )
 }
 
 // With the node's IRI, behind p.
@@ -238,13 +150,13 @@ fn tally_iri(
     terms: &[u32],
     store: &[u8],
     counts: Counts,
-    p: usize,
+    p: Option<Supplied>,
     node: Node,
     back: &[u8],
     t: Tally,
 ) -> Tally
     requires { Held work.now terms.now store.now counts × (Named node work.now back.now × Small t 8000000000) }
-    ensures { Tallies work.now terms.now store.now counts (λ ts. count_iri ts p (node_iri node work.now back.now) t) result }
+    ensures { Tallies work.now terms.now store.now counts (λ ts. count_iri ts (number_of p) (node_iri node work.now back.now) t) result }
 {
     if is_supplied(p, work, node, back) {
         return t;
@@ -253,7 +165,7 @@ fn tally_iri(
     let end = node.end;
     let form = node.form;
     let n = find_iri(work, terms, store, counts, start, end, form, back);
-    more(t, n, end - start + spelling::undone_length(form, back))
+    t.more(n, end - start + spelling::undone_length(form, back))
 }
 
 fn tally_label(
@@ -267,21 +179,9 @@ fn tally_label(
     requires { Held work.now terms.now store.now counts × (((0 < length text.now) × (length text.now ≤ document_limit)) × Small t 8000000000) }
     ensures { Tallies work.now terms.now store.now counts (λ ts. count_term ts (blank (label text.now)) t) result }
 {
-    let sort = Sort {
-        kind: TermKind::BLANK,
-        datatype: 0,
-    };
-    let n = find_text(
-        work,
-        terms,
-        store,
-        counts,
-        sort,
-        Form::Plain,
-        text,
-        &text[..0],
-    );
-    more(t, n, text.len())
+    let sort = Sort::Blank;
+    let n = find_text(work, terms, store, counts, sort, Form::Plain, text, b"");
+    t.more(n, text.len())
 }
 
 fn tally_tagged(
@@ -297,12 +197,9 @@ fn tally_tagged(
     requires { Held work.now terms.now store.now counts × (((length (undo form text.now) ≤ document_limit) × (length tag.now ≤ document_limit)) × Small t 8000000000) }
     ensures { Tallies work.now terms.now store.now counts (λ ts. count_term ts (tagged (undo form text.now) tag.now) t) result }
 {
-    let sort = Sort {
-        kind: TermKind::TAGGED,
-        datatype: 0,
-    };
+    let sort = Sort::Tagged;
     let n = find_text(work, terms, store, counts, sort, form, text, tag);
-    more(t, n, spelling::undone_length(form, text) + tag.len())
+    t.more(n, spelling::undone_length(form, text) + tag.len())
 }
 
 // With a literal of the datatype d, which is behind its IRI.
@@ -319,12 +216,9 @@ fn tally_literal(
     requires { Held work.now terms.now store.now counts × ((length (undo form text.now) ≤ document_limit) × Small t 9000000000) }
     ensures { LiteralTallies work.now terms.now store.now counts d (undo form text.now) t result }
 {
-    let sort = Sort {
-        kind: TermKind::LITERAL,
-        datatype: d,
-    };
-    let n = find_text(work, terms, store, counts, sort, form, text, &text[..0]);
-    more(t, n, spelling::undone_length(form, text))
+    let sort = Sort::Literal(d);
+    let n = find_text(work, terms, store, counts, sort, form, text, b"");
+    t.more(n, spelling::undone_length(form, text))
 }
 
 fn tally_typed(
@@ -332,20 +226,20 @@ fn tally_typed(
     terms: &[u32],
     store: &[u8],
     counts: Counts,
-    p: usize,
+    p: Option<Supplied>,
     node: Node,
     back: &[u8],
     text: &[u8],
     t: Tally,
 ) -> Tally
     requires { Held work.now terms.now store.now counts × ((Named node work.now back.now × (length (undo node.text text.now) ≤ document_limit)) × Small t 8000000000) }
-    ensures { Tallies work.now terms.now store.now counts (λ ts. count_term ts (literal (undo node.text text.now) (node_iri node work.now back.now)) (count_iri ts p (node_iri node work.now back.now) t)) result }
+    ensures { Tallies work.now terms.now store.now counts (λ ts. count_term ts (literal (undo node.text text.now) (node_iri node work.now back.now)) (count_iri ts (number_of p) (node_iri node work.now back.now) t)) result }
 {
     let start = node.start;
     let end = node.end;
     let form = node.form;
     let written = node.text;
-    let d = find_iri(work, terms, store, counts, start, end, form, back);
+    let d = find_iri(work, terms, store, counts, start, end, form, back).unwrap_or(0);
     let i = tally_iri(work, terms, store, counts, p, node, back, t);
     tally_literal(work, terms, store, counts, d, written, text, i)
 }
@@ -356,7 +250,7 @@ fn tally_node(
     terms: &[u32],
     store: &[u8],
     counts: Counts,
-    p: usize,
+    p: Option<Supplied>,
     node: Node,
     back: &[u8],
     text: &[u8],
@@ -364,7 +258,7 @@ fn tally_node(
     t: Tally,
 ) -> Tally
     requires { Held work.now terms.now store.now counts × (NodeFits node work.now back.now text.now tag.now × Small t 8000000000) }
-    ensures { Tallies work.now terms.now store.now counts (λ ts. count_node ts p node work.now back.now text.now tag.now t) result }
+    ensures { Tallies work.now terms.now store.now counts (λ ts. count_node ts (number_of p) node work.now back.now text.now tag.now t) result }
 {
     let kind = node.kind;
     let written = node.text;
@@ -380,7 +274,7 @@ fn tally_node(
     if kind == Node::TAGGED {
         return tally_tagged(work, terms, store, counts, written, text, tag, t);
     }
-    more(t, 0, 0)
+    t.more(None, 0)
 }
 
 // Whether the node asks for rdf:first itself.
@@ -390,10 +284,10 @@ fn asks_first(work: &[u8], node: Node, back: &[u8]) -> bool
 {
     let kind = node.kind;
     if kind == Node::IRI {
-        return is_first(work, node, back);
+        return is_named(work, node, back, Supplied::First);
     }
     if kind == Node::LITERAL {
-        return is_first(work, node, back);
+        return is_named(work, node, back, Supplied::First);
     }
     false
 }
@@ -404,40 +298,37 @@ fn tally_behind(
     terms: &[u32],
     store: &[u8],
     counts: Counts,
-    p: usize,
-    q: usize,
+    p: Option<Supplied>,
+    q: Option<Supplied>,
     node: Node,
     back: &[u8],
     t: Tally,
 ) -> Tally
     requires { Held work.now terms.now store.now counts × (Named node work.now back.now × Small t 8000000000) }
-    ensures { Tallies work.now terms.now store.now counts (λ ts. count_behind ts p q node work.now back.now t) result }
+    ensures { Tallies work.now terms.now store.now counts (λ ts. count_behind ts (number_of p) (number_of q) node work.now back.now t) result }
 {
-    if q == 0 {
+    if q.is_none() {
         return t;
     }
-    if p == 1 {
+    if p == Some(Supplied::First) {
         return t;
     }
     if asks_first(work, node, back) {
         return t;
     }
-    tally_supply(work, terms, store, counts, 1, t)
+    tally_supply(work, terms, store, counts, Some(Supplied::First), t)
 }
 
 // ---- Places
 
 // The IRI that is supplied where a node is held at its place, and the rows that this makes.
-fn place_iri(x: usize, y: usize) -> usize
-    ensures { result ≡ place_iri (place_of x y) }
+fn place_iri(x: usize, y: usize) -> Option<Supplied>
+    ensures { number_of result ≡ place_iri (place_of x y) }
 {
-    if x == 0 {
-        return 0;
+    if x != 0 && y == 0 {
+        return Some(Supplied::First);
     }
-    if y == 0 {
-        return 1;
-    }
-    0
+    None
 }
 
 fn place_rows(x: usize, y: usize) -> usize
@@ -450,25 +341,22 @@ fn place_rows(x: usize, y: usize) -> usize
 }
 
 // The same for a list's new cell. The end of a list makes as many rows as a new cell would.
-fn before_iri(spot: Spot) -> usize
-    ensures { result ≡ before_iri spot }
+fn before_iri(spot: Spot) -> Option<Supplied>
+    ensures { number_of result ≡ before_iri spot }
 {
-    let list = spot.list;
-    let last = spot.last;
-    if list {
-        if last == 0 {
+    if spot.list {
+        if spot.last == 0 {
             return place_iri(spot.x, spot.y);
         }
-        return 2;
+        return Some(Supplied::Rest);
     }
-    0
+    None
 }
 
 fn close_rows(spot: Spot) -> usize
     ensures { result ≡ close_rows spot }
 {
-    let last = spot.last;
-    if last == 0 {
+    if spot.last == 0 {
         return place_rows(spot.x, spot.y);
     }
     1
@@ -477,20 +365,18 @@ fn close_rows(spot: Spot) -> usize
 fn before_rows(spot: Spot) -> usize
     ensures { result ≡ before_rows spot }
 {
-    let list = spot.list;
-    if list {
+    if spot.list {
         return close_rows(spot);
     }
     0
 }
 
 // The same for the node itself.
-fn behind_iri(spot: Spot) -> usize
-    ensures { result ≡ behind_iri spot }
+fn behind_iri(spot: Spot) -> Option<Supplied>
+    ensures { number_of result ≡ behind_iri spot }
 {
-    let list = spot.list;
-    if list {
-        return 1;
+    if spot.list {
+        return Some(Supplied::First);
     }
     place_iri(spot.x, spot.y)
 }
@@ -498,8 +384,7 @@ fn behind_iri(spot: Spot) -> usize
 fn behind_rows(spot: Spot) -> usize
     ensures { result ≡ behind_rows spot }
 {
-    let list = spot.list;
-    if list {
+    if spot.list {
         return 1;
     }
     place_rows(spot.x, spot.y)
@@ -519,9 +404,8 @@ fn tally_before(
     requires { Held work.now terms.now store.now counts × Small t 4294967294 }
     ensures { Tallies work.now terms.now store.now counts (λ ts. count_before ts spot t) result }
 {
-    let list = spot.list;
-    if list {
-        let c = more(t, 0, 0);
+    if spot.list {
+        let c = t.more(None, 0);
         return tally_supply(work, terms, store, counts, before_iri(spot), c);
     }
     t
@@ -569,13 +453,12 @@ fn tally_close(
     requires { Held work.now terms.now store.now counts × Small t 4294967294 }
     ensures { Tallies work.now terms.now store.now counts (λ ts. count_close ts spot t) result }
 {
-    let last = spot.last;
-    if last == 0 {
-        let nil = tally_supply(work, terms, store, counts, 3, t);
+    if spot.last == 0 {
+        let nil = tally_supply(work, terms, store, counts, Some(Supplied::Nil), t);
         return tally_supply(work, terms, store, counts, place_iri(spot.x, spot.y), nil);
     }
-    let rest = tally_supply(work, terms, store, counts, 2, t);
-    tally_supply(work, terms, store, counts, 3, rest)
+    let rest = tally_supply(work, terms, store, counts, Some(Supplied::Rest), t);
+    tally_supply(work, terms, store, counts, Some(Supplied::Nil), rest)
 }
 
 // ---- Room
@@ -624,17 +507,6 @@ fn tally_in(st: &[usize; Layout::WORDS]) -> Tally
     }
 }
 
-// The tally with so many terms and bytes more.
-fn raised(t: Tally, terms: usize, bytes: usize) -> Tally
-    requires { Small t 4294967294 × ((terms ≤ 5) × (bytes ≤ 4194304)) }
-    ensures { result ≡ tally (t.terms + terms) (t.bytes + bytes) }
-{
-    Tally {
-        terms: t.terms + terms,
-        bytes: t.bytes + bytes,
-    }
-}
-
 // Whether a node can be written at its place.
 pub fn room_to_place(
     work: &[u8],
@@ -653,7 +525,7 @@ pub fn room_to_place(
 {
     let count = rows_in(st) + (before_rows(spot) + behind_rows(spot));
     let t = tally_in(st);
-    let most = raised(t, 5, 1120 + (text.len() + tag.len()));
+    let most = t.raised(5, 1120 + (text.len() + tag.len()));
     if room_for(rows, terms, store, count, most).is_ok() {
         return Ok(());
     }
@@ -686,7 +558,7 @@ pub fn room_to_open(
 {
     let count = rows_in(st) + before_rows(spot);
     let t = tally_in(st);
-    let most = raised(t, 2, 48);
+    let most = t.raised(2, 48);
     if room_for(rows, terms, store, count, most).is_ok() {
         return Ok(());
     }
@@ -708,7 +580,7 @@ pub fn room_to_close(
 {
     let count = rows_in(st) + close_rows(spot);
     let t = tally_in(st);
-    let most = raised(t, 2, 96);
+    let most = t.raised(2, 96);
     if room_for(rows, terms, store, count, most).is_ok() {
         return Ok(());
     }

@@ -2,3 +2,4 @@ pub mod Words
 pub mod Cursor
 pub mod Represents
 pub mod Writes
+pub mod Supplies

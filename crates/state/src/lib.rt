@@ -4,6 +4,7 @@
 
 ghost use Rattle.std.specs.Prelude.{◌≡◌};
 ghost use Rattle.state.specs.Words.{counts_of};
+ghost use Rattle.state.specs.Supplies.{supplied};
 
 use environment::Layout;
 use spelling::Form;
@@ -111,4 +112,24 @@ impl Node {
     pub const TAGGED: usize = TermKind::TAGGED;
 
     pub const NEW: usize = Self::TAGGED + 1;
+}
+
+// The IRIs that lists supply.
+#[derive(Clone, Copy, Debug, PartialEq, Eq)]
+pub enum Supplied {
+    First,
+    Rest,
+    Nil,
+}
+
+impl Supplied {
+    pub fn text(self) -> &'static [u8]
+        ensures { result.now ≡ supplied self }
+    {
+        match self {
+            Supplied::First => b"http://www.w3.org/1999/02/22-rdf-syntax-ns#first",
+            Supplied::Rest => b"http://www.w3.org/1999/02/22-rdf-syntax-ns#rest",
+            Supplied::Nil => b"http://www.w3.org/1999/02/22-rdf-syntax-ns#nil",
+        }
+    }
 }

@@ -26,11 +26,15 @@ use Rattle.terms.specs.declared.Counts.{Counts}
 use Rattle.terms.specs.declared.Sort.{Sort}
 use Rattle.terms.specs.Keeps.{blank_count, findable, Typed, Keeps, Means, Added, BlankAdded}
 use Rattle.terms.specs.Code.{matches, first}
+use Rattle.terms.proofs.Tests.{untyped}
 use Rattle.terms.proofs.Kept.{bytes_room, readable, test_same, found_first}
 use Rattle.term_tree.specs.Slots.{slot_at, put_slot}
-use Rattle.term_tree.specs.Keys.{key_at, turn_of, turn_at, type_in, type_of}
+use Rattle.term_tree.specs.Keys.{key_at, turn_of, turn_at, type_in}
+use Rattle.terms.specs.Sorts.{type_of}
 use Rattle.term_tree.specs.Tree.{Leads, buckets, least, bucket_in, turn_in, Trees, Indexed, Linked, Followed, Follows, Vacant, InSlots, Links}
-use Rattle.term_tree.specs.Holds.{Holds, Searchable}
+use Rattle.std.specs.Prelude.{Option, Some, None, unwrap_or, ok_or, IfSome, Result, Ok, Err, MatchResult}
+use Rattle.std.specs.Result.{result_ok}
+use Rattle.term_tree.specs.Holds.{found, Holds, Searchable}
 use Rattle.term_tree.proofs.Slots.{put_length, slot_same, slot_other}
 use Rattle.term_tree.proofs.Trees.{leads_turns, same_trees, skipped, grown, least_left, least_low, least_high}
 
@@ -41,11 +45,11 @@ skip t ts (suc n) h f = skip t ts n (omega arith) (λ i l. f i (omega arith)) �
 
 -- What a search is for is what the term is known by.
 pub means_text : (ts : List Term) (sort : Sort) (x g : Text) (t : Term) → Means ts sort x g t → (text_of t ≡ x) × ((tag_of t ≡ g) × (type_in ts t ≡ type_of sort))
-unfolding Means type_of
-means_text ts sort x g (iri s) M = (M.1.0, (sym M.1.1, rw M.0))
-means_text ts sort x g (blank b) M = (M.1.0, (sym M.1.1, rw M.0))
-means_text ts sort x g (literal s d) M = (M.1.0, (sym M.1.1.0, rw M.0 M.1.1.1))
-means_text ts sort x g (tagged s h) M = (M.1.0, (M.1.1, rw M.0))
+unfolding Means
+means_text ts sort x g (iri s) M = (M.1.0, (sym M.1.1, untyped sort (λ k. omega (arith, M.0))))
+means_text ts sort x g (blank b) M = (M.1.0, (sym M.1.1, untyped sort (λ k. omega (arith, M.0))))
+means_text ts sort x g (literal s d) M = (M.1.0, (sym M.1.1.0, M.1.1.1))
+means_text ts sort x g (tagged s h) M = (M.1.0, (M.1.1, untyped sort (λ k. omega (arith, M.0))))
 
 -- The hash that serves a level.
 module _ (x g : Text) (n key level : ℕ) where
@@ -103,6 +107,16 @@ module _ {ts : List Term} {terms : List ℕ} {store : Text} {c : Counts} (K : Ke
   followed y k I F =
       F (λ i. bucket_in (buckets y) ts (get_or ts i (iri []))) (λ i. turn_in ts (get_or ts i (iri []))) (rw K.count I)
       (λ i h p. in_tree (buckets y) i (omega (arith, least_left c.terms (buckets y))) p)
+
+-- A search that goes on behind the tree, with the slot that was vacant there.
+pub found_behind : (P Q : ℕ → Type 0) (o : Option ℕ) (s : ℕ) (r : Result ℕ ℕ) → r ≡ ok_or o s → P (unwrap_or o 0) → IfSome o (λ n. 0 < n) → Q s → P (found r) × MatchResult r (λ n. 0 < n) Q
+found_behind P Q None s r e p h q = rw e (p, q)
+found_behind P Q (Some n) s r e p h q = rw e (p, h)
+
+-- The slot is dropped.
+pub found_alone : (P Q : ℕ → Type 0) (r : Result ℕ ℕ) (o : Option ℕ) → o ≡ result_ok r → P (found r) → MatchResult r (λ n. 0 < n) Q → P (unwrap_or o 0) × IfSome o (λ n. 0 < n)
+found_alone P Q (Ok n) o e p h = rw e (p, h)
+found_alone P Q (Err s) o e p h = rw e (p, tt)
 
 -- ---- An index of terms
 

@@ -1,8 +1,10 @@
 -- A slot that was set reads as what was set, and every other as before.
-use mathlib.Core.Path.{◌≡◌, refl, ◌∙◌}
-use Prim.Native.Nat.{ℕ, ◌+◌, ◌*◌, ◌/◌, ◌%◌, ◌<◌, ◌≤◌}
+use mathlib.Core.Path.{◌≡◌, refl, ap, ◌∙◌}
+use mathlib.Core.List.{[], ◌∷◌, ◌++◌}
+use Prim.Native.Nat.{ℕ, zero, suc, ◌+◌, ◌*◌, ◌/◌, ◌%◌, ◌<◌, ◌≤◌}
+use native.Mathlib.Nat.{suc-add}
 use native.Mathlib.Omega.{arith}
-use lib.ListN.{length, get_or, set, length-set}
+use lib.ListN.{length, get_or, take, drop, set, length-set}
 use lib.Seq.{get_or-set_same, get_or-set_other}
 use Rattle.text.specs.Text.{Text}
 use Rattle.text.specs.Words.{four_at}
@@ -74,3 +76,22 @@ slot_other s i v j ne =
     same k n (e, h) =
         byte_other s (4 * i) (v % 256) (v / 256 % 256) (v / 256 / 256 % 256) (v / 256 / 256 / 256 % 256) n
         (λ q. apart k 0 h (omega arith) (omega arith)) (λ q. apart k 1 h (omega arith) (omega arith)) (λ q. apart k 2 h (omega arith) (omega arith)) (λ q. apart k 3 h (omega arith) (omega arith))
+
+-- Four bytes copied to a place are four that are set.
+copied : (at n : ℕ) (s : Text) (a b c d : ℕ) → at + 4 ≤ length s → n ≡ 4
+    → take at s ++ ((a ∷ b ∷ c ∷ d ∷ []) ++ drop n (drop at s)) ≡ set (set (set (set s at a) (at + 1) b) (at + 2) c) (at + 3) d
+copied zero n (w ∷ x ∷ y ∷ z ∷ s) a b c d h e = rw e refl
+copied zero n [] a b c d h e = absurd (omega arith)
+copied zero n (w ∷ []) a b c d h e = absurd (omega arith)
+copied zero n (w ∷ x ∷ []) a b c d h e = absurd (omega arith)
+copied zero n (w ∷ x ∷ y ∷ []) a b c d h e = absurd (omega arith)
+copied (suc at) n [] a b c d h e = absurd (omega arith)
+copied (suc at) n (w ∷ s) a b c d h e = rw (suc-add at 1, suc-add at 2, suc-add at 3) (ap (λ (l : Text). w ∷ l) (copied at n s a b c d (omega arith) e))
+
+pub slot_copied : (s w : Text) (i v n : ℕ) → 4 * i + 4 ≤ length s → n ≡ 4 → w ≡ v % 256 ∷ v / 256 % 256 ∷ v / 65536 % 256 ∷ v / 16777216 % 256 ∷ []
+    → take (4 * i) s ++ (w ++ drop n (drop (4 * i) s)) ≡ put_slot s i v
+unfolding put_slot
+slot_copied s w i v n h e q =
+    let third : v / 65536 % 256 ≡ v / 256 / 256 % 256 = omega arith in
+    let fourth : v / 16777216 % 256 ≡ v / 256 / 256 / 256 % 256 = omega arith in
+    rw (q, third, fourth) (copied (4 * i) n s _ _ _ _ h e)

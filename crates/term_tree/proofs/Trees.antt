@@ -1,7 +1,7 @@
 -- Following a tree, and putting a term into it.
 use mathlib.Core.Path.{◌≡◌, refl, sym, ap, subst, ◌∙◌}
 use mathlib.Core.Bool.{Bool, true, false}
-use Prim.Native.Nat.{ℕ, zero, suc, ◌+◌, ◌*◌, ◌-◌, ◌<◌, ◌≤◌}
+use Prim.Native.Nat.{ℕ, zero, suc, ◌+◌, ◌*◌, ◌-◌, ◌<◌, ◌≤◌, min}
 use native.Mathlib.Decide.{dec_le}
 use native.Mathlib.Omega.{arith}
 use native.Mathlib.Numerals.{add-one}
@@ -25,6 +25,9 @@ least_left a b = by (ltb a b) (λ e. rw e (omega arith)) (λ e. rw e (omega (ari
 
 pub least_right : (a b : ℕ) → least a b ≤ b
 least_right a b = by (ltb a b) (λ e. rw e (omega (arith, ltb-true a b e))) (λ e. rw e (omega arith))
+
+pub min_least : (a b : ℕ) → min a b ≡ least a b
+min_least a b = by (ltb a b) (λ e. rw e (omega (arith, ltb-true a b e))) (λ e. rw e (omega (arith, ltb-false a b e)))
 
 pub least_low : (a b : ℕ) → a ≤ b → least a b ≡ a
 least_low a b h = by (ltb a b) (λ e. rw e) (λ e. rw e (omega (arith, ltb-false a b e)))
@@ -216,3 +219,10 @@ module _ {m : ℕ} {bucket : ℕ → ℕ} {turn : ℕ → ℕ → ℕ} {slot : �
           (λ e. omega (arith, ap slot' e, filled, below c t n h e way))
           (λ ne. omega (arith, others (child m c t) ne, I.deeper c t l h (omega (arith, others (child m c t) ne))));
     }
+
+-- No term is indexed.
+pub nothing_followed : (p : ℕ → Bool) (count : ℕ) → count ≡ 0 → Followed p count 0
+nothing_followed p count e = record { within = omega arith; found = λ h. absurd (omega arith); absent = λ z i h. absurd (omega arith) }
+
+pub some_bucket : (m : ℕ) → (m ≡ 0 → ⊥) → 0 < m
+some_bucket m ne = elim (dec_le 1 m) [ yes p ↦ p | no p ↦ absurd (ne (omega (arith, p))) ]

@@ -1,5 +1,5 @@
 -- The whole memory of terms: the term slice, the store, and the index.
-use Rattle.std.specs.Prelude.{◌≡◌, true, List, [], ℕ, ◌≤◌, ◌<◌, length}
+use Rattle.std.specs.Prelude.{◌≡◌, true, List, [], ℕ, ◌≤◌, ◌<◌, length, Result, Ok, Err}
 use Rattle.text.specs.Text.{Text}
 use Rattle.dataset.specs.Terms.{Term}
 use Rattle.limits.specs.Limits.{work_size}
@@ -19,6 +19,11 @@ pub record Holds (ts : List Term) (terms : List ℕ) (store index : Text) (c : C
 pub record Searchable (terms : List ℕ) (store index : Text) (c : Counts) : Type 0 where
   pub readable : Readable terms store c.terms
   pub linked : Linked index c.terms
+
+-- The number that a search comes to, 0 where there is none.
+abbrev pub found : Result ℕ ℕ → ℕ
+found (Ok n) = n
+found (Err s) = 0
 
 -- What looking for the term answers: its number, or 0.
 abbrev pub Finds : List ℕ → Text → Text → Counts → Sort → Text → Text → ℕ → Type 0

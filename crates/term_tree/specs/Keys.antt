@@ -1,11 +1,9 @@
 -- By what a term is looked for: hashes of its text, its tag and the number of its datatype's term.
-use Rattle.std.specs.Prelude.{List, ℕ, ◌+◌, ◌*◌, ◌/◌, ◌%◌, eqb}
-use Rattle.text.specs.Text.{Text, cond}
+use Rattle.std.specs.Prelude.{List, ℕ, ◌+◌, ◌*◌, ◌/◌, ◌%◌}
+use Rattle.text.specs.Text.{Text}
 use Rattle.dataset.specs.Terms.{Term, iri, blank, literal, tagged}
-use Rattle.table.specs.Layout.{literal_kind}
 use Rattle.table.specs.Tables.{number, or_zero}
 use Rattle.spelling.specs.Hash.{first_multiplier, stir, hash_from}
-use Rattle.terms.specs.declared.Sort.{Sort}
 
 -- The hashes have each a multiplier of its own.
 abbrev pub multiplier : ℕ → ℕ
@@ -22,12 +20,9 @@ turn_of key d = key / (2 * (d % 16) + 3) % 2
 unfoldable pub turn_at : Text → Text → ℕ → ℕ → ℕ
 turn_at x g n d = turn_of (key_at (d / 16) x g n) d
 
--- The number of a literal's datatype, 0 for any other term: as the terms have it, and as a search gives it.
+-- The number of a literal's datatype, 0 for any other term, as the terms have it; a search gives it as type_of.
 abbrev pub type_in : List Term → Term → ℕ
 type_in ts (iri s) = 0
 type_in ts (blank b) = 0
 type_in ts (literal s d) = or_zero (number (iri d) ts)
 type_in ts (tagged s g) = 0
-
-unfoldable pub type_of : Sort → ℕ
-type_of sort = cond (eqb sort.kind literal_kind) sort.datatype 0

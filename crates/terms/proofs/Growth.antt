@@ -21,6 +21,8 @@ use Rattle.table.proofs.Finding.{number_more, number_last}
 use Rattle.table.proofs.Store.{rows_append, last_bytes, last_size}
 use Rattle.terms.specs.declared.Counts.{Counts}
 use Rattle.terms.specs.declared.Sort.{Sort}
+use Rattle.terms.specs.declared.Sort.TheVariants.{Iri, Blank, Literal, Tagged}
+use Rattle.terms.specs.Sorts.{kind_of}
 use Rattle.terms.specs.Keeps.{blank_count, findable, Typed, Keeps, Means, Small, TermFits, Added, blank_sort, BlankAdded, RowAdded}
 use Rattle.terms.specs.Code.{fourth, next_entry, next_counts}
 use Rattle.terms.proofs.Words.{words_last}
@@ -64,7 +66,7 @@ module _ (ts : List Term) (c : Counts) (sort : Sort) (x g : Text) (used : c.used
   means_entry (literal s d) (k, (e, (h, n))) (m, y) = rw (number_more (iri d) ts (literal s d ∷ []) m y, k, e, h, used, ← n, y)
   means_entry (tagged s d) (k, (e, h)) y = rw (k, e, h, used)
 
-  means_blank : (t : Term) → Means ts sort x g t → cond (eqb sort.kind blank_kind) (c.blanks + 1) c.blanks ≡ blank_count (ts ++ t ∷ [])
+  means_blank : (t : Term) → Means ts sort x g t → cond (eqb (kind_of sort) blank_kind) (c.blanks + 1) c.blanks ≡ blank_count (ts ++ t ∷ [])
   unfolding Means
   means_blank (iri s) (k, r) = rw (k, count_last ts (iri s), blanks)
   means_blank (blank b) (k, r) = rw (k, count_last ts (blank b), blanks)
@@ -97,6 +99,14 @@ keeps_added ts terms store c sort x g t K R M y new =
           (λ i l f. number_more (get_or ts i (iri [])) ts (t ∷ []) (suc i) (K.own i l f))
           (λ f. number_last t ts (new f));
     }
+
+-- A term that is no blank node.
+pub blanks_stay : (c : Counts) (sort : Sort) (bytes : ℕ) → (sort ≡ Blank → ⊥) → record { terms = c.terms + 1; used = c.used + bytes; blanks = c.blanks } ≡ next_counts c sort bytes
+unfolding next_counts
+blanks_stay c Iri bytes h = refl
+blanks_stay c Blank bytes h = absurd (h refl)
+blanks_stay c (Literal d) bytes h = refl
+blanks_stay c Tagged bytes h = refl
 
 -- ---- Rows
 
@@ -135,8 +145,8 @@ five_small a b c d e p q r s t (suc (suc (suc (suc (suc i))))) = omega arith
 pub fourth_small : (c : Counts) (sort : Sort) (size tag_size : ℕ) → Small c sort (size + tag_size) → fourth c sort size < word_limit
 unfolding fourth
 fourth_small c sort size tag_size S =
-    by (eqb sort.kind blank_kind) (λ e. rw e S.blanks)
-    (λ e. by (eqb sort.kind literal_kind) (λ f. rw (e, f) S.datatype) (λ f. by (eqb sort.kind tagged_kind) (λ g. rw (e, f, g) (omega (arith, S.used))) (λ g. rw (e, f, g) (omega arith))))
+    by (eqb (kind_of sort) blank_kind) (λ e. rw e S.blanks)
+    (λ e. by (eqb (kind_of sort) literal_kind) (λ f. rw (e, f) S.datatype) (λ f. by (eqb (kind_of sort) tagged_kind) (λ g. rw (e, f, g) (omega (arith, S.used))) (λ g. rw (e, f, g) (omega arith))))
 
 pub added : (terms terms' : List ℕ) (store store' : Text) (c c' : Counts) (sort : Sort) (x g : Text) (n : ℕ) → TermFits terms store c sort x g → n ≡ length x
     → terms' ≡ over_at (term_size * c.terms) (entry_words (next_entry c sort n (length g))) terms → store' ≡ over_at c.used (x ++ g) store

@@ -19,6 +19,7 @@ use Rattle.table.proofs.Finding.{number_step, number_end, number_positive, posit
 use Rattle.table.proofs.Store.{text_span, tag_span, inside, bytes_length}
 use Rattle.terms.specs.declared.Counts.{Counts}
 use Rattle.terms.specs.declared.Sort.{Sort}
+use Rattle.terms.specs.Sorts.{type_of}
 use Rattle.terms.specs.Keeps.{blank_count, findable, Typed, Keeps, Means}
 use Rattle.terms.specs.Code.{same_rest, matches, first, Inside, Readable}
 use Rattle.terms.proofs.Words.{words_length, word_at}
@@ -136,7 +137,7 @@ module _ (ts : List Term) (store : Text) (at b : ℕ) (sort : Sort) (x g : Text)
   matches_same (blank a) (tagged v d) (k, (e, h)) f y p q = rw k
   matches_same (literal s d) (iri v) (k, (e, (h, n))) f y p q = rw k
   matches_same (literal s d) (blank c) (k, (e, (h, n))) f y p q = rw k
-  matches_same (literal s d) (literal v w) (k, (e, (h, n))) f (m, y) p q = rw (k, p, ← e, same_type ts d w m sort.datatype y n)
+  matches_same (literal s d) (literal v w) (k, (e, (h, n))) f (m, y) p q = rw (k, p, ← e, same_type ts d w m (type_of sort) y n)
   matches_same (literal s d) (tagged v w) (k, (e, (h, n))) f y p q = rw k
   matches_same (tagged s d) (iri v) (k, (e, h)) f y p q = rw k
   matches_same (tagged s d) (blank c) (k, (e, h)) f y p q = rw k

@@ -5,15 +5,16 @@ use Rattle.table.specs.Layout.{Entry, term_size, entry_at, blank_kind, literal_k
 use Rattle.table.specs.Tables.{entry}
 use Rattle.terms.specs.declared.Counts.{Counts}
 use Rattle.terms.specs.declared.Sort.{Sort}
+use Rattle.terms.specs.Sorts.{kind_of, type_of}
 
 -- Does an entry stand for the term of this sort with the text x and the tag g?
 unfoldable pub same_rest : Text → Entry → Sort → Text → Bool
 same_rest store e sort g =
-    cond (eqb sort.kind literal_kind) (eqb e.fourth sort.datatype)
-    (cond (eqb sort.kind tagged_kind) (same_text g (span store e.fourth e.fifth)) true)
+    cond (eqb (kind_of sort) literal_kind) (eqb e.fourth (type_of sort))
+    (cond (eqb (kind_of sort) tagged_kind) (same_text g (span store e.fourth e.fifth)) true)
 
 unfoldable pub matches : Text → Entry → Sort → Text → Text → Bool
-matches store e sort x g = eqb e.kind sort.kind && (same_text x (span store e.start e.size) && same_rest store e sort g)
+matches store e sort x g = eqb e.kind (kind_of sort) && (same_text x (span store e.start e.size) && same_rest store e sort g)
 
 -- The first number from `from` on whose index passes the test, among n of them; else 0.
 unfoldable pub first : (ℕ → Bool) → ℕ → ℕ → ℕ
@@ -32,12 +33,12 @@ Readable terms store count = (i : ℕ) → i < count → Inside terms store i
 -- The entry of one term more, and the counts behind it.
 unfoldable pub fourth : Counts → Sort → ℕ → ℕ
 fourth c sort size =
-    cond (eqb sort.kind blank_kind) c.blanks
-    (cond (eqb sort.kind literal_kind) sort.datatype
-    (cond (eqb sort.kind tagged_kind) (c.used + size) 0))
+    cond (eqb (kind_of sort) blank_kind) c.blanks
+    (cond (eqb (kind_of sort) literal_kind) (type_of sort)
+    (cond (eqb (kind_of sort) tagged_kind) (c.used + size) 0))
 
 unfoldable pub next_entry : Counts → Sort → ℕ → ℕ → Entry
-next_entry c sort size tag_size = entry sort.kind c.used size (fourth c sort size) tag_size
+next_entry c sort size tag_size = entry (kind_of sort) c.used size (fourth c sort size) tag_size
 
 unfoldable pub next_counts : Counts → Sort → ℕ → Counts
-next_counts c sort bytes = record { terms = c.terms + 1; used = c.used + bytes; blanks = cond (eqb sort.kind blank_kind) (c.blanks + 1) c.blanks }
+next_counts c sort bytes = record { terms = c.terms + 1; used = c.used + bytes; blanks = cond (eqb (kind_of sort) blank_kind) (c.blanks + 1) c.blanks }

@@ -8,6 +8,8 @@ use Rattle.table.specs.Layout.{Row, row_size, row_words, term_size, entry_words,
 use Rattle.table.specs.Tables.{number, or_zero, is_blank, label_of, terms_words, store_bytes, store_size, rows_words}
 use Rattle.terms.specs.declared.Counts.{Counts}
 use Rattle.terms.specs.declared.Sort.{Sort}
+use Rattle.terms.specs.declared.Sort.TheVariants.{Iri, Blank}
+use Rattle.terms.specs.Sorts.{kind_of, type_of}
 use Rattle.terms.specs.Code.{next_entry, next_counts}
 
 unfoldable pub blank_count : List Term → ℕ
@@ -44,18 +46,18 @@ pub record Keeps (ts : List Term) (terms : List ℕ) (store : Text) (c : Counts)
 
 -- The term t is the one of this sort with the text x, and the tag g. The datatype of a literal is given by its number, 0 where it is no term yet.
 unfoldable pub Means : List Term → Sort → Text → Text → Term → Type 0
-Means ts sort x g (iri s) = (sort.kind ≡ iri_kind) × ((s ≡ x) × (g ≡ []))
-Means ts sort x g (blank b) = (sort.kind ≡ blank_kind) × ((label_of b ≡ x) × (g ≡ []))
-Means ts sort x g (literal s d) = (sort.kind ≡ literal_kind) × ((s ≡ x) × ((g ≡ []) × (or_zero (number (iri d) ts) ≡ sort.datatype)))
-Means ts sort x g (tagged s h) = (sort.kind ≡ tagged_kind) × ((s ≡ x) × (h ≡ g))
+Means ts sort x g (iri s) = (kind_of sort ≡ iri_kind) × ((s ≡ x) × (g ≡ []))
+Means ts sort x g (blank b) = (kind_of sort ≡ blank_kind) × ((label_of b ≡ x) × (g ≡ []))
+Means ts sort x g (literal s d) = (kind_of sort ≡ literal_kind) × ((s ≡ x) × ((g ≡ []) × (or_zero (number (iri d) ts) ≡ type_of sort)))
+Means ts sort x g (tagged s h) = (kind_of sort ≡ tagged_kind) × ((s ≡ x) × (h ≡ g))
 
 -- The numbers of one term more, with so many bytes, fit 32 bits.
 pub record Small (c : Counts) (sort : Sort) (bytes : ℕ) : Type 0 where
   pub terms : c.terms < 4294967294
   pub used : c.used + bytes < 4294967295
   pub blanks : c.blanks < word_limit
-  pub kind : sort.kind < word_limit
-  pub datatype : sort.datatype < word_limit
+  pub kind : kind_of sort < word_limit
+  pub datatype : type_of sort < word_limit
 
 -- There is room for one term more.
 pub record TermFits (terms : List ℕ) (store : Text) (c : Counts) (sort : Sort) (x g : Text) : Type 0 where
@@ -72,10 +74,10 @@ pub record Added (terms terms' : List ℕ) (store store' : Text) (c c' : Counts)
 
 -- The sort of a [ or a list cell.
 abbrev pub iri_sort : Sort
-iri_sort = record { kind = iri_kind; datatype = 0 }
+iri_sort = Iri
 
 abbrev pub blank_sort : Sort
-blank_sort = record { kind = blank_kind; datatype = 0 }
+blank_sort = Blank
 
 -- What adding a blank node without a label leaves, whatever the store holds.
 abbrev pub BlankAdded : List ℕ → List ℕ → Counts → Counts → Type 0

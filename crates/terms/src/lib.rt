@@ -1,11 +1,12 @@
 // Terms and rows in lent slices: looking for an equal term one by one, adding a term, adding a row.
 #![tactic(auto)]
 
-ghost use Rattle.std.specs.Prelude.{◌≡◌, false, [], ◌++◌, ℕ, suc, ◌+◌, ◌*◌, ◌-◌, ◌≤◌, ◌<◌, length, get_or};
+ghost use Rattle.std.specs.Prelude.{◌≡◌, true, false, [], ◌++◌, ℕ, suc, ◌+◌, ◌*◌, ◌-◌, ◌≤◌, ◌<◌, length, get_or, unwrap_or, IfSome};
 ghost use Rattle.text.specs.Slice.{over_at};
 ghost use Rattle.spelling.specs.Form.{joined, bad};
 ghost use Rattle.spelling.specs.declared.Form.TheVariants.{Plain};
 ghost use Rattle.table.specs.Layout.{row_size, term_size, entry_at, entry_words, word_limit};
+ghost use Rattle.terms.specs.Sorts.{kind_of, type_of, text_in};
 ghost use Rattle.terms.specs.Code.{same_rest, matches, first, Inside, Readable, fourth, next_entry, next_counts};
 ghost use Rattle.terms.specs.Keeps.{Small, TermFits, Added, iri_sort, blank_sort, BlankAdded, RowAdded};
 
@@ -22,54 +23,78 @@ pub struct Counts {
 
 // The kind of a term, and of a literal the number of its datatype's term.
 #[derive(Clone, Copy)]
-pub struct Sort {
-    pub kind: usize,
-    pub datatype: usize,
+pub enum Sort {
+    Iri,
+    Blank,
+    Literal(usize),
+    Tagged,
+}
+
+impl Sort {
+    // The kind's number.
+    fn kind(self) -> usize
+        ensures { result ≡ kind_of self }
+    {
+        match self {
+            Sort::Iri => TermKind::IRI,
+            Sort::Blank => TermKind::BLANK,
+            Sort::Literal(_) => TermKind::LITERAL,
+            Sort::Tagged => TermKind::TAGGED,
+        }
+    }
+
+    // The number of a literal's datatype, 0 for any other term.
+    pub fn datatype(self) -> usize
+        ensures { result ≡ type_of self }
+    {
+        match self {
+            Sort::Literal(datatype) => datatype,
+            _ => 0,
+        }
+    }
+}
+
+// A term that is looked for, or added: its sort, its text, which is a front before a back of this form, and its tag.
+#[derive(Clone, Copy)]
+pub struct Sought<'a> {
+    pub sort: Sort,
+    pub front: &'a [u8],
+    pub form: Form,
+    pub back: &'a [u8],
+    pub tag: &'a [u8],
 }
 
 // Whether an entry of the same kind has the same datatype, or the same tag.
 fn same_rest(terms: &[u32], store: &[u8], i: usize, sort: Sort, tag: &[u8]) -> bool
-    requires { Inside terms.now store.now i × ((entry_at terms.now (suc i)).kind ≡ sort.kind) }
+    requires { Inside terms.now store.now i × ((entry_at terms.now (suc i)).kind ≡ kind_of sort) }
     ensures { result ≡ same_rest store.now (entry_at terms.now (suc i)) sort tag.now }
 {
     let at = Layout::TERM_WORDS * i;
-    let kind = sort.kind;
-    if kind == TermKind::LITERAL {
-        return wide(terms[at + TermWord::FOURTH]) == sort.datatype;
+    match sort {
+        Sort::Literal(datatype) => wide(terms[at + TermWord::FOURTH]) == datatype,
+        Sort::Tagged => {
+            let start = wide(terms[at + TermWord::FOURTH]);
+            let end = start + wide(terms[at + TermWord::FIFTH]);
+            text::same(tag, &store[start..end])
+        }
+        _ => true,
     }
-    if kind == TermKind::TAGGED {
-        let start = wide(terms[at + TermWord::FOURTH]);
-        let end = start + wide(terms[at + TermWord::FIFTH]);
-        return text::same(tag, &store[start..end]);
-    }
-    true
 }
 
-// Whether the entry at i is of the term of this sort with this text and tag.
-pub fn is_term(
-    terms: &[u32],
-    store: &[u8],
-    i: usize,
-    sort: Sort,
-    front: &[u8],
-    form: Form,
-    back: &[u8],
-    tag: &[u8],
-) -> bool
+// Whether the entry at i is of the term that is sought.
+#[inline(always)]
+pub fn is_term(terms: &[u32], store: &[u8], i: usize, sought: &Sought<'_>) -> bool
     requires { Inside terms.now store.now i }
-    ensures { result ≡ matches store.now (entry_at terms.now (suc i)) sort (joined front.now form back.now) tag.now }
+    ensures { result ≡ matches store.now (entry_at terms.now (suc i)) sought.now.sort (text_in sought.now) sought.now.tag.now }
 {
     let at = Layout::TERM_WORDS * i;
-    let kind = sort.kind;
-    if wide(terms[at + TermWord::KIND]) != kind {
+    if wide(terms[at + TermWord::KIND]) != sought.sort.kind() {
         return false;
     }
     let start = wide(terms[at + TermWord::START]);
     let end = start + wide(terms[at + TermWord::SIZE]);
-    if spelling::same_joined(front, form, back, &store[start..end]) {
-        return same_rest(terms, store, i, sort, tag);
-    }
-    false
+    spelling::same_joined(sought.front, sought.form, sought.back, &store[start..end])
+        && same_rest(terms, store, i, sought.sort, sought.tag)
 }
 
 // The same for an IRI whose parts are as they are, which most are.
@@ -86,29 +111,23 @@ pub fn is_iri(terms: &[u32], store: &[u8], i: usize, front: &[u8], back: &[u8]) 
     spelling::same_plain(front, back, &store[start..end])
 }
 
-// The first number of such a term behind the first `from` terms, or 0.
+// The first number of such a term behind the first `from` terms.
 pub fn find_from(
     terms: &[u32],
     store: &[u8],
     from: usize,
     count: usize,
-    sort: Sort,
-    front: &[u8],
-    form: Form,
-    back: &[u8],
-    tag: &[u8],
-) -> usize
+    sought: &Sought<'_>,
+) -> Option<usize>
     requires { Readable terms.now store.now count × (from ≤ count) }
-    ensures { result ≡ first (λ i. matches store.now (entry_at terms.now (suc i)) sort (joined front.now form back.now) tag.now) from (count - from) }
+    ensures { (unwrap_or result 0 ≡ first (λ i. matches store.now (entry_at terms.now (suc i)) sought.now.sort (text_in sought.now) sought.now.tag.now) from (count - from)) × IfSome result (λ n. 0 < n) }
 {
-    let mut i = from;
-    while i < count {
-        if is_term(terms, store, i, sort, front, form, back, tag) {
-            return i + 1;
+    for i in from..count {
+        if is_term(terms, store, i, sought) {
+            return Some(i + 1);
         }
-        i += 1;
     }
-    0
+    None
 }
 
 // Writes words at a place.
@@ -116,10 +135,8 @@ fn put_words(words: &mut [u32], at: usize, s: &[usize])
     requires { (at + length s.now ≤ length words.old) × ((i : ℕ) → get_or s.now i 0 < word_limit) }
     ensures { words.new ≡ over_at at s.now words.old }
 {
-    let mut i: usize = 0;
-    while i < s.len() {
-        words[at + i] = s[i] as u32;
-        i += 1;
+    for (i, word) in s.iter().enumerate() {
+        words[at + i] = *word as u32;
     }
 }
 
@@ -135,17 +152,12 @@ fn fourth_word(counts: Counts, sort: Sort, size: usize) -> usize
     requires { counts.used + size < word_limit }
     ensures { result ≡ fourth counts sort size }
 {
-    let kind = sort.kind;
-    if kind == TermKind::BLANK {
-        return counts.blanks;
+    match sort {
+        Sort::Iri => 0,
+        Sort::Blank => counts.blanks,
+        Sort::Literal(datatype) => datatype,
+        Sort::Tagged => counts.used + size,
     }
-    if kind == TermKind::LITERAL {
-        return sort.datatype;
-    }
-    if kind == TermKind::TAGGED {
-        return counts.used + size;
-    }
-    0
 }
 
 // Writes the words of a term behind those of the others.
@@ -153,69 +165,51 @@ fn put_entry(terms: &mut [u32], counts: Counts, sort: Sort, size: usize, tag: us
     requires { (term_size * counts.terms + term_size ≤ length terms.old) × Small counts sort (size + tag) }
     ensures { terms.new ≡ over_at (term_size * counts.terms) (entry_words (next_entry counts sort size tag)) terms.old }
 {
-    let used = counts.used;
-    let at = Layout::TERM_WORDS * counts.terms;
-    let kind = sort.kind;
-    let five = [kind, used, size, fourth_word(counts, sort, size), tag];
-    put_words(terms, at, &five);
+    let five = [
+        sort.kind(),
+        counts.used,
+        size,
+        fourth_word(counts, sort, size),
+        tag,
+    ];
+    put_words(terms, Layout::TERM_WORDS * counts.terms, &five);
 }
 
 // Writes a text, and the tag behind it, into the unused end of the store; the text's length.
-fn write_bytes(
-    store: &mut [u8],
-    used: usize,
-    front: &[u8],
-    form: Form,
-    back: &[u8],
-    tag: &[u8],
-) -> usize
-    requires { (used + (length (joined front.now form back.now) + length tag.now) ≤ length store.old) × (bad form back.now ≡ false) }
-    ensures { (result ≡ length (joined front.now form back.now)) × (store.new ≡ over_at used (joined front.now form back.now ++ tag.now) store.old) }
+fn write_bytes(store: &mut [u8], used: usize, sought: &Sought<'_>) -> usize
+    requires { (used + (length (text_in sought.now) + length sought.now.tag.now) ≤ length store.old) × (bad sought.now.form sought.now.back.now ≡ false) }
+    ensures { (result ≡ length (text_in sought.now)) × (store.new ≡ over_at used (text_in sought.now ++ sought.now.tag.now) store.old) }
 {
-    let size = spelling::write_joined(front, form, back, &mut store[used..]);
-    let end = used + size;
-    text::copy(tag, &mut store[end..]);
+    let size = spelling::write_joined(sought.front, sought.form, sought.back, &mut store[used..]);
+    text::copy(sought.tag, &mut store[used + size..]);
     size
 }
 
-fn count_term(counts: Counts, sort: Sort, bytes: usize) -> Counts
-    requires { Small counts sort bytes }
-    ensures { result ≡ next_counts counts sort bytes }
-{
-    let kind = sort.kind;
-    if kind == TermKind::BLANK {
-        return Counts {
-            terms: counts.terms + 1,
-            used: counts.used + bytes,
-            blanks: counts.blanks + 1,
-        };
-    }
-    Counts {
-        terms: counts.terms + 1,
-        used: counts.used + bytes,
-        blanks: counts.blanks,
+impl Counts {
+    // With one term more, of so many bytes.
+    fn with(self, sort: Sort, bytes: usize) -> Counts
+        requires { Small self sort bytes }
+        ensures { result ≡ next_counts self sort bytes }
+    {
+        Counts {
+            terms: self.terms + 1,
+            used: self.used + bytes,
+            blanks: match sort {
+                Sort::Blank => self.blanks + 1,
+                _ => self.blanks,
+            },
+        }
     }
 }
 
-// Adds a term behind the others; the counts with it.
-pub fn add(
-    terms: &mut [u32],
-    store: &mut [u8],
-    counts: Counts,
-    sort: Sort,
-    front: &[u8],
-    form: Form,
-    back: &[u8],
-    tag: &[u8],
-) -> Counts
-    requires { TermFits terms.old store.old counts sort (joined front.now form back.now) tag.now × (bad form back.now ≡ false) }
-    ensures { Added terms.old terms.new store.old store.new counts result sort (joined front.now form back.now) tag.now }
+// Adds the term that is sought behind the others; the counts with it.
+pub fn add(terms: &mut [u32], store: &mut [u8], counts: Counts, sought: &Sought<'_>) -> Counts
+    requires { TermFits terms.old store.old counts sought.now.sort (text_in sought.now) sought.now.tag.now × (bad sought.now.form sought.now.back.now ≡ false) }
+    ensures { Added terms.old terms.new store.old store.new counts result sought.now.sort (text_in sought.now) sought.now.tag.now }
 {
-    let used = counts.used;
-    let tag_size = tag.len();
-    let size = write_bytes(store, used, front, form, back, tag);
-    put_entry(terms, counts, sort, size, tag_size);
-    count_term(counts, sort, size + tag_size)
+    let size = write_bytes(store, counts.used, sought);
+    put_entry(terms, counts, sought.sort, size, sought.tag.len());
+    counts.with(sought.sort, size + sought.tag.len())
 }
 
 // Adds a blank node without a label, as each [ and each list cell is; the counts with it.
@@ -223,10 +217,6 @@ pub fn add_blank(terms: &mut [u32], counts: Counts) -> Counts
     requires { (term_size * counts.terms + term_size ≤ length terms.old) × Small counts blank_sort 0 }
     ensures { BlankAdded terms.old terms.new counts result }
 {
-    let sort = Sort {
-        kind: TermKind::BLANK,
-        datatype: 0,
-    };
-    put_entry(terms, counts, sort, 0, 0);
-    count_term(counts, sort, 0)
+    put_entry(terms, counts, Sort::Blank, 0, 0);
+    counts.with(Sort::Blank, 0)
 }

@@ -9,8 +9,7 @@ ghost use Rattle.terms_bench.specs.Iris.{counts};
 
 use limits::Limits;
 use spelling::Form;
-use table::TermKind;
-use terms::{Counts, Sort};
+use terms::{Counts, Sort, Sought};
 
 // The number of an IRI; it is added where it is new.
 #[unsafe(no_mangle)]
@@ -30,36 +29,19 @@ pub extern "C" fn share_iri(
         used: used,
         blanks: 0,
     };
-    let sort = Sort {
-        kind: TermKind::IRI,
-        datatype: 0,
+    let sought = Sought {
+        sort: Sort::Iri,
+        front: b"",
+        form: Form::Plain,
+        back: text,
+        tag: b"",
     };
-    let n = Limits::work_size();
-    let found = term_tree::find(
-        &work[n..],
-        &terms[0..],
-        &store[0..],
-        c,
-        sort,
-        &text[..0],
-        Form::Plain,
-        text,
-        &text[..0],
-    );
-    if 0 < found.number {
-        return found.number;
+    match term_tree::find(&work[Limits::WORK..], terms, store, c, &sought) {
+        Ok(number) => number,
+        Err(slot) => {
+            terms::add(terms, store, c, &sought);
+            term_tree::enter(work, count, slot);
+            count + 1
+        }
     }
-    let slot = found.slot;
-    terms::add(
-        terms,
-        store,
-        c,
-        sort,
-        &text[..0],
-        Form::Plain,
-        text,
-        &text[..0],
-    );
-    term_tree::enter(work, count, slot);
-    count + 1
 }

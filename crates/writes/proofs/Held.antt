@@ -18,6 +18,7 @@ use Rattle.table.specs.Tables.{is_blank, term_bytes, store_size}
 use Rattle.table.proofs.Store.{last_size}
 use Rattle.terms.specs.declared.Counts.{Counts}
 use Rattle.terms.specs.declared.Sort.{Sort}
+use Rattle.terms.specs.Sorts.{kind_of, type_of}
 use Rattle.terms.specs.Keeps.{blank_count, Means, TermFits, Added, KeepsRows, RowAdded}
 use Rattle.terms.specs.Code.{next_entry, next_counts}
 use Rattle.terms.proofs.Slices.{past_over_at}
@@ -47,7 +48,7 @@ means_size ts sort x g (blank b) (k, (e, h)) = rw (e, h) (length-append x [])
 means_size ts sort x g (literal s d) (k, (e, (h, n))) = rw (e, h) (length-append x [])
 means_size ts sort x g (tagged s d) (k, (e, h)) = rw (e, h) (length-append x g)
 
-means_kind : (ts : List Term) (sort : Sort) (x g : Text) (u : Term) → Means ts sort x g u → sort.kind ≤ 4
+means_kind : (ts : List Term) (sort : Sort) (x g : Text) (u : Term) → Means ts sort x g u → kind_of sort ≤ 4
 unfolding Means
 means_kind ts sort x g (iri s) M = omega (arith, M.0)
 means_kind ts sort x g (blank b) M = omega (arith, M.0)
@@ -55,7 +56,7 @@ means_kind ts sort x g (literal s d) M = omega (arith, M.0)
 means_kind ts sort x g (tagged s d) M = omega (arith, M.0)
 
 pub term_room : (old : Tables) (m : Memory) (work : Text) (rows terms : List ℕ) (store : Text) (st : List ℕ) (sort : Sort) (x g : Text) (u : Term) → Represents old m work (lent_tables rows terms store) st
-    → Fits (room_in (lent_tables rows terms store)) (new_term u m).1 → Means m.terms sort x g u → sort.datatype < word_limit → TermFits terms store (counts_of st) sort x g
+    → Fits (room_in (lent_tables rows terms store)) (new_term u m).1 → Means m.terms sort x g u → type_of sort < word_limit → TermFits terms store (counts_of st) sort x g
 term_room old m work rows terms store st sort x g u R F M d =
     let K = R.terms_held.keeps in
     let bytes : get_or st used_word 0 + (length x + length g) ≤ counted (length store) = omega (arith, F.store, last_size m.terms u, means_size m.terms sort x g u M, K.used) in

@@ -7,20 +7,20 @@ use native.Mathlib.Omega.{arith}
 use lib.ListN.{length, get_or, take, drop, set, length-set}
 use lib.Seq.{get_or-set_same, get_or-set_other}
 use Rattle.environment.specs.Code.{words_size}
-use Rattle.term_tree.specs.Keys.{type_of}
+use Rattle.terms.specs.Sorts.{type_of}
+use Rattle.terms.specs.declared.Sort.TheVariants.{Literal, Tagged}
 use Rattle.term_tree.specs.Tree.{Links, Vacant}
 use Rattle.text.specs.Text.{Text}
 use Rattle.limits.specs.Limits.{work_size}
-use Rattle.environment.proofs.Directives.{whole}
 use Rattle.dataset.specs.Terms.{Term, label, iri, blank, literal, tagged}
 use Rattle.table.specs.Tables.{number, or_zero}
 use Rattle.table.proofs.Finding.{number_last, number_within, zero_none, positive_some}
 use Rattle.terms.specs.declared.Counts.{Counts}
 use Rattle.terms.specs.declared.Sort.{Sort}
 use Rattle.terms.specs.Keeps.{Typed, Means, TermFits, Added, BlankAdded, iri_sort, blank_sort}
-use Rattle.terms.specs.Code.{Readable, next_entry}
+use Rattle.terms.specs.Code.{next_entry}
 use Rattle.text.proofs.Over.{over_at_length}
-use Rattle.table.specs.Layout.{entry_words, term_size, literal_kind, tagged_kind, word_limit}
+use Rattle.table.specs.Layout.{entry_words, term_size, word_limit}
 use Rattle.terms.proofs.Kept.{bytes_room}
 use Rattle.term_tree.specs.Holds.{Finds, Numbers, Searchable}
 use Rattle.term_tree.proofs.Indexes.{searchable, holds_blank, holds_added, end_part}
@@ -36,21 +36,13 @@ use Rattle.writes.proofs.Held.{term_room, held_term, held_word}
 
 -- ---- What a search answers
 
--- The slices were lent whole, the index as the end of the work slice.
-pub finds_whole : (terms : List ℕ) (store work : Text) (n : ℕ) (c d : Counts) (sort : Sort) (x g : Text) (r : ℕ) → n ≡ work_size → c ≡ d
-    → Finds (take (length terms - 0) (drop 0 terms)) (take (length store - 0) (drop 0 store)) (take (length work - n) (drop n work)) c sort x g r
+-- The index is the end of the work slice.
+pub finds_part : (terms : List ℕ) (store work : Text) (c d : Counts) (sort : Sort) (x g : Text) (r : ℕ) → c ≡ d → Finds terms store (take (length work - work_size) (drop work_size work)) c sort x g r
     → Finds terms store (drop work_size work) d sort x g r
-finds_whole terms store work n c d sort x g r e q F = rw (whole terms, whole store, end_part n work_size work e, q) at F
+finds_part terms store work c d sort x g r q F = rw (end_part work_size work_size work refl, q) at F
 
-pub searchable_whole : (terms : List ℕ) (store work : Text) (n : ℕ) (c d : Counts) → n ≡ work_size → c ≡ d → Searchable terms store (drop work_size work) d
-    → Searchable (take (length terms - 0) (drop 0 terms)) (take (length store - 0) (drop 0 store)) (take (length work - n) (drop n work)) c
-searchable_whole terms store work n c d e q S = rw (whole terms, whole store, end_part n work_size work e, q) S
-
-pub readable_whole : (terms : List ℕ) (store : Text) (n : ℕ) → Readable terms store n → Readable (take (length terms - 0) (drop 0 terms)) (take (length store - 0) (drop 0 store)) n
-readable_whole terms store n R = rw (whole terms, whole store) R
-
-pub numbers_whole : (terms : List ℕ) (store : Text) (n : ℕ) (x : Text) (k : ℕ) → Numbers (take (length terms - 0) (drop 0 terms)) (take (length store - 0) (drop 0 store)) n x k → Numbers terms store n x k
-numbers_whole terms store n x k N = rw (whole terms, whole store) at N
+pub searchable_part : (terms : List ℕ) (store work : Text) (c d : Counts) → c ≡ d → Searchable terms store (drop work_size work) d → Searchable terms store (take (length work - work_size) (drop work_size work)) c
+searchable_part terms store work c d q S = rw (end_part work_size work_size work refl, q) S
 
 pub ready_searchable : (sort : Sort) (x g work : Text) (terms : List ℕ) (store : Text) (st : List ℕ) → ShareReady sort x g work terms store st → Searchable terms store (drop work_size work) (counts_of st)
 ready_searchable sort x g work terms store st S = searchable S.ready.memory.terms terms store (drop work_size work) (counts_of st) S.ready.represents.terms_held
@@ -131,7 +123,7 @@ module _ (sort : Sort) (x g : Text) (slot r n : ℕ) (work work' : Text) (rows t
 -- ---- Terms of each kind
 
 -- From a search to the write of one term.
-module _ (sort : Sort) (x g : Text) (u : Term) (asks : (m : Memory) → Asks sort x g m u) (d : sort.datatype < word_limit) where
+module _ (sort : Sort) (x g : Text) (u : Term) (asks : (m : Memory) → Asks sort x g m u) (d : type_of sort < word_limit) where
   pub share_ready : (work : Text) (terms : List ℕ) (store : Text) (st : List ℕ) → TermReady (term u) work terms store st → ShareReady sort x g work terms store st
   share_ready work terms store st (rows, r) = record { rows = rows; asked = u; ready = r; asks = asks r.memory; datatype = d }
 
@@ -157,7 +149,7 @@ label_asked [] h m = absurd (omega arith)
 label_asked (c ∷ x) h m = record { means = (refl, (refl, refl)); typed = tt; named = refl }
 
 abbrev pub tagged_sort : Sort
-tagged_sort = record { kind = tagged_kind; datatype = 0 }
+tagged_sort = Tagged
 
 pub tagged_asked : (x g : Text) (m : Memory) → Asks tagged_sort x g m (tagged x g)
 unfolding Means Typed
@@ -165,7 +157,7 @@ tagged_asked x g m = record { means = (refl, (refl, refl)); typed = tt; named = 
 
 -- A literal, once its datatype has the number d.
 abbrev pub literal_sort : ℕ → Sort
-literal_sort d = record { kind = literal_kind; datatype = d }
+literal_sort d = Literal d
 
 literal_asked : (s x : Text) (d : ℕ) (m : Memory) → number (iri x) m.terms ≡ some d → Asks (literal_sort d) s [] m (literal s x)
 unfolding Means Typed

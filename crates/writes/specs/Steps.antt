@@ -9,6 +9,7 @@ use Rattle.table.specs.Tables.{label_of}
 use Rattle.table.specs.Layout.{word_limit}
 use Rattle.terms.specs.declared.Counts.{Counts}
 use Rattle.terms.specs.declared.Sort.{Sort}
+use Rattle.terms.specs.Sorts.{type_of}
 use Rattle.terms.specs.Keeps.{findable, Typed, Means, Added}
 use Rattle.term_tree.specs.Tree.{Links}
 use Rattle.machine.specs.Memory.{Memory, Write, done, term, new_term, row}
@@ -45,7 +46,7 @@ pub record ShareReady (sort : Sort) (x g work : Text) (terms : List ℕ) (store 
   pub asked : Term
   pub ready : Ready (term asked) work (lent_tables rows terms store) st
   pub asks : Asks sort x g ready.memory asked
-  pub datatype : sort.datatype < word_limit
+  pub datatype : type_of sort < word_limit
 
 -- A number of a term.
 abbrev pub Number : ℕ → Type 0

@@ -6,13 +6,14 @@ ghost use Rattle.std.specs.Prelude.{◌≡◌, true, false, List, ℕ, ◌+◌, 
 ghost use Rattle.text.specs.Text.{cond};
 ghost use Rattle.environment.specs.Code.{words_size, Usable};
 ghost use Rattle.spelling.specs.Form.{undo, bad, joined};
-ghost use Rattle.dataset.specs.Terms.{iri, blank, label, tagged, rdf_first, rdf_rest, rdf_nil};
+ghost use Rattle.dataset.specs.Terms.{iri, blank, label, tagged};
 ghost use Rattle.limits.specs.Limits.{work_size};
 ghost use Rattle.terms.specs.Keeps.{TermFits};
 ghost use Rattle.term_tree.specs.Tree.{InSlots};
 ghost use Rattle.machine.specs.Memory.{done, term, typed};
 ghost use Rattle.machine.specs.Frame.{no_cell, cells};
 ghost use Rattle.machine.specs.Rules.{hold, new_cell, end_list};
+ghost use Rattle.state.specs.Supplies.{supplied};
 ghost use Rattle.state.specs.Words.{terms_word, kept_size, counts_of, Stays};
 ghost use Rattle.state.specs.Represents.{lent_tables, Wrote};
 ghost use Rattle.state.specs.Writes.{place_of, cells_of, node_write, placed, opened_at, closed, SpotFits, NodeFits};
@@ -22,9 +23,8 @@ ghost use Rattle.writes.specs.Steps.{CountsSet, Number, Part, ShareReady, Shares
 use environment::Layout;
 use limits::Limits;
 use spelling::Form;
-use state::{Node, Spot, Words};
-use table::TermKind;
-use terms::{Counts, Sort};
+use state::{Node, Spot, Supplied, Words};
+use terms::{Counts, Sort, Sought};
 use text::wide;
 
 fn set_counts(st: &mut [usize; Layout::WORDS], c: Counts)
@@ -54,11 +54,17 @@ fn add(
     ensures { (result ≡ get_or st.old terms_word 0 + 1) × TermAdded sort (joined (take (end - start) (drop start work.old)) form back.now) tag.now slot work.old work.new terms.old terms.new store.old store.new st.old st.new }
 {
     let c = state::counts(st);
-    let count = c.terms;
-    let d = terms::add(terms, store, c, sort, &work[start..end], form, back, tag);
-    term_tree::enter(work, count, slot);
+    let sought = Sought {
+        sort: sort,
+        front: &work[start..end],
+        form: form,
+        back: back,
+        tag: tag,
+    };
+    let d = terms::add(terms, store, c, &sought);
+    term_tree::enter(work, c.terms, slot);
     set_counts(st, d);
-    count + 1
+    c.terms + 1
 }
 
 // The number of a term; it is added where there is none equal to it. Its text is a part of the work slice before a back.
@@ -77,26 +83,25 @@ fn share(
     requires { ShareReady sort (joined (take (end - start) (drop start work.old)) form back.now) tag.now work.old terms.old store.old st.old × Part start end form back.now }
     ensures { Number result × ((rows : List ℕ) → Shares sort (joined (take (end - start) (drop start work.old)) form back.now) tag.now result work.old work.new (lent_tables rows terms.old store.old) (lent_tables rows terms.new store.new) st.old st.new) }
 {
-    let n = Limits::work_size();
-    let c = state::counts(st);
-    let found = term_tree::find(
-        &work[n..],
-        &terms[0..],
-        &store[0..],
-        c,
-        sort,
-        &work[start..end],
-        form,
-        back,
-        tag,
-    );
-    if 0 < found.number {
-        return found.number;
+    let sought = Sought {
+        sort: sort,
+        front: &work[start..end],
+        form: form,
+        back: back,
+        tag: tag,
+    };
+    match term_tree::find(
+        &work[Limits::WORK..],
+        terms,
+        store,
+        state::counts(st),
+        &sought,
+    ) {
+        Ok(number) => number,
+        Err(slot) => add(
+            work, terms, store, st, slot, sort, start, end, form, back, tag,
+        ),
     }
-    let slot = found.slot;
-    add(
-        work, terms, store, st, slot, sort, start, end, form, back, tag,
-    )
 }
 
 // Which of the kept numbers may be that of an IRI. Each would do: these bytes tell most names of a document apart.
@@ -127,32 +132,20 @@ fn share_iri(
     let word = Words::KEPT + kept_at(start, back);
     let kept = st[word];
     let count = st[Words::TERMS];
-    if term_tree::is_number(
-        kept,
-        &terms[0..],
-        &store[0..],
-        count,
-        &work[start..end],
-        form,
-        back,
-    ) {
+    if term_tree::is_number(kept, terms, store, count, &work[start..end], form, back) {
         return kept;
     }
-    let sort = Sort {
-        kind: TermKind::IRI,
-        datatype: 0,
-    };
     let number = share(
         work,
         terms,
         store,
         st,
-        sort,
+        Sort::Iri,
         start,
         end,
         form,
         back,
-        &back[..0],
+        b"",
     );
     st[word] = number;
     number
@@ -169,22 +162,8 @@ fn share_label(
     requires { TermReady (term (blank (label text.now))) work.old terms.old store.old st.old × (0 < length text.now) }
     ensures { TermWrites (term (blank (label text.now))) result work.old work.new terms.old terms.new store.old store.new st.old st.new }
 {
-    let sort = Sort {
-        kind: TermKind::BLANK,
-        datatype: 0,
-    };
-    share(
-        work,
-        terms,
-        store,
-        st,
-        sort,
-        0,
-        0,
-        Form::Plain,
-        text,
-        &text[..0],
-    )
+    let sort = Sort::Blank;
+    share(work, terms, store, st, sort, 0, 0, Form::Plain, text, b"")
 }
 
 // The number of a literal with a language tag.
@@ -200,10 +179,7 @@ fn share_tagged(
     requires { TermReady (term (tagged (undo form text.now) tag.now)) work.old terms.old store.old st.old × (bad form text.now ≡ false) }
     ensures { TermWrites (term (tagged (undo form text.now) tag.now)) result work.old work.new terms.old terms.new store.old store.new st.old st.new }
 {
-    let sort = Sort {
-        kind: TermKind::TAGGED,
-        datatype: 0,
-    };
+    let sort = Sort::Tagged;
     share(work, terms, store, st, sort, 0, 0, form, text, tag)
 }
 
@@ -224,75 +200,22 @@ fn share_typed(
     ensures { TermWrites (typed (undo shape text.now) (joined (take (end - start) (drop start work.old)) form back.now)) result work.old work.new terms.old terms.new store.old store.new st.old st.new }
 {
     let d = share_iri(work, terms, store, st, start, end, form, back);
-    let sort = Sort {
-        kind: TermKind::LITERAL,
-        datatype: d,
-    };
-    share(work, terms, store, st, sort, 0, 0, shape, text, &text[..0])
+    let sort = Sort::Literal(d);
+    share(work, terms, store, st, sort, 0, 0, shape, text, b"")
 }
 
-// The numbers of the IRIs that a list supplies.
-fn share_first(
+// The number of an IRI that a list supplies.
+fn share_supplied(
     work: &mut [u8],
     terms: &mut [u32],
     store: &mut [u8],
     st: &mut [usize; Layout::WORDS],
+    which: Supplied,
 ) -> usize
-    requires { TermReady (term (iri rdf_first)) work.old terms.old store.old st.old }
-    ensures { TermWrites (term (iri rdf_first)) result work.old work.new terms.old terms.new store.old store.new st.old st.new }
+    requires { TermReady (term (iri (supplied which))) work.old terms.old store.old st.old }
+    ensures { TermWrites (term (iri (supplied which))) result work.old work.new terms.old terms.new store.old store.new st.old st.new }
 {
-    share_iri(
-        work,
-        terms,
-        store,
-        st,
-        0,
-        0,
-        Form::Plain,
-        b"http://www.w3.org/1999/02/22-rdf-syntax-ns#first",
-    )
-}
-
-fn share_rest(
-    work: &mut [u8],
-    terms: &mut [u32],
-    store: &mut [u8],
-    st: &mut [usize; Layout::WORDS],
-) -> usize
-    requires { TermReady (term (iri rdf_rest)) work.old terms.old store.old st.old }
-    ensures { TermWrites (term (iri rdf_rest)) result work.old work.new terms.old terms.new store.old store.new st.old st.new }
-{
-    share_iri(
-        work,
-        terms,
-        store,
-        st,
-        0,
-        0,
-        Form::Plain,
-        b"http://www.w3.org/1999/02/22-rdf-syntax-ns#rest",
-    )
-}
-
-fn share_nil(
-    work: &mut [u8],
-    terms: &mut [u32],
-    store: &mut [u8],
-    st: &mut [usize; Layout::WORDS],
-) -> usize
-    requires { TermReady (term (iri rdf_nil)) work.old terms.old store.old st.old }
-    ensures { TermWrites (term (iri rdf_nil)) result work.old work.new terms.old terms.new store.old store.new st.old st.new }
-{
-    share_iri(
-        work,
-        terms,
-        store,
-        st,
-        0,
-        0,
-        Form::Plain,
-        b"http://www.w3.org/1999/02/22-rdf-syntax-ns#nil",
-    )
+    share_iri(work, terms, store, st, 0, 0, Form::Plain, which.text())
 }
 
 // The number of a new blank node without a label.
@@ -345,7 +268,7 @@ fn hold(
         return;
     }
     if y == 0 {
-        let first = share_first(work, terms, store, st);
+        let first = share_supplied(work, terms, store, st, Supplied::First);
         put_row(rows, st, x, first, n, at);
         return;
     }
@@ -387,7 +310,7 @@ fn later_cell(
     let last = spot.last;
     let at = spot.at;
     let cell = fresh(terms, st);
-    let rest = share_rest(work, terms, store, st);
+    let rest = share_supplied(work, terms, store, st, Supplied::Rest);
     put_row(rows, st, last, rest, cell, at);
     cell
 }
@@ -558,7 +481,7 @@ fn end_empty(
     let x = spot.x;
     let y = spot.y;
     let opened = spot.opened;
-    let nil = share_nil(work, terms, store, st);
+    let nil = share_supplied(work, terms, store, st, Supplied::Nil);
     hold(work, rows, terms, store, st, x, y, nil, opened);
     nil
 }
@@ -577,8 +500,8 @@ fn end_cells(
 {
     let last = spot.last;
     let at = spot.at;
-    let rest = share_rest(work, terms, store, st);
-    let nil = share_nil(work, terms, store, st);
+    let rest = share_supplied(work, terms, store, st, Supplied::Rest);
+    let nil = share_supplied(work, terms, store, st, Supplied::Nil);
     put_row(rows, st, last, rest, nil, at);
 }
 

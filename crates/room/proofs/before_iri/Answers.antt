@@ -1,13 +1,11 @@
-use Rattle.room.proofs.Tests.{before_iri_none}
-use Rattle.room.proofs.Tests.{before_iri_later}
-use Rattle.room.proofs.Tests.{before_iri_first}
+use Rattle.room.proofs.Tests.{before_iri_first, before_iri_later, before_iri_none}
 use Rattle.room.proofs.before_iri.Goals as goal
 
-pub returns-then-last-eq0 : goal.returns-then-last-eq0
-returns-then-last-eq0 c = search before_iri_first
+pub returns-then-spot-eq0 : goal.returns-then-spot-eq0
+returns-then-spot-eq0 c = before_iri_first c.args.spot _ c.if-spot.true c.if-spot-eq0.true c.place_iri.ensures
 
-pub returns-then-list : goal.returns-then-list
-returns-then-list c = search before_iri_later
+pub returns-then-spot : goal.returns-then-spot
+returns-then-spot c = before_iri_later c.args.spot c.if-spot.true c.if-spot-eq0.false
 
 pub returns : goal.returns
-returns c = search before_iri_none
+returns c = before_iri_none c.args.spot c.if-spot.false

@@ -12,4 +12,4 @@ find_name-requires c = (record { size = c.requires.0.0; order = c.requires.1.0; 
 
 pub returns : goal.returns
 unfolding Means
-returns c = λ ts H. c.find_name.ensures ts (iri (joined (take (c.args.end - c.args.start) (drop c.args.start c.args.work.now)) c.args.form c.args.back.now)) H (refl, (refl, refl)) refl
+returns c = (λ ts H. c.find_name.ensures.0 ts (iri (joined (take (c.args.end - c.args.start) (drop c.args.start c.args.work.now)) c.args.form c.args.back.now)) H (refl, (refl, refl)) refl, c.find_name.ensures.1)

@@ -1,9 +1,10 @@
+use mathlib.Core.Path.{refl}
 use Rattle.term_tree.proofs.Indexes.{end_part, entered}
 use Rattle.limits.specs.Limits.{work_size}
 use Rattle.term_tree.proofs.enter.Goals as goal
 
 pub link-requires : goal.link-requires
-link-requires c = (c.requires.1.0, rw (end_part c.work_size-n.result work_size c.args.work.now c.work_size-n.ensures) c.requires.1.1)
+link-requires c = (c.requires.1.0, rw (end_part work_size work_size c.args.work.now refl) c.requires.1.1)
 
 pub returns : goal.returns
-returns c = entered c.work_size-n.result work_size c.args.work.now _ c.args.count c.args.place c.work_size-n.ensures c.requires.0 c.link.ensures
+returns c = entered work_size work_size c.args.work.now _ c.args.count c.args.place refl c.requires.0 c.link.ensures

@@ -1,24 +1,13 @@
 use native.Mathlib.Omega.{arith}
-use Rattle.spelling.specs.Form.{joined}
-use Rattle.term_tree.specs.Tree.{buckets}
-use Rattle.term_tree.proofs.Trees.{least_left}
-use Rattle.term_tree.proofs.Indexes.{found_number, rest_number, followed}
+use Rattle.terms.specs.Sorts.{text_in, type_of}
+use Rattle.term_tree.specs.Holds.{Finds}
+use Rattle.term_tree.specs.Tree.{buckets, Vacant, InSlots}
+use Rattle.term_tree.proofs.Trees.{least_left, min_least}
+use Rattle.term_tree.proofs.Indexes.{found_number, rest_number, followed, found_behind}
 use Rattle.term_tree.proofs.find.Goals as goal
 
-pub find_from-n-requires : goal.find_from-n-requires
-find_from-n-requires c = (c.requires.readable, omega arith)
+pub returns-in-Ok : goal.returns-in-Ok
+returns-in-Ok c = ((λ ts t H M f. found_number H.keeps c.args.sought.now.sort (text_in c.args.sought.now) c.args.sought.now.tag.now t M f c.in-Ok.number c.in-Ok.ensures.1 (omega (arith, (followed H.keeps c.args.sought.now.sort (text_in c.args.sought.now) c.args.sought.now.tag.now t M f c.args.index.now c.in-Ok.number H.indexed c.in-Ok.ensures.0).within, least_left c.args.counts.terms (buckets c.args.index.now))) ((followed H.keeps c.args.sought.now.sort (text_in c.args.sought.now) c.args.sought.now.tag.now t M f c.args.index.now c.in-Ok.number H.indexed c.in-Ok.ensures.0).found c.in-Ok.ensures.1)), c.in-Ok.ensures.1)
 
-pub returns-then-m-eq0 : goal.returns-then-m-eq0
-returns-then-m-eq0 c = (λ ts t H M f. rest_number H.keeps c.args.sort (joined c.args.front.now c.args.form c.args.back.now) c.args.tag.now t M f 0 _ (omega arith) (λ i l. absurd (omega arith)) c.find_from-n.ensures, (λ z q. absurd (omega arith), λ q. absurd (omega arith)))
-
-pub follow-found-requires : goal.follow-found-requires
-follow-found-requires c = ((c.requires.linked, omega arith), c.requires.readable)
-
-pub returns-then-found-gt0 : goal.returns-then-found-gt0
-returns-then-found-gt0 c = (λ ts t H M f. found_number H.keeps c.args.sort (joined c.args.front.now c.args.form c.args.back.now) c.args.tag.now t M f c.follow-found.result.number c.if-found-gt0.true (omega (arith, (followed H.keeps c.args.sort (joined c.args.front.now c.args.form c.args.back.now) c.args.tag.now t M f c.args.index.now c.follow-found.result.number H.indexed c.follow-found.ensures.0).within, least_left c.args.counts.terms (buckets c.args.index.now))) ((followed H.keeps c.args.sort (joined c.args.front.now c.args.form c.args.back.now) c.args.tag.now t M f c.args.index.now c.follow-found.result.number H.indexed c.follow-found.ensures.0).found c.if-found-gt0.true), (λ z. absurd (omega arith), c.follow-found.ensures.1.1))
-
-pub find_from-n-requires-2 : goal.find_from-n-requires-2
-find_from-n-requires-2 c = (c.requires.readable, omega (arith, c.smaller.ensures, least_left c.args.counts.terms (buckets c.args.index.now)))
-
-pub returns : goal.returns
-returns c = (λ ts t H M f. rest_number H.keeps c.args.sort (joined c.args.front.now c.args.form c.args.back.now) c.args.tag.now t M f c.smaller.result _ (omega (arith, c.smaller.ensures, least_left c.args.counts.terms (buckets c.args.index.now))) (λ i l. (followed H.keeps c.args.sort (joined c.args.front.now c.args.form c.args.back.now) c.args.tag.now t M f c.args.index.now c.follow-found.result.number H.indexed c.follow-found.ensures.0).absent (omega (arith, c.if-found-gt0.false)) i (omega (arith, c.smaller.ensures))) c.find_from-n-2.ensures, (λ z. c.follow-found.ensures.1.0 (omega (arith, c.if-found-gt0.false)), c.follow-found.ensures.1.1))
+pub returns-in-Err : goal.returns-in-Err
+returns-in-Err c = found_behind (Finds c.args.terms.now c.args.store.now c.args.index.now c.args.counts c.args.sought.now.sort (text_in c.args.sought.now) c.args.sought.now.tag.now) (λ s. Vacant c.args.index.now (text_in c.args.sought.now) c.args.sought.now.tag.now (type_of c.args.sought.now.sort) s × InSlots c.args.index.now s) c.find_from.result c.in-Err.slot c.ok_or.result c.ok_or.ensures.value (λ ts t H M f. rest_number H.keeps c.args.sought.now.sort (text_in c.args.sought.now) c.args.sought.now.tag.now t M f c.min-from.result _ (omega (arith, c.min-from.ensures)) (λ i l. (followed H.keeps c.args.sought.now.sort (text_in c.args.sought.now) c.args.sought.now.tag.now t M f c.args.index.now 0 H.indexed c.in-Err.ensures.0).absent (omega arith) i (omega (arith, c.min-from.ensures, min_least c.args.counts.terms (buckets c.args.index.now)))) c.find_from.ensures.0) c.find_from.ensures.1 c.in-Err.ensures.1

@@ -12,4 +12,4 @@ stir-requires c = (omega arith, (c.hash_bytes-whole.ensures.1, mod-lt _ (omega a
 
 pub returns : goal.returns
 unfolding key_at
-returns c = (c.stir.ensures.0 ∙ rw (c.type_number.ensures, c.hash_bytes-whole.ensures.0, c.hash_joined-text.ensures.0), c.stir.ensures.1)
+returns c = (c.stir.ensures.0 ∙ rw (c.datatype.ensures, c.hash_bytes-whole.ensures.0, c.hash_joined-text.ensures.0), c.stir.ensures.1)

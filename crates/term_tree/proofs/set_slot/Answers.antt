@@ -1,18 +1,7 @@
-use mathlib.Core.Path.{refl}
 use native.Mathlib.Omega.{arith}
-use lib.ListN.{length-set}
-use Rattle.term_tree.specs.Slots.{put_slot}
+use mathlib.Core.Path.{◌∙◌}
+use Rattle.term_tree.proofs.Slots.{slot_copied}
 use Rattle.term_tree.proofs.set_slot.Goals as goal
 
-pub bounds-s-at-2 : goal.bounds-s-at-2
-bounds-s-at-2 c = simp length-set (omega arith)
-
-pub bounds-s-at-3 : goal.bounds-s-at-3
-bounds-s-at-3 c = simp length-set (omega arith)
-
-pub bounds-s-at-4 : goal.bounds-s-at-4
-bounds-s-at-4 c = simp length-set (omega arith)
-
 pub returns : goal.returns
-unfolding put_slot
-returns c = refl
+returns c = slot_copied c.args.s.now c.copy_from_slice.new.self c.args.i c.args.v _ c.requires.0 (omega arith) (c.copy_from_slice.ensures.after ∙ c.to_le_bytes.ensures)

@@ -1,20 +1,19 @@
-use borrow.Author.Tests.{eq-eqb, ne_eqb}
+use Rattle.std.proofs.Common.{refl}
 use Rattle.terms.specs.Code.{fourth}
-use Rattle.table.specs.Layout.{blank_kind, literal_kind, tagged_kind}
 use Rattle.terms.proofs.fourth_word.Goals as goal
 
-pub returns-then-kind-eq-BLANK : goal.returns-then-kind-eq-BLANK
+pub returns-in-Iri : goal.returns-in-Iri
 unfolding fourth
-returns-then-kind-eq-BLANK c = rw (eq-eqb c.args.sort.kind blank_kind c.if-kind-eq-BLANK.true)
+returns-in-Iri c = rw c.in-Iri.is refl
 
-pub returns-then-kind-eq-LITERAL : goal.returns-then-kind-eq-LITERAL
+pub returns-in-Blank : goal.returns-in-Blank
 unfolding fourth
-returns-then-kind-eq-LITERAL c = rw (ne_eqb c.args.sort.kind blank_kind c.if-kind-eq-BLANK.false, eq-eqb c.args.sort.kind literal_kind c.if-kind-eq-LITERAL.true)
+returns-in-Blank c = rw c.in-Blank.is refl
 
-pub returns-then-kind-eq-TAGGED : goal.returns-then-kind-eq-TAGGED
+pub returns-in-Literal : goal.returns-in-Literal
 unfolding fourth
-returns-then-kind-eq-TAGGED c = rw (ne_eqb c.args.sort.kind blank_kind c.if-kind-eq-BLANK.false, ne_eqb c.args.sort.kind literal_kind c.if-kind-eq-LITERAL.false, eq-eqb c.args.sort.kind tagged_kind c.if-kind-eq-TAGGED.true)
+returns-in-Literal c = rw c.in-Literal.is refl
 
-pub returns : goal.returns
+pub returns-in-Tagged : goal.returns-in-Tagged
 unfolding fourth
-returns c = rw (ne_eqb c.args.sort.kind blank_kind c.if-kind-eq-BLANK.false, ne_eqb c.args.sort.kind literal_kind c.if-kind-eq-LITERAL.false, ne_eqb c.args.sort.kind tagged_kind c.if-kind-eq-TAGGED.false)
+returns-in-Tagged c = rw c.in-Tagged.is refl

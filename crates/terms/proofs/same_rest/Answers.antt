@@ -1,25 +1,26 @@
 use Prim.Native.Nat.{suc}
-use mathlib.Core.Path.{◌∙◌}
+use mathlib.Core.Path.{refl}
 use native.Mathlib.Omega.{arith}
-use Rattle.terms.proofs.Tests.{rest_literal, rest_tagged, rest_other}
+use Rattle.terms.proofs.Tests.{rest_tagged, rest_other}
 use Rattle.table.specs.Layout.{entry_at}
+use Rattle.terms.specs.Code.{same_rest}
 use Rattle.terms.proofs.same_rest.Goals as goal
 
-pub returns-then-kind-eq-LITERAL : goal.returns-then-kind-eq-LITERAL
-unfolding entry_at
-returns-then-kind-eq-LITERAL c = rest_literal c.args.store.now (entry_at c.args.terms.now (suc c.args.i)) c.args.sort c.args.tag.now c.args.tag.now c.if-kind-eq-LITERAL.true c.wide.result c.wide.ensures
+pub returns-in-Literal : goal.returns-in-Literal
+unfolding entry_at same_rest
+returns-in-Literal c = rw (c.in-Literal.is, c.wide.ensures) refl
 
 pub overflow_add-end : goal.overflow_add-end
 unfolding entry_at
-overflow_add-end c = omega (arith, c.requires.0.tag (c.requires.1 ∙ c.if-kind-eq-TAGGED.true), c.wide-start.ensures, c.wide-then-kind-eq-TAGGED.ensures)
+overflow_add-end c = omega (arith, c.requires.0.tag (rw c.in-Tagged.is at c.requires.1), c.wide-start.ensures, c.wide-in-Tagged.ensures)
 
 pub slice_bounds-same-end : goal.slice_bounds-same-end
 unfolding entry_at
-slice_bounds-same-end c = omega (arith, c.requires.0.tag (c.requires.1 ∙ c.if-kind-eq-TAGGED.true), c.wide-start.ensures, c.wide-then-kind-eq-TAGGED.ensures)
+slice_bounds-same-end c = omega (arith, c.requires.0.tag (rw c.in-Tagged.is at c.requires.1), c.wide-start.ensures, c.wide-in-Tagged.ensures)
 
-pub returns-then-kind-eq-TAGGED : goal.returns-then-kind-eq-TAGGED
+pub returns-in-Tagged : goal.returns-in-Tagged
 unfolding entry_at
-returns-then-kind-eq-TAGGED c = rest_tagged c.args.store.now (entry_at c.args.terms.now (suc c.args.i)) c.args.sort c.args.tag.now c.args.tag.now c.if-kind-eq-TAGGED.true c.wide-start.result _ c.wide-start.ensures (omega (arith, c.wide-start.ensures, c.wide-then-kind-eq-TAGGED.ensures)) _ c.same.ensures
+returns-in-Tagged c = rest_tagged c.args.store.now (entry_at c.args.terms.now (suc c.args.i)) c.args.sort c.args.tag.now c.args.tag.now (rw c.in-Tagged.is refl) c.wide-start.result _ c.wide-start.ensures (omega (arith, c.wide-start.ensures, c.wide-in-Tagged.ensures)) _ c.same.ensures
 
-pub returns : goal.returns
-returns c = rest_other c.args.store.now (entry_at c.args.terms.now (suc c.args.i)) c.args.sort c.args.tag.now c.args.tag.now c.if-kind-eq-LITERAL.false c.if-kind-eq-TAGGED.false
+pub returns-in_default : goal.returns-in_default
+returns-in_default c = rest_other c.args.store.now (entry_at c.args.terms.now (suc c.args.i)) c.args.sort c.args.tag.now c.in_default.not-Literal c.in_default.not-Tagged
