@@ -2,5 +2,7 @@
 #![tactic(auto)]
 
 pub mod bytes;
+pub mod classes;
 pub mod names;
 pub mod runs;
+
