@@ -148,11 +148,11 @@ point_dead {q} {rs} {least} {f} t c sc e n =
     (λ l. high_to t.high c l sc.0 (ap not (rw (le-ltb c 128 l) at e)))
     (split c 128)
 
-some_passes : (b : Bool) (w n : ℕ) → Some n ≡ cond b (Some w) None → (b ≡ true) × (n ≡ w)
+pub some_passes : (b : Bool) (w n : ℕ) → Some n ≡ cond b (Some w) None → (b ≡ true) × (n ≡ w)
 some_passes true w n e = (refl, cc)
 some_passes false w n e = let z : ◌≡◌ {A = ℕ} 0 1 = cc in absurd (omega arith)
 
-none_passes : (b : Bool) (w : ℕ) → None ≡ cond b (Some w) None → b ≡ false
+pub none_passes : (b : Bool) (w : ℕ) → None ≡ cond b (Some w) None → b ≡ false
 none_passes true w e = let z : ◌≡◌ {A = ℕ} 0 1 = cc in absurd (omega arith)
 none_passes false w e = refl
 

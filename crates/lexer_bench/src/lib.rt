@@ -4,7 +4,6 @@
 ghost use Rattle.std.specs.Prelude.{◌≡◌, ◌≤◌, length};
 ghost use Rattle.lexer_bench.specs.Front.{valid_size};
 
-use lexer_words::names::minus;
 use utf8::Validity;
 
 // How many tokens a text has up to its end, or to the first place where none can be read.
@@ -18,13 +17,11 @@ pub extern "C" fn bench_tokens(s: &[u8]) -> usize
     while at < s.len() {
         let b = lexer::skip_blanks(&s[at..]);
         let start = at + b;
-        let t = lexer::next_token(&s[start..], minus(clear, b));
-        let n = t.len;
-        if n == 0 {
-            return count;
-        }
-        at = start + n;
-        clear = t.clear;
+        let Some(next) = lexer::next_token(&s[start..], clear.saturating_sub(b)) else {
+            break;
+        };
+        at = start + next.token.len;
+        clear = next.clear;
         count += 1;
     }
     count
