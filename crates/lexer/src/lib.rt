@@ -2,9 +2,9 @@
 // The routines take the part of the document that starts at the cursor.
 #![tactic(auto)]
 
-ghost use Rattle.std.specs.Prelude.{◌≡◌, true, ◌-◌, ◌≤◌, ◌<◌, length, get_or};
+ghost use Rattle.std.specs.Prelude.{◌≡◌, ◌≤◌, ◌<◌, length, get_or};
 ghost use Rattle.token.specs.Regular.{in_ranges};
-ghost use Rattle.automaton.specs.Run.{len_of, TokenAt};
+ghost use Rattle.automaton.specs.Run.{TokenAt};
 ghost use Rattle.lexer_words.specs.Ahead.{NextAt};
 ghost use Rattle.lexer.specs.Blanks.{white_spaces, CommentTo, BlanksAt};
 ghost use Rattle.lexer.specs.Marks.{mark_code};
@@ -87,35 +87,29 @@ fn mark_kind(b: u8) -> Option<usize>
     }
 }
 
-// A token after which as much is known as before.
-fn known(token: Token, clear: usize) -> Option<Next>
-    ensures { result ≡ Some (next token (clear - token.len)) }
-{
-    Some(Next {
-        token,
-        clear: clear.saturating_sub(token.len),
-    })
-}
-
 // The token at the front, the longest that the terminals match there, if one can be read.
 // No prefixed name begins within the first `clear` bytes (0 says nothing), nor within the `clear` bytes after the token.
 pub fn next_token(s: &[u8], clear: usize) -> Option<Next>
     ensures { NextAt s.now clear result }
 {
     let b = *s.first()?;
-    if let Some(kind) = mark_kind(b) {
-        return known(Token { kind, len: 1 }, clear);
-    }
-    match b {
-        b'<' => known(iriref(s)?, clear),
-        b'"' | b'\'' => known(quoted(s, b)?, clear),
-        b'+' | b'-' => known(signed(s)?, clear),
-        b'0'..=b'9' => known(integer(s, 1), clear),
-        b'.' => known(dot(s), clear),
-        b'@' => known(at_sign(s)?, clear),
-        b'_' => known(label(s)?, clear),
-        b':' => known(local_part(s, 1), clear),
-        b'^' => known(carets(s)?, clear),
-        _ => name(s, clear),
-    }
+    let token = match mark_kind(b) {
+        Some(kind) => Token { kind, len: 1 },
+        None => match b {
+            b'<' => iriref(s)?,
+            b'"' | b'\'' => quoted(s, b)?,
+            b'+' | b'-' => signed(s)?,
+            b'0'..=b'9' => integer(s, 1),
+            b'.' => dot(s),
+            b'@' => at_sign(s)?,
+            b'_' => label(s)?,
+            b':' => local_part(s, 1),
+            b'^' => carets(s)?,
+            _ => return name(s, clear),
+        },
+    };
+    Some(Next {
+        token,
+        clear: clear.saturating_sub(token.len),
+    })
 }
