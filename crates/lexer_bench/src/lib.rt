@@ -20,7 +20,12 @@ pub extern "C" fn bench_tokens(s: &[u8]) -> usize
         let Some(next) = lexer::next_token(&s[start..], clear.saturating_sub(b)) else {
             break;
         };
-        at = start + next.token.len;
+        let n = next.token.len;
+        // Of bytes that are no UTF-8, `NextAt` doesn't say that a token has some.
+        if n == 0 {
+            break;
+        }
+        at = start + n;
         clear = next.clear;
         count += 1;
     }
