@@ -4,7 +4,9 @@ ghost use Rattle.utf8.specs.Utf8.{Range};
 ghost use Rattle.token.specs.Regular.{in_ranges};
 ghost use Rattle.characters.specs.Bytes.{digit, letter, letter_or_digit, name, local, local_first, label_first};
 
-use crate::bytes::{is_digit, is_label_first, is_letter, is_letter_or_digit, is_local, is_local_first, is_name};
+use crate::bytes::{
+    is_digit, is_label_first, is_letter, is_letter_or_digit, is_local, is_local_first, is_name,
+};
 
 pub trait Class {
     ghost set: { List Range };

@@ -5,4 +5,3 @@ pub mod bytes;
 pub mod classes;
 pub mod names;
 pub mod runs;
-

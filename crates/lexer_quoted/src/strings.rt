@@ -57,7 +57,7 @@ fn long_string(s: &[u8], quote: u8, kind: usize) -> Option<Token>
             run = 0;
             if b == b'\\' {
                 let n = escape(s, i + 1)?;
-            i = i + 1 + n;
+                i = i + 1 + n;
             } else {
                 i = text::next_of_four(s, i + 1, quote, b'\\', quote, b'\\');
             }

@@ -5,9 +5,9 @@ ghost use Rattle.automaton.specs.States.{after_underscore, in_label};
 ghost use Rattle.automaton.specs.Run.{tok, At, TokenAt};
 
 use automaton::Token;
-use characters::names::{char_at, BASE, INNER};
-use characters::runs::run;
 use characters::classes::{LabelFirst, Name};
+use characters::names::{BASE, INNER, char_at};
+use characters::runs::run;
 use token::Kind;
 
 // BLANK_NODE_LABEL ::= '_:' (PN_CHARS_U | [0-9]) ((PN_CHARS | '.')* PN_CHARS)?, after its first character.

@@ -9,9 +9,9 @@ ghost use Rattle.lexer_words.specs.Locals.{plx_size, LocalAt};
 
 use automaton::Token;
 use characters::bytes::is_reserved;
-use characters::names::{char_at, BASE, INNER};
-use characters::runs::{hexes, run};
 use characters::classes::{Local, LocalFirst};
+use characters::names::{BASE, INNER, char_at};
+use characters::runs::{hexes, run};
 use token::Kind;
 
 // PLX ::= PERCENT | PN_LOCAL_ESC, where PERCENT ::= '%' HEX HEX: its length.

@@ -12,9 +12,9 @@ ghost use Rattle.lexer_words.specs.Front.{mark};
 use crate::locals::local_part;
 use crate::words::agree;
 use automaton::{Next, Token};
-use characters::names::{char_at, BASE, INNER};
-use characters::runs::run;
 use characters::classes::{Letter, Name};
+use characters::names::{BASE, INNER, char_at};
+use characters::runs::run;
 use token::Kind;
 
 // The end of the run of PN_CHARS and dots there.

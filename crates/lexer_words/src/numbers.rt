@@ -6,8 +6,8 @@ ghost use Rattle.automaton.specs.Run.{tok, At, TokenAt};
 
 use automaton::Token;
 use characters::bytes::{is_digit, is_exponent, is_sign};
-use characters::runs::run;
 use characters::classes::Digit;
+use characters::runs::run;
 use token::Kind;
 
 // EXPONENT ::= [eE] [+-]? [0-9]+, after its first digit

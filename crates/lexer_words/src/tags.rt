@@ -8,8 +8,8 @@ ghost use Rattle.lexer_words.specs.Agree.{Word, TagAt};
 use crate::words::agree;
 use automaton::Token;
 use characters::bytes::is_letter;
-use characters::runs::run;
 use characters::classes::{Letter, LetterOrDigit};
+use characters::runs::run;
 use token::Kind;
 
 // LANGTAG ::= '@' [a-zA-Z]+ ('-' [a-zA-Z0-9]+)*, after its first letters
