@@ -9,6 +9,7 @@ use native.Mathlib.Nat.{add-zero, zero-add, add_assoc}
 use borrow.Author.Tests.{lt-ltb, ne_eqb}
 use lib.Dec.{eqb}
 use lib.ListN.{length, get_or, drop, length-append, length-drop}
+use Rattle.std.specs.Prelude.{Option, Some, None}
 use Rattle.text.specs.Text.{Text, cond}
 use Rattle.text.proofs.Compare.{and_false}
 use Rattle.utf8.specs.Utf8.{encode, encodes, width, sequence_size}
@@ -17,15 +18,15 @@ use Rattle.utf8.proofs.Encoding.{head, length_encode, width_pos, size_one}
 use Rattle.token.specs.Regular.{item, Match, nothing, hit, nullable, step, least_of, now_at, later, best}
 use Rattle.token.specs.Terminals.{terminals, long_terminals, tripled, token_at}
 use Rattle.automaton.specs.States.{State}
-use Rattle.automaton.specs.Run.{tok, answer, seen_kind, seen_len, run, Front, Rest}
+use Rattle.automaton.specs.Run.{tok, answer, see, run, Front, Rest}
 use Rattle.automaton.specs.declared.Token.{Token}
 
 -- ---- The run is the longest match
 
 -- The last token seen, where a match at the place i comes after it.
-abbrev over : ℕ → ℕ → ℕ → Match → Token
-over i kind len nothing = tok kind len
-over i kind len (hit k n) = tok k (i + n)
+abbrev over : ℕ → Option Token → Match → Option Token
+over i seen nothing = seen
+over i seen (hit k n) = Some (tok k (i + n))
 
 -- A match of the empty text has no bytes.
 abbrev Flat : Match → Type 0
@@ -40,24 +41,24 @@ now_flat (item k r ∷ xs) = by (nullable r) (λ e. rw e (least (now_at xs) (now
     least nothing f = refl
     least (hit j n) f = f
 
-settle : (m : Match) (i kind len : ℕ) → Flat m → tok (seen_kind m kind) (seen_len m i len) ≡ over i kind len m
-settle nothing i kind len f = refl
-settle (hit k n) i kind len f = ap (tok k) (sym (ap (λ (x : ℕ). i + x) f ∙ add-zero i))
+settle : (m : Match) (i : ℕ) (seen : Option Token) → Flat m → see m i seen ≡ over i seen m
+settle nothing i seen f = refl
+settle (hit k n) i seen f = ap (λ (x : ℕ). Some (tok k x)) (sym (ap (λ (x : ℕ). i + x) f ∙ add-zero i))
 
-over_later : (n i kind len : ℕ) (m a : Match) → Flat m → over (i + n) (seen_kind m kind) (seen_len m i len) a ≡ over i kind len (later n a m)
-over_later n i kind len m nothing f = settle m i kind len f
-over_later n i kind len m (hit k x) f = ap (tok k) (add_assoc i n x)
+over_later : (n i : ℕ) (seen : Option Token) (m a : Match) → Flat m → over (i + n) (see m i seen) a ≡ over i seen (later n a m)
+over_later n i seen m nothing f = settle m i seen f
+over_later n i seen m (hit k x) f = ap (λ (x : ℕ). Some (tok k x)) (add_assoc i n x)
 
-run_best : (cs : List ℕ) (q : State) (i kind len : ℕ)
-    → run q i (seen_kind (now_at q) kind) (seen_len (now_at q) i len) cs ≡ over i kind len (best width q cs)
-run_best [] q i kind len = settle (now_at q) i kind len (now_flat q)
-run_best (c ∷ cs) q i kind len =
-    run_best cs (step c q) (i + width c) (seen_kind (now_at q) kind) (seen_len (now_at q) i len)
-    ∙ over_later (width c) i kind len (now_at q) (best width (step c q) cs) (now_flat q)
+run_best : (cs : List ℕ) (q : State) (i : ℕ) (seen : Option Token)
+    → run q i (see (now_at q) i seen) cs ≡ over i seen (best width q cs)
+run_best [] q i seen = settle (now_at q) i seen (now_flat q)
+run_best (c ∷ cs) q i seen =
+    run_best cs (step c q) (i + width c) (see (now_at q) i seen)
+    ∙ over_later (width c) i seen (now_at q) (best width (step c q) cs) (now_flat q)
 
-over_answer : (m : Match) → over 0 0 0 m ≡ answer m
+over_answer : (m : Match) → over 0 None m ≡ answer m
 over_answer nothing = refl
-over_answer (hit k n) = ap (tok k) (zero-add n)
+over_answer (hit k n) = ap (λ (x : ℕ). Some (tok k x)) (zero-add n)
 
 -- The state in which a text begins.
 abbrev pub start_of : Text → State
@@ -67,17 +68,17 @@ pub start_nothing : (b : Bool) → now_at (cond b long_terminals terminals) ≡ 
 start_nothing true = refl
 start_nothing false = refl
 
-run_token : (cs : List ℕ) → run (start_of cs) 0 0 0 cs ≡ answer (token_at cs)
+run_token : (cs : List ℕ) → run (start_of cs) 0 None cs ≡ answer (token_at cs)
 unfolding token_at
 run_token cs =
-    ap (λ (m : Match). run (start_of cs) 0 (seen_kind m 0) (seen_len m 0 0) cs) (sym (start_nothing (tripled cs)))
-    ∙ run_best cs (start_of cs) 0 0 0 ∙ over_answer (best width (start_of cs) cs)
+    ap (λ (m : Match). run (start_of cs) 0 (see m 0 None) cs) (sym (start_nothing (tripled cs)))
+    ∙ run_best cs (start_of cs) 0 None ∙ over_answer (best width (start_of cs) cs)
 
 -- ---- Nothing is left
 
-pub dead_run : (cs : List ℕ) (i kind len : ℕ) → run [] i kind len cs ≡ tok kind len
-dead_run [] i kind len = refl
-dead_run (c ∷ cs) i kind len = dead_run cs (i + width c) kind len
+pub dead_run : (cs : List ℕ) (i : ℕ) (seen : Option Token) → run [] i seen cs ≡ seen
+dead_run [] i seen = refl
+dead_run (c ∷ cs) i seen = dead_run cs (i + width c) seen
 
 -- ---- Three equal quotes among the bytes are three among the code points
 
@@ -164,18 +165,18 @@ module _ (z : Text) (e : sequence_size z ≡ 0) where
 
 -- ---- The beginning and the end of a run
 
-pub rest_start : (s : Text) (cs : List ℕ) (z : Text) → Front s cs z → Rest s (start_of s) 0 0 0 cs z
+pub rest_start : (s : Text) (cs : List ℕ) (z : Text) → Front s cs z → Rest s (start_of s) 0 None cs z
 rest_start s cs z g = record {
   ds = cs;
   left = g;
-  same = ap (λ (b : Bool). run (cond b long_terminals terminals) 0 0 0 cs) (ap tripled g.bytes ∙ tri_first z g.bad cs) ∙ run_token cs;
+  same = ap (λ (b : Bool). run (cond b long_terminals terminals) 0 None cs) (ap tripled g.bytes ∙ tri_first z g.bad cs) ∙ run_token cs;
 }
 
-pub rest_end : (s : Text) (q : State) (i kind len : ℕ) (cs : List ℕ) (z : Text) → length s ≤ i → Rest s q i kind len cs z → tok kind len ≡ answer (token_at cs)
+pub rest_end : (s : Text) (q : State) (i : ℕ) (seen : Option Token) (cs : List ℕ) (z : Text) → length s ≤ i → Rest s q i seen cs z → seen ≡ answer (token_at cs)
 unfolding encodes
-rest_end s q i kind len cs z h r = fin r.ds r.left.bytes r.same
+rest_end s q i seen cs z h r = fin r.ds r.left.bytes r.same
   where
-    fin : (ds : List ℕ) → drop i s ≡ encodes ds ++ z → run q i kind len ds ≡ answer (token_at cs) → tok kind len ≡ answer (token_at cs)
+    fin : (ds : List ℕ) → drop i s ≡ encodes ds ++ z → run q i seen ds ≡ answer (token_at cs) → seen ≡ answer (token_at cs)
     fin [] e w = w
     fin (c ∷ ds) e w =
         let m = sym (length-drop i s) ∙ ap length (e ∙ append_assoc (encode c) (encodes ds) z) ∙ length-append (encode c) (encodes ds ++ z) in

@@ -11,6 +11,8 @@ use borrow.Author.Tests.{lt-ltb, ne_eqb}
 use lib.Dec.{T, eqb}
 use lib.ListN.{length, get_or, drop, length-append, length-drop}
 use lib.Seq.{drop_at, drop-drop, get_or-drop}
+use Rattle.std.specs.Prelude.{Option, Some, None}
+use Rattle.automaton.specs.declared.Token.{Token}
 use Rattle.text.specs.Text.{Text, cond}
 use Rattle.utf8.specs.Utf8.{encode, encodes, width, sequences, fits, first_fit, sequence_size}
 use Rattle.utf8.specs.Scalar.{Scalar, Scalars, Encodes, Highs}
@@ -21,7 +23,7 @@ use Rattle.token.specs.Terminals.{terminals, long_terminals, tripled, token_at}
 use Rattle.token.proofs.Sizes.{length_encodes}
 use Rattle.automaton.specs.States.{State, ending, start, long_start, dead}
 use Rattle.automaton.specs.Levels.{Interval, interval, intervals, find, level_in, level}
-use Rattle.automaton.specs.Run.{tok, answer, seen_kind, seen_len, run, Front, Rest, Past, At, Inner, In, TokenAt}
+use Rattle.automaton.specs.Run.{tok, answer, len_of, see, run, Front, Rest, Past, At, Inner, In, TokenAt}
 use Rattle.automaton.proofs.Same.{same_state, same_state_eq, same_match, same_match_eq}
 use Rattle.automaton.proofs.Uniform.{Holds, each, found_in, solid, step_solid}
 use Rattle.automaton.proofs.Runs.{start_of, rest_start, rest_end, dead_run}
@@ -123,9 +125,9 @@ alias_step t c sc n = ⊎_elim (λ l. low_alias t c l (n l)) (λ l. high_alias t
 
 -- ---- The code point at a place
 
-seen_within : (m : Match) (i j len : ℕ) → len ≤ i → i ≤ j → seen_len m j len ≤ j
-seen_within nothing i j len h k = omega arith
-seen_within (hit k n) i j len h l = omega arith
+seen_within : (m : Match) (i j : ℕ) (seen : Option Token) → len_of seen ≤ i → i ≤ j → len_of (see m j seen) ≤ j
+seen_within nothing i j seen h k = omega arith
+seen_within (hit k n) i j seen h l = omega arith
 
 module _ (s : Text) (i c : ℕ) (u : Text) (d : drop i s ≡ encode c ++ u) where
   pub first_byte : get_or s i 0 ≡ get_or (encode c ++ u) 0 0
@@ -164,15 +166,15 @@ front_place {s} {cs} {z} e i h ds d =
     omega arith
 
 -- A token that is seen behind their end ends there.
-past_on : (m : Match) (j kind len : ℕ) (cs : List ℕ) → size width cs < j → (len < size width cs → tok kind len ≡ answer (token_at cs))
-    → Past j (seen_kind m kind) (seen_len m j len) cs
-past_on nothing j kind len cs h w = record { behind = h; kept = w }
-past_on (hit k n) j kind len cs h w = record { behind = h; kept = λ l. absurd (omega arith) }
+past_on : (m : Match) (j : ℕ) (seen : Option Token) (cs : List ℕ) → size width cs < j → (len_of seen < size width cs → seen ≡ answer (token_at cs))
+    → Past j (see m j seen) cs
+past_on nothing j seen cs h w = record { behind = h; kept = w }
+past_on (hit k n) j seen cs h w = record { behind = h; kept = λ l. absurd (omega arith) }
 
 -- The token at the end of a run.
-token : {s : Text} {i kind len : ℕ} → i ≤ length s → len ≤ i
-    → ((cs : List ℕ) (z : Text) → Front s cs z → (tok kind len ≡ answer (token_at cs)) ⊎ Past i kind len cs) → TokenAt s (tok kind len)
-token {s} {i} {kind} {len} h l f = record {
+token : {s : Text} {i : ℕ} {seen : Option Token} → i ≤ length s → len_of seen ≤ i
+    → ((cs : List ℕ) (z : Text) → Front s cs z → (seen ≡ answer (token_at cs)) ⊎ Past i seen cs) → TokenAt s seen
+token {s} {i} {seen} h l f = record {
   within = omega arith;
   right = λ cs e.
       ⊎_elim (λ w. w)
@@ -182,7 +184,7 @@ token {s} {i} {kind} {len} h l f = record {
 }
 
 -- Of UTF-8, the place is not behind.
-pub whole_rest : {s : Text} {q : State} {i kind len : ℕ} → At s q i kind len → (cs : List ℕ) → Encodes s cs → Rest s q i kind len cs []
+pub whole_rest : {s : Text} {q : State} {i : ℕ} {seen : Option Token} → At s q i seen → (cs : List ℕ) → Encodes s cs → Rest s q i seen cs []
 whole_rest g cs e =
     ⊎_elim (λ r. r)
     (λ p. let o = p.behind in let h = g.within in let m = ap length e.bytes ∙ length_encodes cs in absurd (omega arith))
@@ -190,24 +192,24 @@ whole_rest g cs e =
 
 -- ---- One code point on
 
-module _ {s : Text} {q : State} {i kind len : ℕ} (g : At s q i kind len) where
+module _ {s : Text} {q : State} {i : ℕ} {seen : Option Token} (g : At s q i seen) where
   -- The next code point leads to q2, whatever it is, and has n bytes.
   pub by_code_point : (q2 : State) (n : ℕ) → i + n ≤ length s → (0 < n)
       → ((c : ℕ) (u : Text) → Scalar c → drop i s ≡ encode c ++ u → (n ≡ width c) × (step c q ≡ q2))
-      → At s q2 (i + n) (seen_kind (now_at q2) kind) (seen_len (now_at q2) (i + n) len)
+      → At s q2 (i + n) (see (now_at q2) (i + n) seen)
   unfolding encodes
   by_code_point q2 n h p f = record {
     within = h;
-    last = seen_within (now_at q2) i (i + n) len g.last (omega arith);
+    last = seen_within (now_at q2) i (i + n) seen g.last (omega arith);
     rest = λ cs z e.
         ⊎_elim (λ r. fin cs z e r.ds r.left.scalars r.left.bytes r.same)
-        (λ r. let o = r.behind in inr (past_on (now_at q2) (i + n) kind len cs (omega arith) r.kept))
+        (λ r. let o = r.behind in inr (past_on (now_at q2) (i + n) seen cs (omega arith) r.kept))
         (g.rest cs z e);
   }
     where
-      fin : (cs : List ℕ) (z : Text) → Front s cs z → (ds : List ℕ) → Scalars ds → drop i s ≡ encodes ds ++ z → run q i kind len ds ≡ answer (token_at cs)
-          → Rest s q2 (i + n) (seen_kind (now_at q2) kind) (seen_len (now_at q2) (i + n) len) cs z ⊎ Past (i + n) (seen_kind (now_at q2) kind) (seen_len (now_at q2) (i + n) len) cs
-      fin cs z e [] sc d w = let o = front_place e i g.within [] d in inr (past_on (now_at q2) (i + n) kind len cs (omega arith) (λ _. w))
+      fin : (cs : List ℕ) (z : Text) → Front s cs z → (ds : List ℕ) → Scalars ds → drop i s ≡ encodes ds ++ z → run q i seen ds ≡ answer (token_at cs)
+          → Rest s q2 (i + n) (see (now_at q2) (i + n) seen) cs z ⊎ Past (i + n) (see (now_at q2) (i + n) seen) cs
+      fin cs z e [] sc d w = let o = front_place e i g.within [] d in inr (past_on (now_at q2) (i + n) seen cs (omega arith) (λ _. w))
       fin cs z e (c ∷ ds) sc d w =
           let d' = d ∙ append_assoc (encode c) (encodes ds) z in
           let v = f c (encodes ds ++ z) sc.0 d' in
@@ -219,25 +221,25 @@ module _ {s : Text} {q : State} {i kind len : ℕ} (g : At s q i kind len) where
           })
 
   -- The next code point leads nowhere, if there is one.
-  pub by_nothing : ((c : ℕ) (u : Text) → Scalar c → drop i s ≡ encode c ++ u → step c q ≡ dead) → TokenAt s (tok kind len)
+  pub by_nothing : ((c : ℕ) (u : Text) → Scalar c → drop i s ≡ encode c ++ u → step c q ≡ dead) → TokenAt s seen
   unfolding encodes
   by_nothing f = token g.within g.last (λ cs z e. ⊎_elim (λ r. inl (fin cs z r.ds r.left.scalars r.left.bytes r.same)) inr (g.rest cs z e))
     where
-      fin : (cs : List ℕ) (z : Text) (ds : List ℕ) → Scalars ds → drop i s ≡ encodes ds ++ z → run q i kind len ds ≡ answer (token_at cs)
-          → tok kind len ≡ answer (token_at cs)
+      fin : (cs : List ℕ) (z : Text) (ds : List ℕ) → Scalars ds → drop i s ≡ encodes ds ++ z → run q i seen ds ≡ answer (token_at cs)
+          → seen ≡ answer (token_at cs)
       fin cs z [] sc d w = w
       fin cs z (c ∷ ds) sc d w =
-          let y : run dead (i + width c) kind len ds ≡ answer (token_at cs) = rw (f c (encodes ds ++ z) sc.0 (d ∙ append_assoc (encode c) (encodes ds) z)) at w in
-          sym (dead_run ds (i + width c) kind len) ∙ y
+          let y : run dead (i + width c) seen ds ≡ answer (token_at cs) = rw (f c (encodes ds ++ z) sc.0 (d ∙ append_assoc (encode c) (encodes ds) z)) at w in
+          sym (dead_run ds (i + width c) seen) ∙ y
 
-  pub at_dead : q ≡ dead → TokenAt s (tok kind len)
+  pub at_dead : q ≡ dead → TokenAt s seen
   at_dead e = by_nothing (λ c u sc d. ap (step c) e)
 
-  pub at_end : length s ≤ i → TokenAt s (tok kind len)
-  at_end h = token g.within g.last (λ cs z e. ⊎_elim (λ r. inl (rest_end s q i kind len cs z h r)) inr (g.rest cs z e))
+  pub at_end : length s ≤ i → TokenAt s seen
+  at_end h = token g.within g.last (λ cs z e. ⊎_elim (λ r. inl (rest_end s q i seen cs z h r)) inr (g.rest cs z e))
 
   -- A state that does as another does, but for bytes that pass f, where no such byte stands.
-  pub as_other : {q2 : State} {f : ℕ → Bool} → Alias q q2 f → (i < length s → f (get_or s i 0) ≡ false) → At s q2 i kind len
+  pub as_other : {q2 : State} {f : ℕ → Bool} → Alias q q2 f → (i < length s → f (get_or s i 0) ≡ false) → At s q2 i seen
   unfolding encodes
   as_other {q2} {f} t n = record {
     within = g.within;
@@ -249,18 +251,18 @@ module _ {s : Text} {q : State} {i kind len : ℕ} (g : At s q i kind len) where
         (g.rest cs z e);
   }
     where
-      fin : (z : Text) (ds : List ℕ) → Scalars ds → drop i s ≡ encodes ds ++ z → run q i kind len ds ≡ run q2 i kind len ds
+      fin : (z : Text) (ds : List ℕ) → Scalars ds → drop i s ≡ encodes ds ++ z → run q i seen ds ≡ run q2 i seen ds
       fin z [] sc d = refl
       fin z (c ∷ ds) sc d =
           let d' = d ∙ append_assoc (encode c) (encodes ds) z in
-          ap (λ (x : State). run x (i + width c) (seen_kind (now_at x) kind) (seen_len (now_at x) (i + width c) len) ds)
+          ap (λ (x : State). run x (i + width c) (see (now_at x) (i + width c) seen) ds)
           (⊎_elim (λ v. low_alias t c v.0 (ap f (sym v.1) ∙ n (some_left s i c (encodes ds ++ z) d'))) (λ v. high_alias t c v.0 sc.0.0)
           (at_first s i c (encodes ds ++ z) d'))
 
 -- ---- A byte below 128 that passes f ..
 
-module _ {s : Text} {q : State} {i kind len : ℕ} {f : ℕ → Bool} {q2 : State} (g : At s q i kind len) (h : i < length s) (l : get_or s i 0 < 128) (e : f (get_or s i 0) ≡ true) where
-  by_byte : {k : ℕ} → Sent q f q2 k → At s q2 (i + 1) (seen_kind (ending k) kind) (seen_len (ending k) (i + 1) len)
+module _ {s : Text} {q : State} {i : ℕ} {seen : Option Token} {f : ℕ → Bool} {q2 : State} (g : At s q i seen) (h : i < length s) (l : get_or s i 0 < 128) (e : f (get_or s i 0) ≡ true) where
+  by_byte : {k : ℕ} → Sent q f q2 k → At s q2 (i + 1) (see (ending k) (i + 1) seen)
   by_byte t =
       rw (sent_kind t) at
       (by_code_point g q2 1 (omega arith) (omega arith)
@@ -271,23 +273,23 @@ module _ {s : Text} {q : State} {i kind len : ℕ} {f : ℕ → Bool} {q2 : Stat
       (at_first s i c u d)))
 
   -- .. leads to a state where no token ends
-  pub pass : Sent q f q2 0 → At s q2 (i + 1) kind len
+  pub pass : Sent q f q2 0 → At s q2 (i + 1) seen
   pass t = by_byte t
 
   -- .. leads to a state where a token of the kind k ends
-  pub gain : {k : ℕ} → 0 < k → Sent q f q2 k → At s q2 (i + 1) k (i + 1)
+  pub gain : {k : ℕ} → 0 < k → Sent q f q2 k → At s q2 (i + 1) (Some (tok k (i + 1)))
   gain {k = zero} p t = absurd (omega arith)
   gain {k = suc k} p t = by_byte t
 
 -- .. leads nowhere: the token is the last one seen
-pub fail : {s : Text} {q : State} {i kind len : ℕ} {f : ℕ → Bool} → At s q i kind len → i < length s → get_or s i 0 < 128 → f (get_or s i 0) ≡ true
-    → Sent q f dead 0 → TokenAt s (tok kind len)
+pub fail : {s : Text} {q : State} {i : ℕ} {seen : Option Token} {f : ℕ → Bool} → At s q i seen → i < length s → get_or s i 0 < 128 → f (get_or s i 0) ≡ true
+    → Sent q f dead 0 → TokenAt s seen
 fail g h l e t = at_dead (pass g h l e t) refl
 
 -- ---- Where no byte that passes f stands, and nothing else leaves the state
 
-module _ {s : Text} {q : State} {i kind len : ℕ} (g : At s q i kind len) where
-  pub done : {f : ℕ → Bool} → Ends q f → (i < length s → f (get_or s i 0) ≡ false) → TokenAt s (tok kind len)
+module _ {s : Text} {q : State} {i : ℕ} {seen : Option Token} (g : At s q i seen) where
+  pub done : {f : ℕ → Bool} → Ends q f → (i < length s → f (get_or s i 0) ≡ false) → TokenAt s seen
   done {f} t n =
       by_nothing g
       (λ c u sc d.
@@ -296,13 +298,13 @@ module _ {s : Text} {q : State} {i kind len : ℕ} (g : At s q i kind len) where
       (λ v. high_to t.high c v.0 sc.0 refl)
       (at_first s i c u d))
 
-  pub stop : Ends q never → TokenAt s (tok kind len)
+  pub stop : Ends q never → TokenAt s seen
   stop t = done t (λ _. refl)
 
 -- ---- Over bytes from 128 on
 
-module _ {s : Text} {q : State} {i kind len : ℕ} where
-  pub at_in : At s q i kind len → In s q i kind len
+module _ {s : Text} {q : State} {i : ℕ} {seen : Option Token} where
+  pub at_in : At s q i seen → In s q i seen
   at_in g = record {
     within = g.within;
     last = g.last;
@@ -314,7 +316,7 @@ module _ {s : Text} {q : State} {i kind len : ℕ} where
   }
 
   -- A byte below 128 stands between code points.
-  pub in_at : In s q i kind len → i < length s → get_or s i 0 < 128 → At s q i kind len
+  pub in_at : In s q i seen → i < length s → get_or s i 0 < 128 → At s q i seen
   in_at g h l = record {
     within = g.within;
     last = g.last;
@@ -322,30 +324,30 @@ module _ {s : Text} {q : State} {i kind len : ℕ} where
   }
     where
       fin : (cs : List ℕ) (z : Text) → Front s cs z → (ds : List ℕ) → Scalars ds → (m : Text) → Highs m → drop i s ≡ m ++ (encodes ds ++ z)
-          → run q (i + length m) kind len ds ≡ answer (token_at cs) → Rest s q i kind len cs z
+          → run q (i + length m) seen ds ≡ answer (token_at cs) → Rest s q i seen cs z
       fin cs z e ds sc [] v d w = record { ds = ds; left = record { scalars = sc; bytes = d; bad = e.bad }; same = rw (add-zero i) at w }
       fin cs z e ds sc (b ∷ m) v d w =
           let f : get_or s i 0 ≡ b = ap (λ (n : ℕ). get_or s n 0) (sym (add-zero i)) ∙ sym (get_or-drop i s 0 0) ∙ ap (λ (x : Text). get_or x 0 0) d in
           let x = v.0 in
           absurd (omega arith)
 
-  pub in_end : In s q i kind len → length s ≤ i → TokenAt s (tok kind len)
+  pub in_end : In s q i seen → length s ≤ i → TokenAt s seen
   in_end g h =
       token g.within g.last (λ cs z e. ⊎_elim (λ r. inl (fin cs z e r.ds r.scalars r.mid r.bytes r.same)) inr (g.rest cs z e))
     where
       fin : (cs : List ℕ) (z : Text) → Front s cs z → (ds : List ℕ) → Scalars ds → (m : Text) → drop i s ≡ m ++ (encodes ds ++ z)
-          → run q (i + length m) kind len ds ≡ answer (token_at cs) → tok kind len ≡ answer (token_at cs)
+          → run q (i + length m) seen ds ≡ answer (token_at cs) → seen ≡ answer (token_at cs)
       fin cs z e ds sc [] d w =
-          rest_end s q i kind len cs z h (record { ds = ds; left = record { scalars = sc; bytes = d; bad = e.bad }; same = rw (add-zero i) at w })
+          rest_end s q i seen cs z h (record { ds = ds; left = record { scalars = sc; bytes = d; bad = e.bad }; same = rw (add-zero i) at w })
       fin cs z e ds sc (b ∷ m) d w = let o = sym (length-drop i s) ∙ ap length d in absurd (omega arith)
 
 next_mid : (s : Text) (i b : ℕ) (m u : Text) → drop i s ≡ b ∷ (m ++ u) → drop (i + 1) s ≡ m ++ u
 next_mid s i b m u d = sym (drop-drop 1 i s) ∙ ap (drop 1) d
 
-module _ (s : Text) {q q2 : State} (i kind len : ℕ) (t : HighMoves q q2) (h : i < length s) (l : 128 ≤ get_or s i 0) where
+module _ (s : Text) {q q2 : State} (i : ℕ) (seen : Option Token) (t : HighMoves q q2) (h : i < length s) (l : 128 ≤ get_or s i 0) where
   -- The first byte of a code point that leads on, or the byte behind the last one.
-  enter : (cs : List ℕ) (z : Text) → Front s cs z → (ds : List ℕ) → Scalars ds → drop i s ≡ encodes ds ++ z → run q i kind len ds ≡ answer (token_at cs)
-      → Inner s q2 (i + 1) kind len cs z ⊎ Past (i + 1) kind len cs
+  enter : (cs : List ℕ) (z : Text) → Front s cs z → (ds : List ℕ) → Scalars ds → drop i s ≡ encodes ds ++ z → run q i seen ds ≡ answer (token_at cs)
+      → Inner s q2 (i + 1) seen cs z ⊎ Past (i + 1) seen cs
   unfolding encodes
   enter cs z e [] sc d w = let o = front_place e i (omega arith) [] d in inr (record { behind = omega arith; kept = λ _. w })
   enter cs z e (c ∷ ds) sc d w =
@@ -355,10 +357,10 @@ module _ (s : Text) {q q2 : State} (i kind len : ℕ) (t : HighMoves q q2) (h : 
       inl (more (encode c) (highs_encode c v.0) (length_encode c) d' (high_to t.moves c v.0 sc.0.0 refl)))
       (at_first s i c (encodes ds ++ z) d')
     where
-      more : (m : Text) → Highs m → length m ≡ width c → drop i s ≡ m ++ (encodes ds ++ z) → step c q ≡ q2 → Inner s q2 (i + 1) kind len cs z
+      more : (m : Text) → Highs m → length m ≡ width c → drop i s ≡ m ++ (encodes ds ++ z) → step c q ≡ q2 → Inner s q2 (i + 1) seen cs z
       more [] v e d n = let o = width_pos c in absurd (omega arith)
       more (b ∷ m) v e d n =
-          let y : run q2 (i + width c) kind len ds ≡ answer (token_at cs) = rw (n, sent_kind t.silent) at w in
+          let y : run q2 (i + width c) seen ds ≡ answer (token_at cs) = rw (n, sent_kind t.silent) at w in
           let o : i + width c ≡ i + 1 + length m = omega arith in
           record {
             mid = m;
@@ -366,34 +368,34 @@ module _ (s : Text) {q q2 : State} (i kind len : ℕ) (t : HighMoves q q2) (h : 
             ds = ds;
             scalars = sc.1;
             bytes = next_mid s i b m (encodes ds ++ z) d;
-            same = subst (λ (n : ℕ). run q2 n kind len ds ≡ answer (token_at cs)) o y;
+            same = subst (λ (n : ℕ). run q2 n seen ds ≡ answer (token_at cs)) o y;
           }
 
-  past_one : (cs : List ℕ) → Past i kind len cs → Past (i + 1) kind len cs
+  past_one : (cs : List ℕ) → Past i seen cs → Past (i + 1) seen cs
   past_one cs r = record { behind = let o = r.behind in omega arith; kept = r.kept }
 
 -- A byte from 128 on, between two code points.
-pub over_to : {s : Text} {q q2 : State} {i kind len : ℕ} → HighMoves q q2 → At s q i kind len → i < length s → 128 ≤ get_or s i 0 → In s q2 (i + 1) kind len
-over_to {s} {q} {q2} {i} {kind} {len} t g h l = record {
+pub over_to : {s : Text} {q q2 : State} {i : ℕ} {seen : Option Token} → HighMoves q q2 → At s q i seen → i < length s → 128 ≤ get_or s i 0 → In s q2 (i + 1) seen
+over_to {s} {q} {q2} {i} {seen} t g h l = record {
   within = omega arith;
   last = let a = g.last in omega arith;
   rest = λ cs z e.
-      ⊎_elim (λ r. enter s i kind len t h l cs z e r.ds r.left.scalars r.left.bytes r.same) (λ r. inr (past_one s i kind len t h l cs r))
+      ⊎_elim (λ r. enter s i seen t h l cs z e r.ds r.left.scalars r.left.bytes r.same) (λ r. inr (past_one s i seen t h l cs r))
       (g.rest cs z e);
 }
 
 -- A byte from 128 on, in a state that no code point from 128 on leaves.
-pub over : {s : Text} {q : State} {i kind len : ℕ} → HighMoves q q → In s q i kind len → i < length s → 128 ≤ get_or s i 0 → In s q (i + 1) kind len
-over {s} {q} {i} {kind} {len} t g h l = record {
+pub over : {s : Text} {q : State} {i : ℕ} {seen : Option Token} → HighMoves q q → In s q i seen → i < length s → 128 ≤ get_or s i 0 → In s q (i + 1) seen
+over {s} {q} {i} {seen} t g h l = record {
   within = omega arith;
   last = let a = g.last in omega arith;
   rest = λ cs z e.
-      ⊎_elim (λ r. fin cs z e r.mid r.high r.ds r.scalars r.bytes r.same) (λ r. inr (past_one s i kind len t h l cs r)) (g.rest cs z e);
+      ⊎_elim (λ r. fin cs z e r.mid r.high r.ds r.scalars r.bytes r.same) (λ r. inr (past_one s i seen t h l cs r)) (g.rest cs z e);
 }
   where
     fin : (cs : List ℕ) (z : Text) → Front s cs z → (m : Text) → Highs m → (ds : List ℕ) → Scalars ds → drop i s ≡ m ++ (encodes ds ++ z)
-        → run q (i + length m) kind len ds ≡ answer (token_at cs) → Inner s q (i + 1) kind len cs z ⊎ Past (i + 1) kind len cs
-    fin cs z e [] v ds sc d w = enter s i kind len t h l cs z e ds sc d (rw (add-zero i) at w)
+        → run q (i + length m) seen ds ≡ answer (token_at cs) → Inner s q (i + 1) seen cs z ⊎ Past (i + 1) seen cs
+    fin cs z e [] v ds sc d w = enter s i seen t h l cs z e ds sc d (rw (add-zero i) at w)
     fin cs z e (b ∷ m) v ds sc d w =
         let o : i + suc (length m) ≡ i + 1 + length m = omega arith in
         inl
@@ -403,24 +405,24 @@ over {s} {q} {i} {kind} {len} t g h l = record {
           ds = ds;
           scalars = sc;
           bytes = next_mid s i b m (encodes ds ++ z) d;
-          same = subst (λ (n : ℕ). run q n kind len ds ≡ answer (token_at cs)) o w;
+          same = subst (λ (n : ℕ). run q n seen ds ≡ answer (token_at cs)) o w;
         })
 
 -- ---- The beginning
 
-begins_in : (s : Text) (q : State) → start_of s ≡ q → At s q 0 0 0
+begins_in : (s : Text) (q : State) → start_of s ≡ q → At s q 0 None
 begins_in s q e = record { within = omega arith; last = omega arith; rest = λ cs z g. inl (rw e at (rest_start s cs z g)) }
 
-pub begin_long : (s : Text) → tripled s ≡ true → At s long_start 0 0 0
+pub begin_long : (s : Text) → tripled s ≡ true → At s long_start 0 None
 unfolding long_start
 begin_long s e = begins_in s long_terminals (ap (λ (b : Bool). cond b long_terminals terminals) e)
 
-pub begin_short : (s : Text) → tripled s ≡ false → At s start 0 0 0
+pub begin_short : (s : Text) → tripled s ≡ false → At s start 0 None
 unfolding start
 begin_short s e = begins_in s terminals (ap (λ (b : Bool). cond b long_terminals terminals) e)
 
 -- No quote stands at the front.
-pub begin : (s : Text) → (get_or s 0 0 ≡ 34 → ⊥) → (get_or s 0 0 ≡ 39 → ⊥) → At s start 0 0 0
+pub begin : (s : Text) → (get_or s 0 0 ≡ 34 → ⊥) → (get_or s 0 0 ≡ 39 → ⊥) → At s start 0 None
 begin s h h' = begin_short s (go s h h')
   where
     go : (s : Text) → (get_or s 0 0 ≡ 34 → ⊥) → (get_or s 0 0 ≡ 39 → ⊥) → tripled s ≡ false

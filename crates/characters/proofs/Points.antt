@@ -10,6 +10,8 @@ use borrow.Author.Tests.{lt-ltb, le-ltb, le-leb, lt-leb}
 use lib.Dec.{leb}
 use lib.ListN.{length, get_or, take, drop, length-drop}
 use lib.Seq.{get_or-drop, take_at}
+use Rattle.std.specs.Prelude.{Option, Some, None}
+use Rattle.automaton.specs.declared.Token.{Token}
 use Rattle.text.specs.Text.{Text, cond}
 use Rattle.utf8.specs.Utf8.{Range, sequence_size, code_point, encode, width}
 use Rattle.utf8.specs.Scalar.{Scalar}
@@ -19,7 +21,7 @@ use Rattle.utf8.proofs.Decoding.{tail_eq, size_within, code_encode}
 use Rattle.token.specs.Regular.{in_ranges, step}
 use Rattle.automaton.specs.States.{State, ending, dead}
 use Rattle.automaton.specs.Levels.{level}
-use Rattle.automaton.specs.Run.{tok, seen_kind, seen_len, At, TokenAt}
+use Rattle.automaton.specs.Run.{see, At, TokenAt}
 use Rattle.automaton.proofs.Steps.{Sent, HighSent, sent_to, sent_kind, high_to, by_code_point, by_nothing, at_first, some_left}
 use Rattle.characters.specs.Names.{passes, CharAt}
 
@@ -47,9 +49,9 @@ module _ (s : Text) (at n c : ℕ) (h : at < length s) (l : 128 ≤ get_or s at 
       let p : n ≡ width d = size_is ∙ ap sequence_size y ∙ size_encode d t z in
       (p, code_is ∙ ap (λ (x : Text). code_point (take n x)) y ∙ ap code_point (take_at (encode d) t n (length_encode d ∙ sym p)) ∙ code_encode d z)
 
-  pub wide_none : (rs : List Range) (least : ℕ) → n ≡ 0 → CharAt rs least s at 0
+  pub wide_none : (rs : List Range) (least : ℕ) → n ≡ 0 → CharAt rs least s at None
   wide_none rs least z = record {
-    within = omega arith;
+    within = λ m y. let w : ◌≡◌ {A = ℕ} 0 1 = cc in absurd (omega arith);
     right = λ d t y w. let p = (same_char d t y w).0 in let o = width_pos d in absurd (omega arith);
   }
 
@@ -69,45 +71,50 @@ module _ (s : Text) (at n c : ℕ) (h : at < length s) (l : 128 ≤ get_or s at 
             )
 
     module _ (least k : ℕ) (g : k ≡ level c) where
-      pub wide_no : k < least → CharAt [] least s at 0
+      pub wide_no : k < least → CharAt [] least s at None
       wide_no m = record {
-        within = omega arith;
+        within = λ o y. let w : ◌≡◌ {A = ℕ} 0 1 = cc in absurd (omega arith);
         right = λ d t y w.
             let p = same_char d t y w in
             let j : level d < least = (let o = g ∙ ap level p.1 in omega arith) in
             ⊎_elim (λ x. let q = x.0 in let q' = x.1 in absurd (omega arith)) (λ x. rw (le-ltb d 128 x.0, lt-leb least (level d) j)) (first s at d t w);
       }
 
-      pub wide_yes : least ≤ k → CharAt [] least s at n
+      pub wide_yes : least ≤ k → CharAt [] least s at (Some n)
       wide_yes m = record {
-        within = let o = (size_within (drop at s)).0 in let p = length-drop at s in let q = size_is in omega arith;
+        within = λ j y.
+            let o = (size_within (drop at s)).0 in
+            let p = length-drop at s in
+            let q = size_is in
+            let w : n ≡ j = cc in
+            (omega arith, omega arith);
         right = λ d t y w.
             let p = same_char d t y w in
             let j : least ≤ level d = (let o = g ∙ ap level p.1 in omega arith) in
             let u : passes [] least d ≡ true =
             ⊎_elim (λ x. let q = x.0 in let q' = x.1 in absurd (omega arith)) (λ x. rw (le-ltb d 128 x.0, le-leb least (level d) j)) (first s at d t w) in
-            p.0 ∙ sym (ap (λ (b : Bool). cond b (width d) 0) u);
+            ap (λ (x : ℕ). Some x) p.0 ∙ sym (ap (λ (b : Bool). cond b (Some (width d)) None) u);
       }
 
--- ---- The routines `name_char` and its like
+-- ---- The routine `char_at`
 
 module _ (rs : List Range) (least : ℕ) (s : Text) (i : ℕ) (h : i < length s) where
-  pub char_low : (v : Bool) → get_or s i 0 < 128 → v ≡ in_ranges (get_or s i 0) rs → (n : ℕ) → n ≡ cond v 1 0 → CharAt rs least s i n
-  char_low v l e n f = record {
-    within = small v f;
+  pub char_low : (v : Bool) → get_or s i 0 < 128 → v ≡ in_ranges (get_or s i 0) rs → CharAt rs least s i (cond v (Some 1) None)
+  char_low v l e = record {
+    within = small v;
     right = λ c t z d.
         ⊎_elim
-        (λ w. f ∙ ap (λ (b : Bool). cond b 1 0) (e ∙ ap (λ (x : ℕ). in_ranges x rs) w.1) ∙ rw (lt-ltb c 0x80 w.0))
+        (λ w. ap (λ (b : Bool). cond b (Some 1) None) (e ∙ ap (λ (x : ℕ). in_ranges x rs) w.1) ∙ rw (lt-ltb c 0x80 w.0))
         (λ w. let y = w.1 in absurd (omega arith))
         (first s i c t d);
   }
     where
-      small : (v : Bool) → n ≡ cond v 1 0 → i + n ≤ length s
-      small true f = omega arith
-      small false f = omega arith
+      small : (v : Bool) (n : ℕ) → cond v (Some 1) None ≡ Some n → (0 < n) × (i + n ≤ length s)
+      small true n f = let w : 1 ≡ n = cc in (omega arith, omega arith)
+      small false n f = let w : ◌≡◌ {A = ℕ} 0 1 = cc in absurd (omega arith)
 
-  pub char_high : 128 ≤ get_or s i 0 → (n : ℕ) → CharAt [] least s i n → CharAt rs least s i n
-  char_high l n w = record {
+  pub char_high : 128 ≤ get_or s i 0 → (r : Option ℕ) → CharAt [] least s i r → CharAt rs least s i r
+  char_high l r w = record {
     within = w.within;
     right = λ c t z d.
         ⊎_elim (λ v. let x = v.0 in let y = v.1 in absurd (omega arith))
@@ -141,27 +148,27 @@ point_dead {q} {rs} {least} {f} t c sc e n =
     (λ l. high_to t.high c l sc.0 (ap not (rw (le-ltb c 128 l) at e)))
     (split c 128)
 
-cond_pos : (b : Bool) (w n : ℕ) → n ≡ cond b w 0 → (n ≡ 0 → ⊥) → (b ≡ true) × (n ≡ w)
-cond_pos true w n e z = (refl, e)
-cond_pos false w n e z = absurd (z e)
+pub some_passes : (b : Bool) (w n : ℕ) → Some n ≡ cond b (Some w) None → (b ≡ true) × (n ≡ w)
+some_passes true w n e = (refl, cc)
+some_passes false w n e = let z : ◌≡◌ {A = ℕ} 0 1 = cc in absurd (omega arith)
 
-cond_zero : (b : Bool) (w n : ℕ) → 0 < w → n ≡ cond b w 0 → n ≡ 0 → b ≡ false
-cond_zero true w n p e z = absurd (omega arith)
-cond_zero false w n p e z = refl
+pub none_passes : (b : Bool) (w : ℕ) → None ≡ cond b (Some w) None → b ≡ false
+none_passes true w e = let z : ◌≡◌ {A = ℕ} 0 1 = cc in absurd (omega arith)
+none_passes false w e = refl
 
-module _ {s : Text} {q : State} {i kind len : ℕ} {rs : List Range} {least n : ℕ} (g : At s q i kind len) (ch : CharAt rs least s i n) where
-  pub char_on : {q2 : State} {k : ℕ} → CharSent q rs least q2 k → (n ≡ 0 → ⊥) → At s q2 (i + n) (seen_kind (ending k) kind) (seen_len (ending k) (i + n) len)
-  char_on {q2} {k} t z =
+module _ {s : Text} {q : State} {i : ℕ} {seen : Option Token} {rs : List Range} {least : ℕ} {r : Option ℕ} (g : At s q i seen) (ch : CharAt rs least s i r) where
+  pub char_on : {q2 : State} {k n : ℕ} → CharSent q rs least q2 k → r ≡ Some n → At s q2 (i + n) (see (ending k) (i + n) seen)
+  char_on {q2} {k} {n} t e =
       rw (sent_kind t.low) at
-      (by_code_point g q2 n ch.within (omega arith)
+      (by_code_point g q2 n (ch.within n e).1 (ch.within n e).0
       (λ c u sc d.
-      let v = cond_pos (passes rs least c) (width c) n (ch.right c u sc d) z in
+      let v = some_passes (passes rs least c) (width c) n (sym e ∙ ch.right c u sc d) in
       (v.1, point_to t c sc v.0)))
 
-  pub char_off : {f : ℕ → Bool} → CharEnds q rs least f → n ≡ 0 → (i < length s → f (get_or s i 0) ≡ false) → TokenAt s (tok kind len)
-  char_off {f} t z no' =
+  pub char_off : {f : ℕ → Bool} → CharEnds q rs least f → r ≡ None → (i < length s → f (get_or s i 0) ≡ false) → TokenAt s seen
+  char_off {f} t e no' =
       by_nothing g
       (λ c u sc d.
-      let v : passes rs least c ≡ false = cond_zero (passes rs least c) (width c) n (width_pos c) (ch.right c u sc d) z in
+      let v : passes rs least c ≡ false = none_passes (passes rs least c) (width c) (sym e ∙ ch.right c u sc d) in
       point_dead t c sc v
       (λ l. ⊎_elim (λ x. ap f (sym x.1) ∙ no' (some_left s i c u d)) (λ x. let y = x.0 in absurd (omega arith)) (at_first s i c u d)))

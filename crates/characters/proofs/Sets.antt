@@ -9,12 +9,14 @@ use lib.Dec.{T, eqb, ltb, ltb→lt}
 use lib.ListN.{length, get_or}
 use types.Run.{OneOf, hit}
 use mir.Val.{has_key}
+use Rattle.std.specs.Prelude.{Option, Some}
+use Rattle.automaton.specs.declared.Token.{Token}
 use Rattle.text.specs.Text.{Text, between}
 use Rattle.utf8.specs.Utf8.{Range, ◌–◌}
 use Rattle.utf8.proofs.Tests.{by, below, below_at, and_true, or_true, between_true, same, same_eq}
 use Rattle.token.specs.Regular.{in_ranges}
 use Rattle.automaton.specs.States.{State}
-use Rattle.automaton.specs.Run.{At}
+use Rattle.automaton.specs.Run.{tok, At}
 use Rattle.automaton.proofs.Steps.{Sent, pass, gain}
 
 -- ---- The value of a test
@@ -67,11 +69,9 @@ ranged_rest rs v kss lo n t b r l u =
     (below_at (λ k. has_any kss (lo + k) || same v (in_ranges (lo + k) rs)) n t (b - lo) (omega arith)) in
     same_eq v (in_ranges b rs) (subst (λ (x : Bool). T (x || same v (in_ranges b rs))) (has_none kss b r) w)
 
--- The bits of a number are the set, for 64 bytes from lo on.
-pub bit_set : (rs : List Range) (n lo : ℕ) → T (below (λ k. same (eqb (n / 2 ^ k % 2) 1) (in_ranges (lo + k) rs)) 64)
-    → (b k : ℕ) → lo + k ≡ b → k < 64 → eqb (n / 2 ^ k % 2) 1 ≡ in_ranges b rs
-bit_set rs n lo t b k e h =
-    same_eq (eqb (n / 2 ^ k % 2) 1) (in_ranges (lo + k) rs) (below_at (λ k. same (eqb (n / 2 ^ k % 2) 1) (in_ranges (lo + k) rs)) 64 t k h) ∙ ap (λ (x : ℕ). in_ranges x rs) e
+-- A test with a definition of its own is that of the set, on each byte.
+pub told : (rs : List Range) (f : ℕ → Bool) → T (below (λ k. same (f k) (in_ranges k rs)) 256) → (b : ℕ) → b < 256 → f b ≡ in_ranges b rs
+told rs f t b h = same_eq (f b) (in_ranges b rs) (below_at (λ k. same (f k) (in_ranges k rs)) 256 t b h)
 
 -- ---- Sets below 128
 
@@ -86,9 +86,9 @@ set_low ((lo – hi) ∷ rs) t b e =
     ⊎_elim (λ x. let y = (between_true lo hi b x).1 in let z = ltb→lt hi 128 u.0 in omega arith) (set_low rs u.1 b) (or_true (between lo hi b) (in_ranges b rs) e)
 
 -- A byte of a set, which the automaton takes; t says that the set lies below 128.
-module _ {s : Text} {q : State} {i kind len : ℕ} (rs : List Range) {q2 : State} (g : At s q i kind len) (h : i < length s) (t : T (all_low rs)) (e : in_ranges (get_or s i 0) rs ≡ true) where
-  pub take_pass : Sent q (λ b. in_ranges b rs) q2 0 → At s q2 (i + 1) kind len
+module _ {s : Text} {q : State} {i : ℕ} {seen : Option Token} (rs : List Range) {q2 : State} (g : At s q i seen) (h : i < length s) (t : T (all_low rs)) (e : in_ranges (get_or s i 0) rs ≡ true) where
+  pub take_pass : Sent q (λ b. in_ranges b rs) q2 0 → At s q2 (i + 1) seen
   take_pass m = pass g h (set_low rs t (get_or s i 0) e) e m
 
-  pub take_gain : {k : ℕ} → 0 < k → Sent q (λ b. in_ranges b rs) q2 k → At s q2 (i + 1) k (i + 1)
+  pub take_gain : {k : ℕ} → 0 < k → Sent q (λ b. in_ranges b rs) q2 k → At s q2 (i + 1) (Some (tok k (i + 1)))
   take_gain p m = gain g h (set_low rs t (get_or s i 0) e) e p m

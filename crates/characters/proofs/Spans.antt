@@ -1,20 +1,24 @@
 -- Runs of bytes of a set: what a loop over them shows, and a state that they do not leave.
-use mathlib.Core.Path.{◌≡◌, subst, sym, ap, ◌∙◌}
+use mathlib.Core.Path.{◌≡◌, refl, subst, sym, ap, ap₂, ◌∙◌}
 use mathlib.Core.Logic.{⊎_elim}
 use mathlib.Core.Bool.{Bool, true, false, ◌&&◌}
-use mathlib.Core.List.{List}
+use mathlib.Core.List.{List, [], ◌∷◌}
 use Prim.Native.Nat.{ℕ, zero, suc, ◌+◌, ◌-◌, ◌≤◌, ◌<◌}
 use native.Mathlib.Omega.{arith}
 use native.Mathlib.Nat.{add-zero}
 use lib.Dec.{T}
-use lib.ListN.{length, get_or, drop, drop_of_length-le}
-use lib.Seq.{drop-cons}
+use lib.ListN.{length, get_or, take, drop}
+use Rattle.std.specs.Prelude.{Option, Some, ◌↔◌}
+use Rattle.std.specs.List.{AllPass}
+use Rattle.automaton.specs.declared.Token.{Token}
 use Rattle.text.specs.Text.{Text}
+use Rattle.text.proofs.Compare.{and_false}
 use Rattle.utf8.specs.Utf8.{Range}
-use Rattle.utf8.proofs.Tests.{split}
+use Rattle.utf8.proofs.Tests.{split, by}
+use Rattle.utf8.proofs.Decoding.{tail_eq}
 use Rattle.token.specs.Regular.{in_ranges}
 use Rattle.automaton.specs.States.{State}
-use Rattle.automaton.specs.Run.{At}
+use Rattle.automaton.specs.Run.{tok, At}
 use Rattle.automaton.proofs.Steps.{Sent}
 use Rattle.characters.specs.Bytes.{hex}
 use Rattle.characters.specs.Runs.{hex_run, Span}
@@ -39,58 +43,65 @@ module _ (rs : List Range) (s : Text) (a i : ℕ) (all : All rs s a i) where
 
 -- A state where a token of the kind k ends, and which the bytes of the set do not leave.
 pub stay : {q : State} {k : ℕ} (rs : List Range) → T (all_low rs) → 0 < k → Sent q (λ b. in_ranges b rs) q k
-    → {s : Text} {a e : ℕ} → Span rs s a e → At s q a k a → At s q e k e
+    → {s : Text} {a e : ℕ} → Span rs s a e → At s q a (Some (tok k a)) → At s q e (Some (tok k e))
 stay {q} {k} rs low p t {s} {a} {e} sp g =
     let h = sp.from in
     let m : a + (e - a) ≡ e = omega arith in
-    subst (λ (n : ℕ). At s q n k n) m (up (e - a) (omega arith))
+    subst (λ (n : ℕ). At s q n (Some (tok k n))) m (up (e - a) (omega arith))
   where
-    up : (n : ℕ) → a + n ≤ e → At s q (a + n) k (a + n)
-    up zero h = subst (λ (n : ℕ). At s q n k n) (sym (add-zero a)) g
+    up : (n : ℕ) → a + n ≤ e → At s q (a + n) (Some (tok k (a + n)))
+    up zero h = subst (λ (n : ℕ). At s q n (Some (tok k n))) (sym (add-zero a)) g
     up (suc n) h =
         let w = sp.within in
         let m : a + n + 1 ≡ a + suc n = omega arith in
-        subst (λ (n : ℕ). At s q n k n) m
+        subst (λ (n : ℕ). At s q n (Some (tok k n))) m
         (take_gain rs (up n (omega arith)) (omega arith) low (sp.all (a + n) (omega arith) (omega arith)) p t)
 
 -- A run of at least one byte, from a state that its first byte leaves.
 pub enter : {q q2 : State} {k : ℕ} (rs : List Range) → T (all_low rs) → 0 < k → Sent q (λ b. in_ranges b rs) q2 k → Sent q2 (λ b. in_ranges b rs) q2 k
-    → {s : Text} {a e kind len : ℕ} → Span rs s a e → a < e → At s q a kind len → At s q2 e k e
+    → {s : Text} {a e : ℕ} {seen : Option Token} → Span rs s a e → a < e → At s q a seen → At s q2 e (Some (tok k e))
 enter rs low p t t' {s} {a} {e} sp h g =
     let w = sp.within in
     stay rs low p t' (record { from = omega arith; within = w; all = λ j l u. sp.all j (omega arith) u; stop = sp.stop })
     (take_gain rs g (omega arith) low (sp.all a (omega arith) h) p t)
 
--- ---- Hexadecimal digits: the loop has passed k of n
+-- ---- Hexadecimal digits
 
-module _ (s : Text) (at n k : ℕ) (h : k < n) (i : hex_run n (drop at s) ≡ hex_run (n - k) (drop (at + k) s)) where
-  pub hex_none : length s - at ≤ k → false ≡ hex_run n (drop at s)
-  unfolding hex_run
-  hex_none l =
-      let e : n - k ≡ suc (n - suc k) = omega arith in
-      sym (i ∙ rw (e, drop_of_length-le s {i = at + k} (omega arith)))
+abbrev is_hex : ℕ → Bool
+is_hex b = in_ranges b hex
 
-  module _ (l : k < length s - at) (v : Bool) (e : v ≡ in_ranges (get_or s (at + k) 0) hex) where
-    hex_more : hex_run (n - k) (drop (at + k) s) ≡ in_ranges (get_or s (at + k) 0) hex && hex_run (n - (k + 1)) (drop (at + (k + 1)) s)
-    unfolding hex_run
-    hex_more =
-        let e : n - k ≡ suc (n - (k + 1)) = omega arith in
-        let f : at + (k + 1) ≡ suc (at + k) = omega arith in
-        rw (e, f, drop-cons s (at + k) 0 (omega arith))
-
-    pub hex_stop : v ≡ false → false ≡ hex_run n (drop at s)
-    hex_stop f = sym (i ∙ hex_more ∙ ap (λ (b : Bool). b && hex_run (n - (k + 1)) (drop (at + (k + 1)) s)) (sym e ∙ f))
-
-    pub hex_next : v ≡ true → hex_run n (drop at s) ≡ hex_run (n - (k + 1)) (drop (at + (k + 1)) s)
-    hex_next f = i ∙ hex_more ∙ ap (λ (b : Bool). b && hex_run (n - (k + 1)) (drop (at + (k + 1)) s)) (sym e ∙ f)
-
-pub hex_done : (s : Text) (at n k : ℕ) → n ≤ k → hex_run n (drop at s) ≡ hex_run (n - k) (drop (at + k) s) → true ≡ hex_run n (drop at s)
+run_of : (n : ℕ) (s : Text) → n ≤ length s → AllPass is_hex (take n s) → hex_run n s ≡ true
 unfolding hex_run
-hex_done s at n k h i =
-    let e : n - k ≡ 0 = omega arith in
-    sym (i ∙ ap (λ (m : ℕ). hex_run m (drop (at + k) s)) e)
+run_of zero s h a = refl
+run_of (suc n) [] h a = absurd (omega arith)
+run_of (suc n) (b ∷ s) h a = rw (a 0 0 (omega arith), run_of n s (omega arith) (λ k d l. a (suc k) d (omega arith)))
 
-pub hex_begin : (s : Text) (at n : ℕ) → hex_run n (drop at s) ≡ hex_run (n - 0) (drop (at + 0) s)
-hex_begin s at n =
-    let e : n - 0 ≡ n = omega arith in
-    rw (e, add-zero at)
+both : (a b : Bool) → (a && b) ≡ true → (a ≡ true) × (b ≡ true)
+both true b e = (refl, e)
+both false b e = absurd (subst T (sym e) tt)
+
+of_run : (n : ℕ) (s : Text) → hex_run n s ≡ true → AllPass is_hex (take n s)
+unfolding hex_run
+of_run zero s e k d l = absurd (omega arith)
+of_run (suc n) [] e k d l = absurd (omega arith)
+of_run (suc n) (b ∷ s) e zero d l = (both (is_hex b) (hex_run n s) e).0
+of_run (suc n) (b ∷ s) e (suc k) d l = of_run n s (both (is_hex b) (hex_run n s) e).1 k d (omega arith)
+
+-- Too few bytes stand there.
+pub hex_short : (n : ℕ) (s : Text) → length s < n → false ≡ hex_run n s
+unfolding hex_run
+hex_short zero s h = absurd (omega arith)
+hex_short (suc n) [] h = refl
+hex_short (suc n) (b ∷ s) h = sym (ap (λ (v : Bool). is_hex b && v) (sym (hex_short n s (omega arith))) ∙ and_false (is_hex b))
+
+all_of : (n : ℕ) (s : Text) → n ≤ length s → (v : Bool) → (v ≡ true ↔ AllPass is_hex (take n s)) → v ≡ hex_run n s
+all_of n s h true w = sym (run_of n s h (w.0 refl))
+all_of n s h false w = by (hex_run n s) (λ e. w.1 (of_run n s e) ∙ sym e) (λ e. sym e)
+
+-- The part of n bytes from `at` on.
+pub hex_all : (s : Text) (at n : ℕ) → n ≤ length (take (length s - at) (drop at s)) → (d : Text) → d ≡ take (n - 0) (take (length s - at) (drop at s))
+    → (v : Bool) → (v ≡ true ↔ AllPass is_hex d) → v ≡ hex_run n (drop at s)
+hex_all s at n h d e v w =
+    let t = tail_eq s at in
+    let z : n - 0 ≡ n = omega arith in
+    all_of n (drop at s) (omega (arith, ap length t)) v (subst (λ (x : Text). v ≡ true ↔ AllPass is_hex x) (e ∙ ap₂ (λ (m : ℕ) (x : Text). take m x) z t) w)

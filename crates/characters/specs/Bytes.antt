@@ -1,5 +1,6 @@
 -- Sets of bytes below 128.
-use Rattle.std.specs.Prelude.{List, [], ◌∷◌, ◌++◌}
+use Rattle.std.specs.Prelude.{Bool, false, List, [], ◌∷◌, ◌++◌, ℕ, ◌-◌, ◌/◌, ◌%◌, ◌^◌, eqb, ltb}
+use Rattle.text.specs.Text.{cond}
 use Rattle.utf8.specs.Utf8.{Range, ◌–◌}
 
 abbrev pub digit : List Range
@@ -43,3 +44,7 @@ echar = (34 – 34) ∷ (39 – 39) ∷ (92 – 92) ∷ (98 – 98) ∷ (102 –
 -- What may stand in an IRIREF.
 abbrev pub iri : List Range
 iri = (33 – 33) ∷ (35 – 59) ∷ (61 – 61) ∷ (63 – 91) ∷ (93 – 93) ∷ (95 – 95) ∷ (97 – 122) ∷ (126 – 127) ∷ []
+
+-- The bit of a byte in two numbers: in the first of a byte below 64, in the second of the others below 128.
+abbrev pub bit_at : ℕ → ℕ → ℕ → Bool
+bit_at low high b = cond (ltb b 64) (eqb (low / 2 ^ b % 2) 1) (cond (ltb b 128) (eqb (high / 2 ^ (b - 64) % 2) 1) false)

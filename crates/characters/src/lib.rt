@@ -2,5 +2,6 @@
 #![tactic(auto)]
 
 pub mod bytes;
+pub mod classes;
 pub mod names;
 pub mod runs;

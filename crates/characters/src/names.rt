@@ -1,14 +1,14 @@
 // The code points of names.
 ghost use Rattle.std.specs.Prelude.{◌≡◌, [], ◌≤◌, ◌<◌, length, get_or};
 ghost use Rattle.automaton.specs.Levels.{level};
-ghost use Rattle.characters.specs.Bytes.{letter, name, local, local_first, label_first};
-ghost use Rattle.characters.specs.Names.{CharAt, base, inner};
+ghost use Rattle.characters.specs.Names.{CharAt};
 
-use crate::bytes::{is_label_first, is_letter, is_local, is_local_first, is_name};
+use crate::classes::Class;
 
-const BASE: u8 = 2;
+// PN_CHARS_BASE, and the rest of PN_CHARS.
+pub const BASE: u8 = 2;
 
-const INNER: u8 = 1;
+pub const INNER: u8 = 1;
 
 // The level of a code point from U+00C0 to U+036F.
 fn low_level(c: u32) -> u8
@@ -74,93 +74,29 @@ fn name_level(c: u32) -> u8
     high_level(c)
 }
 
-// The length of a code point from 128 on that is at least of this level, or 0.
-fn wide_char(s: &[u8], at: usize, least: u8) -> usize
+// The length of the code point from 128 on there, if it is at least of this level.
+fn wide_char(s: &[u8], at: usize, least: u8) -> Option<usize>
     requires { (at < length s.now) × (128 ≤ get_or s.now at 0) × (1 ≤ least) }
     ensures { CharAt [] least s.now at result }
 {
-    let c = utf8::read_code_point(&s[at..]);
-    let n = c.size;
-    if n == 0 {
-        return 0;
-    }
+    let c = utf8::read_code_point(&s[at..])?;
     if name_level(c.value) < least {
-        return 0;
+        return None;
     }
-    n
+    Some(c.size)
 }
 
-// The length of PN_CHARS_BASE there, or 0.
-pub fn base_char(s: &[u8], at: usize) -> usize
-    requires { at < length s.now }
-    ensures { CharAt letter base s.now at result }
+// The length of the character there, if it is of the set or, from 128 on, at least of the level.
+pub fn char_at<C: Class, const LEAST: u8>(s: &[u8], at: usize) -> Option<usize>
+    requires { (at < length s.now) × (1 ≤ LEAST) }
+    ensures { CharAt C.set LEAST s.now at result }
 {
     let b = s[at];
     if 128 <= b {
-        return wide_char(s, at, BASE);
+        return wide_char(s, at, LEAST);
     }
-    if is_letter(b) {
-        return 1;
+    if C::has(b) {
+        return Some(1);
     }
-    0
-}
-
-// The length of PN_CHARS there, or 0.
-pub fn name_char(s: &[u8], at: usize) -> usize
-    requires { at < length s.now }
-    ensures { CharAt name inner s.now at result }
-{
-    let b = s[at];
-    if 128 <= b {
-        return wide_char(s, at, INNER);
-    }
-    if is_name(b) {
-        return 1;
-    }
-    0
-}
-
-// The length of PN_CHARS or a colon there, or 0.
-pub fn local_char(s: &[u8], at: usize) -> usize
-    requires { at < length s.now }
-    ensures { CharAt local inner s.now at result }
-{
-    let b = s[at];
-    if 128 <= b {
-        return wide_char(s, at, INNER);
-    }
-    if is_local(b) {
-        return 1;
-    }
-    0
-}
-
-// The length of what PN_LOCAL begins with, but for PLX, or 0.
-pub fn local_start(s: &[u8], at: usize) -> usize
-    requires { at < length s.now }
-    ensures { CharAt local_first base s.now at result }
-{
-    let b = s[at];
-    if 128 <= b {
-        return wide_char(s, at, BASE);
-    }
-    if is_local_first(b) {
-        return 1;
-    }
-    0
-}
-
-// The length of what a label begins with, or 0.
-pub fn label_start(s: &[u8], at: usize) -> usize
-    requires { at < length s.now }
-    ensures { CharAt label_first base s.now at result }
-{
-    let b = s[at];
-    if 128 <= b {
-        return wide_char(s, at, BASE);
-    }
-    if is_label_first(b) {
-        return 1;
-    }
-    0
+    None
 }

@@ -5,11 +5,12 @@ use mathlib.Core.List.{List, [], ◌∷◌}
 use mathlib.Core.Option.{none}
 use Prim.Native.Nat.{ℕ, ◌+◌, ◌-◌, ◌≤◌, ◌<◌}
 use native.Mathlib.Omega.{arith}
-use lib.Dec.{eqb, ltb}
+use lib.Dec.{ltb}
 use lib.ListN.{length, get_or, set, take, drop, length-set, length-drop}
 use lib.Seq.{get_or-set_same, get_or-set_other, take_all}
-use borrow.Author.Tests.{ne_eqb, lt-ltb, le-ltb, ltb-true, ltb-false, eqb-true, eqb-false}
+use borrow.Author.Tests.{ne_eqb, lt-ltb, le-ltb, ltb-true, ltb-false}
 use Rattle.token.specs.Kind.{last_kind, end_kind, unreadable_kind}
+use Rattle.std.specs.Prelude.{Option, Some, None}
 use Rattle.environment.specs.Code.{words_size}
 use Rattle.text.specs.Text.{Text}
 use Rattle.text.proofs.Compare.{by}
@@ -23,7 +24,7 @@ use Rattle.lexer_words.specs.Ahead.{Clear, NextAt}
 use Rattle.token.specs.Tokens.{token, unreadable}
 use Rattle.state.specs.Words.{kind_word, at_word, len_word, clear_word, kind_in, at_in, len_in}
 use Rattle.state.specs.Cursor.{ahead, token_of, StaysBeside, Sought}
-use Rattle.cursor.specs.Code.{put_token, kind_there}
+use Rattle.cursor.specs.Code.{put_token, kind_of_none}
 
 -- The words after they are put.
 pub record Put (st st' : List ℕ) (kind at len clear : ℕ) : Type 0 where
@@ -85,30 +86,25 @@ pub ahead_end : (doc : Text) (at len : ℕ) → ahead doc 0 at len ≡ []
 unfolding ahead
 ahead_end doc at len = refl
 
-pub there_some : (k at n : ℕ) → (k ≡ 0 → ⊥) → kind_there k at n ≡ k
-unfolding kind_there
-there_some k at n z = rw (ne_eqb k 0 z)
-
-pub there_none : (at n : ℕ) → at < n → kind_there 0 at n ≡ unreadable_kind
-unfolding kind_there
+pub there_none : (at n : ℕ) → at < n → kind_of_none at n ≡ unreadable_kind
+unfolding kind_of_none
 there_none at n h = rw (lt-ltb at n h)
 
-pub there_end : (at n : ℕ) → n ≤ at → kind_there 0 at n ≡ end_kind
-unfolding kind_there
+pub there_end : (at n : ℕ) → n ≤ at → kind_of_none at n ≡ end_kind
+unfolding kind_of_none
 there_end at n h = rw (le-ltb at n h)
 
-module _ (doc : Text) (at b clear : ℕ) (r : Next) (size : length doc ≤ document_limit) (within : at ≤ length doc) (v : first_bad (drop at doc) ≡ none) (c : Clear (drop at doc) clear)
-    (g : BlanksAt (drop at doc) b) (m : NextAt (drop (at + b) doc) (clear - b) r) (h : b ≤ length doc - at) (hn : r.len ≤ length doc - (at + b)) (st st' : List ℕ)
-    (p : Put st st' (kind_there r.kind (at + b) (length doc)) (at + b) r.len r.clear) where
-  sought_token : (r.kind ≡ 0 → ⊥) → Sought doc at st st'
-  sought_token z =
-      let t = read_token doc at b clear r v c g m z in
-      let k = p.kind_is ∙ there_some r.kind (at + b) (length doc) z in
+module _ (doc : Text) (at b clear : ℕ) (size : length doc ≤ document_limit) (within : at ≤ length doc) (v : first_bad (drop at doc) ≡ none) (c : Clear (drop at doc) clear)
+    (g : BlanksAt (drop at doc) b) (h : b ≤ length doc - at) (st st' : List ℕ) where
+  sought_token : (r : Next) → NextAt (drop (at + b) doc) (clear - b) (Some r) → r.token.len ≤ length doc - (at + b) → Put st st' r.token.kind (at + b) r.token.len r.clear → Sought doc at st st'
+  sought_token r m hn p =
+      let t = read_token doc at b clear v c g r m in
+      let k = p.kind_is in
       record {
         cursor = record {
           size = size;
           inside = rw (p.at_is, p.len_is) (omega arith);
-          at_end = λ e. absurd (z (sym k ∙ e));
+          at_end = λ e. absurd (t.some_kind (sym k ∙ e));
           token = λ y x. record {
             known = rw k t.known;
             some_byte = rw p.len_is t.some_byte;
@@ -118,15 +114,15 @@ module _ (doc : Text) (at b clear : ℕ) (r : Next) (size : length doc ≤ docum
             clear = rw (p.at_is, p.len_is, p.clear_is) t.clear;
           };
         };
-        tokens = rw (k, p.at_is, p.len_is) (t.tokens ∙ sym (ahead_token doc r.kind (at + b) r.len z t.known));
+        tokens = rw (k, p.at_is, p.len_is) (t.tokens ∙ sym (ahead_token doc r.token.kind (at + b) r.token.len t.some_kind t.known));
         later = rw p.at_is (omega arith);
         beside = p.beside;
         words = p.words;
       }
 
-  sought_none : r.kind ≡ 0 → at + b < length doc → Sought doc at st st'
-  sought_none z l =
-      let k : kind_in st' ≡ unreadable_kind = p.kind_is ∙ (ap (λ (x : ℕ). kind_there x (at + b) (length doc)) z ∙ there_none (at + b) (length doc) l) in
+  sought_none : NextAt (drop (at + b) doc) (clear - b) None → at + b < length doc → Put st st' (kind_of_none (at + b) (length doc)) (at + b) 0 0 → Sought doc at st st'
+  sought_none m l p =
+      let k : kind_in st' ≡ unreadable_kind = p.kind_is ∙ there_none (at + b) (length doc) l in
       record {
         cursor = record {
           size = size;
@@ -134,15 +130,15 @@ module _ (doc : Text) (at b clear : ℕ) (r : Next) (size : length doc ≤ docum
           at_end = λ e. absurd (omega (arith, sym k ∙ e));
           token = λ y x. absurd (x k);
         };
-        tokens = rw (k, p.at_is) (read_nothing doc at b clear r v c g m l z ∙ sym (ahead_none doc (at + b) (len_in st')));
+        tokens = rw (k, p.at_is) (read_nothing doc at b clear v c g m l ∙ sym (ahead_none doc (at + b) (len_in st')));
         later = rw p.at_is (omega arith);
         beside = p.beside;
         words = p.words;
       }
 
-  sought_end : r.kind ≡ 0 → length doc ≤ at + b → Sought doc at st st'
-  sought_end z l =
-      let k : kind_in st' ≡ end_kind = p.kind_is ∙ (ap (λ (x : ℕ). kind_there x (at + b) (length doc)) z ∙ there_end (at + b) (length doc) l) in
+  sought_end : length doc ≤ at + b → Put st st' (kind_of_none (at + b) (length doc)) (at + b) 0 0 → Sought doc at st st'
+  sought_end l p =
+      let k : kind_in st' ≡ end_kind = p.kind_is ∙ there_end (at + b) (length doc) l in
       record {
         cursor = record {
           size = size;
@@ -150,29 +146,38 @@ module _ (doc : Text) (at b clear : ℕ) (r : Next) (size : length doc ≤ docum
           at_end = λ e. p.at_is ∙ omega arith;
           token = λ y x. absurd (y k);
         };
-        tokens = rw (k, p.at_is) (read_end doc at b clear r v c g m l ∙ sym (ahead_end doc (at + b) (len_in st')));
+        tokens = rw (k, p.at_is) (read_end doc at b clear v c g l ∙ sym (ahead_end doc (at + b) (len_in st')));
         later = rw p.at_is (omega arith);
         beside = p.beside;
         words = p.words;
       }
 
-  pub sought : Sought doc at st st'
-  sought =
-      by (eqb r.kind 0)
-      (λ e. by (ltb (at + b) (length doc)) (λ f. sought_none (eqb-true r.kind 0 e) (ltb-true (at + b) (length doc) f)) (λ f. sought_end (eqb-true r.kind 0 e) (ltb-false (at + b) (length doc) f)))
-      (λ e. sought_token (eqb-false r.kind 0 e))
+rest_of : (doc : Text) (i : ℕ) → take (length doc - i) (drop i doc) ≡ drop i doc
+rest_of doc i = take_all (length doc - i) (drop i doc) (omega (arith, length-drop i doc))
 
 -- The same of the parts that the code lends on.
-pub seek_law : (doc : Text) (at b clear mc : ℕ) (r : Next) (k : ℕ) (st st' : List ℕ) → length doc ≤ document_limit → at ≤ length doc → first_bad (drop at doc) ≡ none → Clear (drop at doc) clear
-    → BlanksAt (take (length doc - at) (drop at doc)) b → mc ≡ clear - b → NextAt (take (length doc - (at + b)) (drop (at + b) doc)) mc r
-    → k ≡ kind_there r.kind (at + b) (length doc) → st' ≡ put_token st k (at + b) r.len r.clear → length st ≡ words_size → Sought doc at st st'
-seek_law doc at b clear mc r k st st' size within v c g em m ek es n =
-    let g' : BlanksAt (drop at doc) b = subst (λ (x : Text). BlanksAt x b) (rest_of doc at) g in
-    let m' : NextAt (drop (at + b) doc) (clear - b) r = subst (λ (x : ℕ). NextAt (drop (at + b) doc) x r) em (subst (λ (x : Text). NextAt x mc r) (rest_of doc (at + b)) m) in
-    let p : Put st (put_token st k (at + b) r.len r.clear) k (at + b) r.len r.clear = put_is st k (at + b) r.len r.clear n in
-    let p' : Put st st' (kind_there r.kind (at + b) (length doc)) (at + b) r.len r.clear =
-    subst (λ (x : ℕ). Put st st' x (at + b) r.len r.clear) ek (subst (λ (x : List ℕ). Put st x k (at + b) r.len r.clear) (sym es) p) in
-    sought doc at b clear r size within v c g' m' (omega (arith, g'.within, length-drop at doc)) (omega (arith, m'.within, length-drop (at + b) doc)) st st' p'
-  where
-    rest_of : (doc : Text) (i : ℕ) → take (length doc - i) (drop i doc) ≡ drop i doc
-    rest_of doc i = take_all (length doc - i) (drop i doc) (omega (arith, length-drop i doc))
+module _ (doc : Text) (at b clear mc : ℕ) (st st' : List ℕ) (size : length doc ≤ document_limit) (within : at ≤ length doc) (v : first_bad (drop at doc) ≡ none)
+    (c : Clear (drop at doc) clear) (g : BlanksAt (take (length doc - at) (drop at doc)) b) (em : mc ≡ clear - b) (r : Option Next)
+    (m : NextAt (take (length doc - (at + b)) (drop (at + b) doc)) mc r) (n : length st ≡ words_size) where
+  blanks : BlanksAt (drop at doc) b
+  blanks = subst (λ (x : Text). BlanksAt x b) (rest_of doc at) g
+
+  next : NextAt (drop (at + b) doc) (clear - b) r
+  next = subst (λ (x : ℕ). NextAt (drop (at + b) doc) x r) em (subst (λ (x : Text). NextAt x mc r) (rest_of doc (at + b)) m)
+
+  put_law : (k len cl : ℕ) → st' ≡ put_token st k (at + b) len cl → Put st st' k (at + b) len cl
+  put_law k len cl e = subst (λ (x : List ℕ). Put st x k (at + b) len cl) (sym e) (put_is st k (at + b) len cl n)
+
+  pub seek_token : (x : Next) → r ≡ Some x → st' ≡ put_token st x.token.kind (at + b) x.token.len x.clear → Sought doc at st st'
+  seek_token x e s =
+      let q = subst (NextAt (drop (at + b) doc) (clear - b)) e next in
+      sought_token doc at b clear size within v c blanks (omega (arith, blanks.within, length-drop at doc)) st st' x q
+      (omega (arith, q.within, length-drop (at + b) doc)) (put_law x.token.kind x.token.len x.clear s)
+
+  pub seek_none : r ≡ None → (k : ℕ) → k ≡ kind_of_none (at + b) (length doc) → st' ≡ put_token st k (at + b) 0 0 → Sought doc at st st'
+  seek_none e k f s =
+      let p = put_law (kind_of_none (at + b) (length doc)) 0 0 (s ∙ ap (λ (x : ℕ). put_token st x (at + b) 0 0) f) in
+      let h : b ≤ length doc - at = omega (arith, blanks.within, length-drop at doc) in
+      by (ltb (at + b) (length doc))
+      (λ w. sought_none doc at b clear size within v c blanks h st st' (subst (NextAt (drop (at + b) doc) (clear - b)) e next) (ltb-true (at + b) (length doc) w) p)
+      (λ w. sought_end doc at b clear size within v c blanks h st st' (ltb-false (at + b) (length doc) w) p)

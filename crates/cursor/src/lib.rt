@@ -9,11 +9,9 @@ ghost use Rattle.lexer_words.specs.Ahead.{Clear};
 ghost use Rattle.environment.specs.Code.{words_size};
 ghost use Rattle.state.specs.Words.{at_in, len_in};
 ghost use Rattle.state.specs.Cursor.{Cursor, TokenHere, Sought};
-ghost use Rattle.cursor.specs.Code.{put_token, kind_there};
+ghost use Rattle.cursor.specs.Code.{put_token, kind_of_none};
 
-use automaton::Next;
 use environment::Layout;
-use lexer_words::names::minus;
 use state::Words;
 use token::Kind;
 
@@ -26,13 +24,10 @@ fn put(st: &mut [usize; Layout::WORDS], kind: usize, at: usize, len: usize, clea
     st[Words::CLEAR] = clear;
 }
 
-// The kind at a place that is not the end, or is.
-fn kind_there(kind: usize, at: usize, size: usize) -> usize
-    ensures { result ≡ kind_there kind at size }
+// The kind of a place where no token is read: none can be, or the document ends.
+fn kind_of_none(at: usize, size: usize) -> usize
+    ensures { result ≡ kind_of_none at size }
 {
-    if kind != Kind::NONE {
-        return kind;
-    }
     if at < size {
         return Kind::UNREADABLE;
     }
@@ -46,9 +41,11 @@ pub fn seek(doc: &[u8], st: &mut [usize; Layout::WORDS], at: usize, clear: usize
 {
     let b = lexer::skip_blanks(&doc[at..]);
     let start = at + b;
-    let t = lexer::next_token(&doc[start..], minus(clear, b));
-    let kind = kind_there(t.kind, start, doc.len());
-    put(st, kind, start, t.len, t.clear);
+    let Some(next) = lexer::next_token(&doc[start..], clear.saturating_sub(b)) else {
+        put(st, kind_of_none(start, doc.len()), start, 0, 0);
+        return;
+    };
+    put(st, next.token.kind, start, next.token.len, next.clear);
 }
 
 // Goes behind the token at the cursor.

@@ -168,14 +168,14 @@ fn token_end(document: &[u8], at: usize, to: usize, number: u8) -> usize {
     if document.len() < at {
         return at;
     }
-    let t = lexer::next_token(&document[at..], 0);
+    let len = lexer::next_token(&document[at..], 0).map_or(0, |next| next.token.len);
     if to < at {
         return at;
     }
-    if to - at < t.len {
+    if to - at < len {
         return to;
     }
-    at + t.len
+    at + len
 }
 
 fn print_text<W: Write>(

@@ -11,6 +11,7 @@ use borrow.Author.Tests.{leb-true}
 use lib.Dec.{T, ltb, leb}
 use lib.ListN.{length, take, drop, length-drop, drop_of_length-le}
 use lib.Seq.{drop_at, drop-drop}
+use Rattle.std.specs.Prelude.{Some, None}
 use Rattle.text.specs.Text.{Text, cond, is}
 use Rattle.utf8.specs.Utf8.{encodes, width, decode, first_bad}
 use Rattle.utf8.specs.Scalar.{Scalars, Encodes}
@@ -168,6 +169,15 @@ empty_none : (k n : ℕ) → token_at [] ≡ hit k n → ⊥
 unfolding token_at
 empty_none k n e = let z : ◌≡◌ {A = ℕ} 0 1 = cc in omega arith
 
+-- What was answered is what matched.
+none_of : (m : Match) → None ≡ answer m → m ≡ nothing
+none_of nothing e = refl
+none_of (hit k n) e = let z : ◌≡◌ {A = ℕ} 0 1 = cc in absurd (omega arith)
+
+hit_of : (m : Match) (k n : ℕ) → Some (tok k n) ≡ answer m → m ≡ hit k n
+hit_of nothing k n e = let z : ◌≡◌ {A = ℕ} 0 1 = cc in absurd (omega arith)
+hit_of (hit j x) k n e = let t : tok k n ≡ tok j x = cc in ap₂ hit (ap (λ (t : Token). t.kind) (sym t)) (ap (λ (t : Token). t.len) (sym t))
+
 -- ---- The law, in bytes
 
 module _ (doc : Text) (at b : ℕ) (v : first_bad (drop at doc) ≡ none) (e : b ≡ blanks false (decode (drop at doc))) where
@@ -216,25 +226,16 @@ module _ (doc : Text) (at b : ℕ) (v : first_bad (drop at doc) ≡ none) (e : b
           let w = width_pos c in
           absurd (omega arith)
 
-  module _ (k n : ℕ) (f : tok k n ≡ answer (token_at (decode (drop (at + b) doc)))) where
-    what : tok k n ≡ answer (token_at (after_blanks false text))
-    what = f ∙ ap (λ (x : List ℕ). answer (token_at x)) blanks_text
+  -- No token can be read.
+  pub cut_none : None ≡ answer (token_at (decode (drop (at + b) doc))) → at + b < length doc → rest doc at ≡ unreadable (at + b) ∷ []
+  unfolding encodes
+  cut_none f h = rest_blanks ∙ fin (after_blanks false text) refl (f ∙ ap (λ (x : List ℕ). answer (token_at x)) blanks_text)
+    where
+      fin : (cs : List ℕ) → after_blanks false text ≡ cs → None ≡ answer (token_at cs) → lexemes_from trig_cuts doc between (at + b) cs ≡ unreadable (at + b) ∷ []
+      fin [] g w = let l = sym (length-drop (at + b) doc) ∙ ap length (left.bytes ∙ ap encodes g) in absurd (omega arith)
+      fin (c ∷ cs) g w = cut_nothing trig_cuts doc between (at + b) c cs (no_blank false text c cs g) (none_of (token_at (c ∷ cs)) w)
 
-    -- No token can be read.
-    pub cut_none : at + b < length doc → k ≡ 0 → rest doc at ≡ unreadable (at + b) ∷ []
-    unfolding encodes
-    cut_none h z = rest_blanks ∙ fin (after_blanks false text) refl what
-      where
-        fin : (cs : List ℕ) → after_blanks false text ≡ cs → tok k n ≡ answer (token_at cs) → lexemes_from trig_cuts doc between (at + b) cs ≡ unreadable (at + b) ∷ []
-        fin [] g w = let l = sym (length-drop (at + b) doc) ∙ ap length (left.bytes ∙ ap encodes g) in absurd (omega arith)
-        fin (c ∷ cs) g w = go (token_at (c ∷ cs)) refl
-          where
-            go : (m : Match) → token_at (c ∷ cs) ≡ m → lexemes_from trig_cuts doc between (at + b) (c ∷ cs) ≡ unreadable (at + b) ∷ []
-            go nothing u = cut_nothing trig_cuts doc between (at + b) c cs (no_blank false text c cs g) u
-            go (hit j x) u =
-                let y : j ≡ 0 = ap (λ (t : Token). t.kind) (sym (w ∙ ap answer u)) ∙ z in
-                absurd (some_kind (c ∷ cs) x (u ∙ ap (λ (i : ℕ). hit i x) y))
-
+  module _ (k n : ℕ) (f : Some (tok k n) ≡ answer (token_at (decode (drop (at + b) doc)))) where
     -- A token.
     abbrev pub CutToken : Type 0
     CutToken =
@@ -262,58 +263,51 @@ module _ (doc : Text) (at b : ℕ) (v : first_bad (drop at doc) ≡ none) (e : b
           (q.0, (few_kinds (c ∷ cs) k n u, let w = width_pos c in omega arith)),
         )
 
-    pub cut_token : (k ≡ 0 → ⊥) → CutToken
-    cut_token z = fin (after_blanks false text) refl what
+    pub cut_token : CutToken
+    cut_token = fin (after_blanks false text) refl (hit_of (token_at (after_blanks false text)) k n (f ∙ ap (λ (x : List ℕ). answer (token_at x)) blanks_text))
       where
-        go : (cs : List ℕ) (m : Match) → token_at cs ≡ m → tok k n ≡ answer m → token_at cs ≡ hit k n
-        go cs nothing u w = absurd (z (ap (λ (t : Token). t.kind) w))
-        go cs (hit j x) u w = u ∙ ap₂ hit (ap (λ (t : Token). t.kind) (sym w)) (ap (λ (t : Token). t.len) (sym w))
+        fin : (cs : List ℕ) → after_blanks false text ≡ cs → token_at (after_blanks false text) ≡ hit k n → CutToken
+        fin [] g w = absurd (empty_none k n (sym (ap token_at g) ∙ w))
+        fin (c ∷ cs) g w = cut_some c cs g (sym (ap token_at g) ∙ w)
 
-        none_empty : token_at [] ≡ hit k n → ⊥
-        none_empty u = empty_none k n u
-
-        fin : (cs : List ℕ) → after_blanks false text ≡ cs → tok k n ≡ answer (token_at cs) → CutToken
-        fin [] g w = absurd (none_empty (go [] (token_at []) refl w))
-        fin (c ∷ cs) g w = cut_some c cs g (go (c ∷ cs) (token_at (c ∷ cs)) refl w)
-
--- What was answered is what matched.
-hit_of : (m : Match) (k n : ℕ) → tok k n ≡ answer m → (k ≡ 0 → ⊥) → m ≡ hit k n
-hit_of nothing k n e z = absurd (z (ap (λ (t : Token). t.kind) e))
-hit_of (hit j x) k n e z = ap₂ hit (ap (λ (t : Token). t.kind) (sym e)) (ap (λ (t : Token). t.len) (sym e))
+-- A token is of some kind.
+pub token_kind : (cs : List ℕ) (k n : ℕ) → Some (tok k n) ≡ answer (token_at cs) → k ≡ 0 → ⊥
+token_kind cs k n e z = some_kind cs n (hit_of (token_at cs) k n e ∙ ap (λ (i : ℕ). hit i n) z)
 
 -- ---- What a reader does at a place: the blanks, and the token after them
 
 -- A token was read: it is the first of the tokens left, and what follows it may be read in the same way.
 pub record Cut (doc : Text) (at b : ℕ) (r : Next) : Type 0 where
-  pub tokens : rest doc at ≡ token (record { kind = kind_of_code r.kind; start = at + b; text = take r.len (drop (at + b) doc) }) ∷ rest doc (at + b + r.len)
-  pub valid : first_bad (drop (at + b + r.len) doc) ≡ none
+  pub tokens : rest doc at ≡ token (record { kind = kind_of_code r.token.kind; start = at + b; text = take r.token.len (drop (at + b) doc) }) ∷ rest doc (at + b + r.token.len)
+  pub valid : first_bad (drop (at + b + r.token.len) doc) ≡ none
   pub here_valid : first_bad (drop (at + b) doc) ≡ none
-  pub matched : token_at (decode (drop (at + b) doc)) ≡ hit r.kind r.len
-  pub known : r.kind ≤ last_kind
-  pub some_byte : 0 < r.len
-  pub clear : Clear (drop (at + b + r.len) doc) r.clear
+  pub matched : token_at (decode (drop (at + b) doc)) ≡ hit r.token.kind r.token.len
+  pub some_kind : r.token.kind ≡ 0 → ⊥
+  pub known : r.token.kind ≤ last_kind
+  pub some_byte : 0 < r.token.len
+  pub clear : Clear (drop (at + b + r.token.len) doc) r.clear
 
-module _ (doc : Text) (at b clear : ℕ) (r : Next) (v : first_bad (drop at doc) ≡ none) (c : Clear (drop at doc) clear) (g : BlanksAt (drop at doc) b) (m : NextAt (drop (at + b) doc) (clear - b) r) where
-  right : tok r.kind r.len ≡ answer (token_at (decode (drop (at + b) doc)))
-  right = m.right (blanks_valid doc at b v (g.right v)) (blanks_clear doc at b v (g.right v) clear c)
-
-  pub read_token : (r.kind ≡ 0 → ⊥) → Cut doc at b r
-  read_token z =
-      let t = cut_token doc at b v (g.right v) r.kind r.len right z in
+module _ (doc : Text) (at b clear : ℕ) (v : first_bad (drop at doc) ≡ none) (c : Clear (drop at doc) clear) (g : BlanksAt (drop at doc) b) where
+  pub read_token : (r : Next) → NextAt (drop (at + b) doc) (clear - b) (Some r) → Cut doc at b r
+  read_token r m =
+      let right : Some r.token ≡ answer (token_at (decode (drop (at + b) doc))) = m.right (blanks_valid doc at b v (g.right v)) (blanks_clear doc at b v (g.right v) clear c) in
+      let t = cut_token doc at b v (g.right v) r.token.kind r.token.len right in
       record {
         tokens = t.0;
         valid = t.1.0;
         here_valid = blanks_valid doc at b v (g.right v);
-        matched = hit_of (token_at (decode (drop (at + b) doc))) r.kind r.len right z;
+        matched = hit_of (token_at (decode (drop (at + b) doc))) r.token.kind r.token.len right;
+        some_kind = token_kind (decode (drop (at + b) doc)) r.token.kind r.token.len right;
         known = t.1.1.0;
         some_byte = t.1.1.1;
         clear =
-            subst (λ (x : Text). Clear x r.clear) (drop-drop r.len (at + b) doc)
+            subst (λ (x : Text). Clear x r.clear) (drop-drop r.token.len (at + b) doc)
             (m.ahead (blanks_valid doc at b v (g.right v)) (blanks_clear doc at b v (g.right v) clear c));
       }
 
-  pub read_nothing : at + b < length doc → r.kind ≡ 0 → rest doc at ≡ unreadable (at + b) ∷ []
-  read_nothing h z = cut_none doc at b v (g.right v) r.kind r.len right h z
+  pub read_nothing : NextAt (drop (at + b) doc) (clear - b) None → at + b < length doc → rest doc at ≡ unreadable (at + b) ∷ []
+  read_nothing m h =
+      cut_none doc at b v (g.right v) (m.right (blanks_valid doc at b v (g.right v)) (blanks_clear doc at b v (g.right v) clear c)) h
 
   pub read_end : length doc ≤ at + b → rest doc at ≡ []
   read_end h = cut_end doc at b v (g.right v) h

@@ -2,7 +2,7 @@
 // The routines take the part of the document that starts at the cursor.
 #![tactic(auto)]
 
-ghost use Rattle.std.specs.Prelude.{◌≡◌, true, ◌-◌, ◌≤◌, ◌<◌, length, get_or};
+ghost use Rattle.std.specs.Prelude.{◌≡◌, ◌≤◌, ◌<◌, length, get_or};
 ghost use Rattle.token.specs.Regular.{in_ranges};
 ghost use Rattle.automaton.specs.Run.{TokenAt};
 ghost use Rattle.lexer_words.specs.Ahead.{NextAt};
@@ -14,7 +14,7 @@ use lexer_quoted::irirefs::iriref;
 use lexer_quoted::strings::quoted;
 use lexer_words::labels::label;
 use lexer_words::locals::local_part;
-use lexer_words::names::{minus, name};
+use lexer_words::names::name;
 use lexer_words::numbers::{dot, integer, signed};
 use lexer_words::tags::at_sign;
 use token::Kind;
@@ -54,105 +54,62 @@ pub fn skip_blanks(s: &[u8]) -> usize
 }
 
 // '^^'
-fn carets(s: &[u8]) -> Token
+fn carets(s: &[u8]) -> Option<Token>
     requires { (0 < length s.now) × (get_or s.now 0 0 ≡ 94) }
     ensures { TokenAt s.now result }
 {
     if s.len() <= 1 {
-        return Token {
-            kind: Kind::NONE,
-            len: 0,
-        };
+        return None;
     }
     if s[1] == b'^' {
-        return Token {
+        return Some(Token {
             kind: Kind::CARETS,
             len: 2,
-        };
+        });
     }
-    Token {
-        kind: Kind::NONE,
-        len: 0,
-    }
+    None
 }
 
-// The kind of a mark of one byte that begins no other token, else 0.
-fn mark_kind(b: u8) -> usize
+// The kind of a mark of one byte that begins no other token.
+fn mark_kind(b: u8) -> Option<usize>
     ensures { result ≡ mark_code b }
 {
     match b {
-        b',' => Kind::COMMA,
-        b';' => Kind::SEMICOLON,
-        b'[' => Kind::OPEN_BRACKET,
-        b']' => Kind::CLOSE_BRACKET,
-        b'(' => Kind::OPEN_PAREN,
-        b')' => Kind::CLOSE_PAREN,
-        b'{' => Kind::OPEN_BRACE,
-        b'}' => Kind::CLOSE_BRACE,
-        _ => 0,
+        b',' => Some(Kind::COMMA),
+        b';' => Some(Kind::SEMICOLON),
+        b'[' => Some(Kind::OPEN_BRACKET),
+        b']' => Some(Kind::CLOSE_BRACKET),
+        b'(' => Some(Kind::OPEN_PAREN),
+        b')' => Some(Kind::CLOSE_PAREN),
+        b'{' => Some(Kind::OPEN_BRACE),
+        b'}' => Some(Kind::CLOSE_BRACE),
+        _ => None,
     }
 }
 
-// A token after which as much is known as before.
-fn known(t: Token, clear: usize) -> Next
-    ensures { (result.kind ≡ t.kind) × (result.len ≡ t.len) × (result.clear ≡ clear - t.len) }
-{
-    let len = t.len;
-    Next {
-        kind: t.kind,
-        len: len,
-        clear: minus(clear, len),
-    }
-}
-
-// The token at the front, the longest that the terminals match there; kind and length are 0 where none can be read.
+// The token at the front, the longest that the terminals match there, if one can be read.
 // No prefixed name begins within the first `clear` bytes (0 says nothing), nor within the `clear` bytes after the token.
-pub fn next_token(s: &[u8], clear: usize) -> Next
+pub fn next_token(s: &[u8], clear: usize) -> Option<Next>
     ensures { NextAt s.now clear result }
 {
-    if s.len() == 0 {
-        return Next {
-            kind: Kind::NONE,
-            len: 0,
-            clear: 0,
-        };
-    }
-    let b = s[0];
-    let k = mark_kind(b);
-    if k != 0 {
-        return Next {
-            kind: k,
-            len: 1,
-            clear: minus(clear, 1),
-        };
-    }
-    match b {
-        b'<' => known(iriref(s), clear),
-        b'"' => known(
-            quoted(
-                s,
-                b'"',
-                Kind::STRING_LITERAL_QUOTE,
-                Kind::STRING_LITERAL_LONG_QUOTE,
-            ),
-            clear,
-        ),
-        b'\'' => known(
-            quoted(
-                s,
-                b'\'',
-                Kind::STRING_LITERAL_SINGLE_QUOTE,
-                Kind::STRING_LITERAL_LONG_SINGLE_QUOTE,
-            ),
-            clear,
-        ),
-        b'+' | b'-' => known(signed(s), clear),
-        b'0'..=b'9' => known(integer(s, 1), clear),
-        b'.' => known(dot(s), clear),
-        b'@' => known(at_sign(s), clear),
-        b'_' => known(label(s), clear),
-        b':' => known(local_part(s, 1), clear),
-        b'^' => known(carets(s), clear),
-        _ => name(s, clear),
-    }
+    let b = *s.first()?;
+    let token = match mark_kind(b) {
+        Some(kind) => Token { kind, len: 1 },
+        None => match b {
+            b'<' => iriref(s)?,
+            b'"' | b'\'' => quoted(s, b)?,
+            b'+' | b'-' => signed(s)?,
+            b'0'..=b'9' => integer(s, 1),
+            b'.' => dot(s),
+            b'@' => at_sign(s)?,
+            b'_' => label(s)?,
+            b':' => local_part(s, 1),
+            b'^' => carets(s)?,
+            _ => return name(s, clear),
+        },
+    };
+    Some(Next {
+        token,
+        clear: clear.saturating_sub(token.len),
+    })
 }

@@ -4,7 +4,6 @@
 ghost use Rattle.std.specs.Prelude.{◌≡◌, ◌≤◌, length};
 ghost use Rattle.lexer_bench.specs.Front.{valid_size};
 
-use lexer_words::names::minus;
 
 // How many tokens a text has up to its end, or to the first place where none can be read.
 #[unsafe(no_mangle)]
@@ -17,13 +16,16 @@ pub extern "C" fn bench_tokens(s: &[u8]) -> usize
     while at < s.len() {
         let b = lexer::skip_blanks(&s[at..]);
         let start = at + b;
-        let t = lexer::next_token(&s[start..], minus(clear, b));
-        let n = t.len;
+        let Some(next) = lexer::next_token(&s[start..], clear.saturating_sub(b)) else {
+            break;
+        };
+        let n = next.token.len;
+        // Of bytes that are no UTF-8, `NextAt` doesn't say that a token has some.
         if n == 0 {
-            return count;
+            break;
         }
         at = start + n;
-        clear = t.clear;
+        clear = next.clear;
         count += 1;
     }
     count

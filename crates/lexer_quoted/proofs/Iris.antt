@@ -7,6 +7,8 @@ use native.Mathlib.Omega.{arith}
 use borrow.Author.Tests.{eq-eqb, ne_eqb, leb-true, leb-false, le-leb, lt-leb, not-true, not-false}
 use lib.Dec.{eqb, leb}
 use lib.ListN.{length, get_or, drop}
+use Rattle.std.specs.Prelude.{Option, Some, None}
+use Rattle.automaton.specs.declared.Token.{Token}
 use Rattle.text.specs.Text.{Text}
 use Rattle.text.specs.Runs.{next_at}
 use Rattle.text.proofs.Runs.{next_walk, next_stop}
@@ -73,25 +75,25 @@ no_stop_high b h = rw (le-leb 128 b h)
 
 -- Within an IRIREF, where a run of its text stops.
 pub record Stopped (s : Text) (i : ℕ) : Type 0 where
-  pub inside : In s in_iri i 0 0
+  pub inside : In s in_iri i None
   pub stops : i < length s → iri_stop (get_or s i 0) ≡ true
 
 module _ (s : Text) where
   -- A byte at which no run stops, and on to the next at which one does.
-  on : (j : ℕ) → j < length s → iri_stop (get_or s j 0) ≡ false → In s in_iri j 0 0 → In s in_iri (j + 1) 0 0
+  on : (j : ℕ) → j < length s → iri_stop (get_or s j 0) ≡ false → In s in_iri j None → In s in_iri (j + 1) None
   on j h f g =
       ⊎_elim (λ e. over moves.high g h (leb-true 128 (get_or s j 0) e))
       (λ e. at_in (take_pass iri (in_at g h (set_low iri tt (get_or s j 0) e)) h tt e moves.plain))
       (or_true (leb 128 (get_or s j 0)) (in_ranges (get_or s j 0) iri) (not-false _ f))
 
-  pub iri_run : (i k : ℕ) → In s in_iri i 0 0 → k ≡ next_at iri_stop s i → Stopped s k
-  iri_run i k g e = record { inside = next_walk iri_stop s (λ (j : ℕ). In s in_iri j 0 0) on i k g.within e g; stops = next_stop iri_stop s i k e }
+  pub iri_run : (i k : ℕ) → In s in_iri i None → k ≡ next_at iri_stop s i → Stopped s k
+  iri_run i k g e = record { inside = next_walk iri_stop s (λ (j : ℕ). In s in_iri j None) on i k g.within e g; stops = next_stop iri_stop s i k e }
 
-  pub iri_start : 0 < length s → get_or s 0 0 ≡ 60 → In s in_iri 1 0 0
+  pub iri_start : 0 < length s → get_or s 0 0 ≡ 60 → In s in_iri 1 None
   iri_start h e = at_in (pass (begin s (λ x. absurd (omega arith)) (λ x. absurd (omega arith))) h (omega arith) (eq-eqb _ _ e) moves.opens)
 
   module _ (i : ℕ) (g : Stopped s i) where
-    pub iri_end : length s ≤ i → TokenAt s (tok 0 0)
+    pub iri_end : length s ≤ i → TokenAt s None
     iri_end h = in_end g.inside h
 
     module _ (h : i < length s) where
@@ -101,24 +103,24 @@ module _ (s : Text) where
       low : get_or s i 0 < 128
       low = leb-false 128 (get_or s i 0) neither.0
 
-      at : At s in_iri i 0 0
+      at : At s in_iri i None
       at = in_at g.inside h low
 
-      pub iri_close : get_or s i 0 ≡ 62 → TokenAt s (tok 1 (i + 1))
+      pub iri_close : get_or s i 0 ≡ 62 → TokenAt s (Some (tok 1 (i + 1)))
       iri_close e = stop (gain at h low (eq-eqb _ _ e) (omega arith) moves.closes) moves.closed
 
-      pub iri_bad : (get_or s i 0 ≡ 62 → ⊥) → (get_or s i 0 ≡ 92 → ⊥) → TokenAt s (tok 0 0)
+      pub iri_bad : (get_or s i 0 ≡ 62 → ⊥) → (get_or s i 0 ≡ 92 → ⊥) → TokenAt s None
       iri_bad n m =
           fail at h low
           (ap (λ (v : Bool). not (v || (eqb (get_or s i 0) 62 || eqb (get_or s i 0) 92))) neither.1 ∙ simp (ne_eqb _ _ n, ne_eqb _ _ m))
           moves.refuses
 
-      module _ (e : get_or s i 0 ≡ 92) (n : ℕ) (f : n ≡ uchar_size (drop (i + 1) s)) where
-        escaped : Escaped s in_iri (i + 1) 0 0 n
+      module _ (e : get_or s i 0 ≡ 92) (r : Option ℕ) (f : r ≡ uchar_size (drop (i + 1) s)) where
+        escaped : Escaped s in_iri (i + 1) None r
         escaped = uchar_on moves.escape (pass at h low (eq-eqb _ _ e) moves.slash) (λ x. refl) f
 
-        pub iri_broken : n ≡ 0 → TokenAt s (tok 0 0)
+        pub iri_broken : r ≡ None → TokenAt s None
         iri_broken z = escaped.broken z
 
-        pub iri_escaped : (n ≡ 0 → ⊥) → In s in_iri (i + 1 + n) 0 0
-        iri_escaped z = at_in (escaped.whole z)
+        pub iri_escaped : (n : ℕ) → r ≡ Some n → In s in_iri (i + 1 + n) None
+        iri_escaped n z = at_in (escaped.whole n z)

@@ -8,6 +8,8 @@ use native.Mathlib.Omega.{arith}
 use borrow.Author.Tests.{eq-eqb, ne_eqb, eqb-false}
 use lib.Dec.{T, eqb, eqb→eq}
 use lib.ListN.{length, get_or, drop}
+use Rattle.std.specs.Prelude.{Option, Some, None}
+use Rattle.automaton.specs.declared.Token.{Token}
 use Rattle.text.specs.Text.{Text}
 use Rattle.text.specs.Runs.{four, next_at}
 use Rattle.text.proofs.Compare.{or_left, or_right}
@@ -98,53 +100,53 @@ module _ (s : Text) (q kind : ℕ) (short : Short q kind) where
   M : ShortMoves q kind
   M = short_moves q kind short
 
-  pub str_start : 0 < length s → get_or s 0 0 ≡ q → tripled s ≡ false → In s (in_string q) 1 0 0
+  pub str_start : 0 < length s → get_or s 0 0 ≡ q → tripled s ≡ false → In s (in_string q) 1 None
   str_start h e t = let a = M.ascii in at_in (pass (begin_short s t) h (omega arith) (eq-eqb _ _ e) M.opens)
 
-  module _ (i : ℕ) (g : In s (in_string q) i 0 0) where
-    pub str_end : length s ≤ i → TokenAt s (tok 0 0)
+  module _ (i : ℕ) (g : In s (in_string q) i None) where
+    pub str_end : length s ≤ i → TokenAt s None
     str_end h = in_end g h
 
     module _ (h : i < length s) where
-      pub str_close : get_or s i 0 ≡ q → TokenAt s (tok kind (i + 1))
+      pub str_close : get_or s i 0 ≡ q → TokenAt s (Some (tok kind (i + 1)))
       str_close e =
           let a = M.ascii in
           let l : get_or s i 0 < 128 = omega arith in
           stop (gain (in_at g h l) h l (eq-eqb _ _ e) M.some M.closes) M.closed
 
-      pub str_line : get_or s i 0 ≡ 10 → TokenAt s (tok 0 0)
+      pub str_line : get_or s i 0 ≡ 10 → TokenAt s None
       str_line e = let l : get_or s i 0 < 128 = omega arith in fail (in_at g h l) h l (eq-eqb _ _ e) M.line
 
-      pub str_return : get_or s i 0 ≡ 13 → TokenAt s (tok 0 0)
+      pub str_return : get_or s i 0 ≡ 13 → TokenAt s None
       str_return e = let l : get_or s i 0 < 128 = omega arith in fail (in_at g h l) h l (eq-eqb _ _ e) M.return
 
-      pub str_plain : (get_or s i 0 ≡ q → ⊥) → (get_or s i 0 ≡ 10 → ⊥) → (get_or s i 0 ≡ 13 → ⊥) → (get_or s i 0 ≡ 92 → ⊥) → In s (in_string q) (i + 1) 0 0
+      pub str_plain : (get_or s i 0 ≡ q → ⊥) → (get_or s i 0 ≡ 10 → ⊥) → (get_or s i 0 ≡ 13 → ⊥) → (get_or s i 0 ≡ 92 → ⊥) → In s (in_string q) (i + 1) None
       str_plain n1 n2 n3 n4 =
           ⊎_elim
           (λ l. at_in (pass (in_at g h l) h l (simp (ne_eqb _ _ n1, ne_eqb _ _ n2, ne_eqb _ _ n3, ne_eqb _ _ n4)) M.plain))
           (λ l. over M.high g h l)
           (split (get_or s i 0) 128)
 
-      module _ (e : get_or s i 0 ≡ 92) (n : ℕ) (f : n ≡ escape_size (drop (i + 1) s)) where
-        escaped : Escaped s (in_string q) (i + 1) 0 0 n
+      module _ (e : get_or s i 0 ≡ 92) (r : Option ℕ) (f : r ≡ escape_size (drop (i + 1) s)) where
+        escaped : Escaped s (in_string q) (i + 1) None r
         escaped = let l : get_or s i 0 < 128 = omega arith in escape_on M.escape (pass (in_at g h l) h l (eq-eqb _ _ e) M.slash) f
 
-        pub str_broken : n ≡ 0 → TokenAt s (tok 0 0)
+        pub str_broken : r ≡ None → TokenAt s None
         str_broken z = escaped.broken z
 
-        pub str_escaped : (n ≡ 0 → ⊥) → In s (in_string q) (i + 1 + n) 0 0
-        str_escaped z = at_in (escaped.whole z)
+        pub str_escaped : (n : ℕ) → r ≡ Some n → In s (in_string q) (i + 1 + n) None
+        str_escaped n z = at_in (escaped.whole n z)
 
   -- A byte that none of the tests stops at, and on to the next that one does.
-  str_on : (j : ℕ) → j < length s → four q 10 13 92 (get_or s j 0) ≡ false → In s (in_string q) j 0 0 → In s (in_string q) (j + 1) 0 0
+  str_on : (j : ℕ) → j < length s → four q 10 13 92 (get_or s j 0) ≡ false → In s (in_string q) j None → In s (in_string q) (j + 1) None
   str_on j h f g =
       let c = get_or s j 0 in
       let a = or_left (eqb c q || eqb c 10) (eqb c 13 || eqb c 92) f in
       let b = or_right (eqb c q || eqb c 10) (eqb c 13 || eqb c 92) f in
       str_plain j g h (eqb-false c q (or_left (eqb c q) (eqb c 10) a)) (eqb-false c 10 (or_right (eqb c q) (eqb c 10) a)) (eqb-false c 13 (or_left (eqb c 13) (eqb c 92) b)) (eqb-false c 92 (or_right (eqb c 13) (eqb c 92) b))
 
-  pub str_run : (i k : ℕ) → i ≤ length s → k ≡ next_at (four q 10 13 92) s i → In s (in_string q) i 0 0 → In s (in_string q) k 0 0
-  str_run i k h e g = next_walk (four q 10 13 92) s (λ (j : ℕ). In s (in_string q) j 0 0) str_on i k h e g
+  pub str_run : (i k : ℕ) → i ≤ length s → k ≡ next_at (four q 10 13 92) s i → In s (in_string q) i None → In s (in_string q) k None
+  str_run i k h e g = next_walk (four q 10 13 92) s (λ (j : ℕ). In s (in_string q) j None) str_on i k h e g
 
 -- ---- Long strings
 
@@ -232,9 +234,9 @@ long_moves q kind (inr e) = rw (e.0, e.1) single_long
 
 -- The state after a run of quotes.
 abbrev pub LongAt : Text → ℕ → ℕ → ℕ → Type 0
-LongAt s q i zero = In s (in_long q) i 0 0
-LongAt s q i (suc zero) = At s (in_long_one q) i 0 0
-LongAt s q i (suc (suc zero)) = At s (in_long_two q) i 0 0
+LongAt s q i zero = In s (in_long q) i None
+LongAt s q i (suc zero) = At s (in_long_one q) i None
+LongAt s q i (suc (suc zero)) = At s (in_long_two q) i None
 LongAt s q i (suc (suc (suc n))) = ⊥
 
 quote_eq : (a b c k : ℕ) → T (eqb a k && eqb b k && eqb c k) → (b ≡ a) × (c ≡ a)
@@ -259,7 +261,7 @@ module _ (s : Text) (q kind : ℕ) (long : Long q kind) where
   L : LongMoves q kind
   L = long_moves q kind long
 
-  pub long_begin : 3 ≤ length s → get_or s 0 0 ≡ q → tripled s ≡ true → In s (in_long q) 3 0 0
+  pub long_begin : 3 ≤ length s → get_or s 0 0 ≡ q → tripled s ≡ true → In s (in_long q) 3 None
   long_begin h e t =
       let a = L.ascii in
       let u = three s t in
@@ -270,21 +272,21 @@ module _ (s : Text) (q kind : ℕ) (long : Long q kind) where
       at_in (pass a2 (omega arith) (omega arith) (eq-eqb _ _ e2) L.open3)
 
   module _ (i run : ℕ) (g : LongAt s q i run) where
-    pub long_end : length s ≤ i → TokenAt s (tok 0 0)
+    pub long_end : length s ≤ i → TokenAt s None
     long_end h = fin run g
       where
-        fin : (run : ℕ) → LongAt s q i run → TokenAt s (tok 0 0)
+        fin : (run : ℕ) → LongAt s q i run → TokenAt s None
         fin zero g = in_end g h
         fin (suc zero) g = at_end g h
         fin (suc (suc zero)) g = at_end g h
         fin (suc (suc (suc n))) g = absurd g
 
     module _ (h : i < length s) where
-      pub long_close : get_or s i 0 ≡ q → run ≡ 2 → TokenAt s (tok kind (i + 1))
+      pub long_close : get_or s i 0 ≡ q → run ≡ 2 → TokenAt s (Some (tok kind (i + 1)))
       long_close e r =
           let a = L.ascii in
           let l : get_or s i 0 < 128 = omega arith in
-          let g2 : At s (in_long_two q) i 0 0 = subst (LongAt s q i) r g in
+          let g2 : At s (in_long_two q) i None = subst (LongAt s q i) r g in
           stop (gain g2 h l (eq-eqb _ _ e) L.some L.third) L.closed
 
       pub long_quote : get_or s i 0 ≡ q → (run ≡ 2 → ⊥) → LongAt s q (i + 1) (run + 1)
@@ -303,7 +305,7 @@ module _ (s : Text) (q kind : ℕ) (long : Long q kind) where
           fin (suc (suc (suc n))) g m = absurd g
 
       -- By the state that it is in.
-      each : {X : Type 0} → ((x : State) → From q x → At s x i 0 0 → X) → get_or s i 0 < 128 → X
+      each : {X : Type 0} → ((x : State) → From q x → At s x i None → X) → get_or s i 0 < 128 → X
       each {X = X} f l = fin run g
         where
           fin : (run : ℕ) → LongAt s q i run → X
@@ -312,37 +314,37 @@ module _ (s : Text) (q kind : ℕ) (long : Long q kind) where
           fin (suc (suc zero)) g = f (in_long_two q) L.from2 g
           fin (suc (suc (suc n))) g = absurd g
 
-      pub long_plain : (get_or s i 0 ≡ q → ⊥) → (get_or s i 0 ≡ 92 → ⊥) → In s (in_long q) (i + 1) 0 0
+      pub long_plain : (get_or s i 0 ≡ q → ⊥) → (get_or s i 0 ≡ 92 → ⊥) → In s (in_long q) (i + 1) None
       long_plain n1 n2 =
           ⊎_elim (λ l. each (λ x p a. at_in (pass a h l (simp (ne_eqb _ _ n1, ne_eqb _ _ n2)) p.plain)) l) (λ l. fin l run g)
           (split (get_or s i 0) 128)
         where
-          fin : 128 ≤ get_or s i 0 → (run : ℕ) → LongAt s q i run → In s (in_long q) (i + 1) 0 0
+          fin : 128 ≤ get_or s i 0 → (run : ℕ) → LongAt s q i run → In s (in_long q) (i + 1) None
           fin l zero g = over L.from0.high g h l
           fin l (suc zero) g = over_to L.from1.high g h l
           fin l (suc (suc zero)) g = over_to L.from2.high g h l
           fin l (suc (suc (suc n))) g = absurd g
 
-      module _ (e : get_or s i 0 ≡ 92) (n : ℕ) (f : n ≡ escape_size (drop (i + 1) s)) where
-        escaped_long : Escaped s (in_long q) (i + 1) 0 0 n
+      module _ (e : get_or s i 0 ≡ 92) (r : Option ℕ) (f : r ≡ escape_size (drop (i + 1) s)) where
+        escaped_long : Escaped s (in_long q) (i + 1) None r
         escaped_long =
             let l : get_or s i 0 < 128 = omega arith in
             escape_on L.escape (each (λ x p a. pass a h l (eq-eqb _ _ e) p.slash) l) f
 
-        pub long_broken : n ≡ 0 → TokenAt s (tok 0 0)
+        pub long_broken : r ≡ None → TokenAt s None
         long_broken z = escaped_long.broken z
 
-        pub long_escaped : (n ≡ 0 → ⊥) → In s (in_long q) (i + 1 + n) 0 0
-        long_escaped z = at_in (escaped_long.whole z)
+        pub long_escaped : (n : ℕ) → r ≡ Some n → In s (in_long q) (i + 1 + n) None
+        long_escaped n z = at_in (escaped_long.whole n z)
 
-  long_on : (j : ℕ) → j < length s → four q 92 q 92 (get_or s j 0) ≡ false → In s (in_long q) j 0 0 → In s (in_long q) (j + 1) 0 0
+  long_on : (j : ℕ) → j < length s → four q 92 q 92 (get_or s j 0) ≡ false → In s (in_long q) j None → In s (in_long q) (j + 1) None
   long_on j h f g =
       let c = get_or s j 0 in
       let a = or_left (eqb c q || eqb c 92) (eqb c q || eqb c 92) f in
       long_plain j 0 g h (eqb-false c q (or_left (eqb c q) (eqb c 92) a)) (eqb-false c 92 (or_right (eqb c q) (eqb c 92) a))
 
-  pub long_run : (i k : ℕ) → i ≤ length s → k ≡ next_at (four q 92 q 92) s i → In s (in_long q) i 0 0 → In s (in_long q) k 0 0
-  long_run i k h e g = next_walk (four q 92 q 92) s (λ (j : ℕ). In s (in_long q) j 0 0) long_on i k h e g
+  pub long_run : (i k : ℕ) → i ≤ length s → k ≡ next_at (four q 92 q 92) s i → In s (in_long q) i None → In s (in_long q) k None
+  long_run i k h e g = next_walk (four q 92 q 92) s (λ (j : ℕ). In s (in_long q) j None) long_on i k h e g
 
 -- ---- Which of them
 
@@ -369,7 +371,3 @@ module _ (s : Text) (q : ℕ) (e : get_or s 0 0 ≡ q) where
   pub tripled_no : (get_or s 1 0 ≡ q → ⊥) ⊎ (get_or s 2 0 ≡ q → ⊥) → tripled s ≡ false
   tripled_no n =
       by (tripled s) (λ f. let u = three s f in ⊎_elim (λ x. absurd (x (u.0 ∙ e))) (λ x. absurd (x (u.1 ∙ e))) n) (λ f. f)
-
-pub quote_of : (q k : ℕ) → Short q k → (q ≡ 34) ⊎ (q ≡ 39)
-quote_of q k (inl e) = inl e.0
-quote_of q k (inr e) = inr e.0

@@ -6,40 +6,26 @@ use characters::bytes::is_echar;
 use characters::runs::hexes;
 
 // UCHAR ::= '\u' HEX HEX HEX HEX | '\U' HEX HEX HEX HEX HEX HEX HEX HEX
-// The length of its part after the backslash, or 0.
-pub fn uchar(s: &[u8], at: usize) -> usize
+// The length of its part after the backslash.
+pub fn uchar(s: &[u8], at: usize) -> Option<usize>
     requires { at ≤ length s.now }
     ensures { result ≡ uchar_size (drop at s.now) }
 {
-    if s.len() <= at {
-        return 0;
+    match *s.get(at)? {
+        b'u' => hexes(s, at + 1, 4).then_some(5),
+        b'U' => hexes(s, at + 1, 8).then_some(9),
+        _ => None,
     }
-    let b = s[at];
-    if b == b'u' {
-        if hexes(s, at + 1, 4) {
-            return 5;
-        }
-        return 0;
-    }
-    if b == b'U' {
-        if hexes(s, at + 1, 8) {
-            return 9;
-        }
-    }
-    0
 }
 
 // ECHAR ::= '\' [tbnrf"'\]
-// The length of the part of ECHAR or UCHAR after the backslash, or 0.
-pub fn escape(s: &[u8], at: usize) -> usize
+// The length of the part of ECHAR or UCHAR after the backslash.
+pub fn escape(s: &[u8], at: usize) -> Option<usize>
     requires { at ≤ length s.now }
     ensures { result ≡ escape_size (drop at s.now) }
 {
-    if s.len() <= at {
-        return 0;
-    }
-    if is_echar(s[at]) {
-        return 1;
+    if is_echar(*s.get(at)?) {
+        return Some(1);
     }
     uchar(s, at)
 }

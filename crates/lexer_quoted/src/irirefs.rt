@@ -74,7 +74,7 @@ fn next_stop(s: &[u8], at: usize) -> usize
 }
 
 // IRIREF ::= '<' ([^#x00-#x20<>"{}|^`\] | UCHAR)* '>'
-pub fn iriref(s: &[u8]) -> Token
+pub fn iriref(s: &[u8]) -> Option<Token>
     requires { (0 < length s.now) × (get_or s.now 0 0 ≡ 60) }
     ensures { TokenAt s.now result }
 {
@@ -82,29 +82,17 @@ pub fn iriref(s: &[u8]) -> Token
     while i < s.len() {
         let b = s[i];
         if b == b'\\' {
-            let n = uchar(s, i + 1);
-            if n == 0 {
-                return Token {
-                    kind: Kind::NONE,
-                    len: 0,
-                };
-            }
+            let n = uchar(s, i + 1)?;
             i = next_stop(s, i + 1 + n);
         } else {
             if b == b'>' {
-                return Token {
+                return Some(Token {
                     kind: Kind::IRIREF,
                     len: i + 1,
-                };
+                });
             }
-            return Token {
-                kind: Kind::NONE,
-                len: 0,
-            };
+            return None;
         }
     }
-    Token {
-        kind: Kind::NONE,
-        len: 0,
-    }
+    None
 }

@@ -11,6 +11,8 @@ use borrow.Author.Tests.{eqb-true}
 use lib.Dec.{T, eqb, ltb, ltb→lt}
 use lib.ListN.{length, get_or, drop, drop_of_length-le}
 use lib.Seq.{drop-cons}
+use Rattle.std.specs.Prelude.{Option, Some, None}
+use Rattle.automaton.specs.declared.Token.{Token}
 use Rattle.text.specs.Text.{Text, cond}
 use Rattle.utf8.proofs.Tests.{by, split, and_true, or_true}
 use Rattle.token.specs.Regular.{step}
@@ -91,17 +93,14 @@ one_low x y b t e =
     (or_true (eqb b x) (eqb b y) e)
 
 -- A letter that leads on, where a token of the kind j ends or none has ended.
-letter_on : {s : Text} {q q1 : State} {i kind len : ℕ} {f : ℕ → Bool} (j : ℕ) → Sent q f q1 j → i < length s → get_or s i 0 < 128 → f (get_or s i 0) ≡ true
-    → (j ≡ 0 → (kind ≡ 0) × (len ≡ 0)) → At s q i kind len → At s q1 (i + 1) j (end_at j (i + 1))
-letter_on zero t h l e n g =
-    let a = (n refl).0 in
-    let b = (n refl).1 in
-    rw (a, b) at (pass g h l e t)
+letter_on : {s : Text} {q q1 : State} {i : ℕ} {seen : Option Token} {f : ℕ → Bool} (j : ℕ) → Sent q f q1 j → i < length s → get_or s i 0 < 128 → f (get_or s i 0) ≡ true
+    → (j ≡ 0 → seen ≡ None) → At s q i seen → At s q1 (i + 1) (end_at j (i + 1))
+letter_on zero t h l e n g = rw (n refl) at (pass g h l e t)
 letter_on (suc j) t h l e n g = gain g h l e (omega arith) t
 
 module _ (s : Text) (z : State) (k j : ℕ) where
   -- No letter more agrees.
-  word_none : (size : ℕ) {q : State} {i : ℕ} {f : ℕ → Bool} → Alias q z f → At s q i j (end_at j i) → (i < length s → f (get_or s i 0) ≡ false)
+  word_none : (size : ℕ) {q : State} {i : ℕ} {f : ℕ → Bool} → Alias q z f → At s q i (end_at j i) → (i < length s → f (get_or s i 0) ≡ false)
       → (m : ℕ) → m ≡ 0 → WordAt s i m (suc size) z k j
   word_none size {q} {i} t g n m e =
       let a : i + m ≡ i = omega arith in
@@ -114,7 +113,7 @@ module _ (s : Text) (z : State) (k j : ℕ) where
       let o = r.short in
       record { short = omega arith; whole = λ p. rw a (r.whole (omega arith)); part = λ p. rw a (r.part (λ o. p (omega arith))) }
 
-  pub word_on : (low up : Text) (q : State) (i : ℕ) → T (spells q low up z k j) → At s q i j (end_at j i) → (m : ℕ) → m ≡ agreeing (drop i s) low up
+  pub word_on : (low up : Text) (q : State) (i : ℕ) → T (spells q low up z k j) → At s q i (end_at j i) → (m : ℕ) → m ≡ agreeing (drop i s) low up
       → WordAt s i m (length low) z k j
   unfolding agreeing
   word_on [] up q i t g m e = absurd t
@@ -158,7 +157,7 @@ module _ (s : Text) (z : State) (k j : ℕ) where
       (λ p.
       word_more (suc (length low)) i m (agreeing (drop (i + 1) s) (x' ∷ low) up)
       (word_on (x' ∷ low) up (step x q) (i + 1) u2.1
-      (letter_on j (record { test = u0.1 }) l (one_low x y (get_or s i 0) u0.0 p) p (λ o. (o, ap (λ (n : ℕ). end_at n i) o)) g)
+      (letter_on j (record { test = u0.1 }) l (one_low x y (get_or s i 0) u0.0 p) p (λ o. ap (λ (n : ℕ). end_at n i) o) g)
       (agreeing (drop (i + 1) s) (x' ∷ low) up) refl)
       (e ∙ d ∙ ap (λ (b : Bool). cond b (suc (agreeing (drop (i + 1) s) (x' ∷ low) up)) 0) p))
       (λ p.
@@ -182,7 +181,7 @@ module _ (s : Text) (z : State) (k j : ℕ) where
 
   -- A word whose first letter stands there.
   pub word_first : (x y : ℕ) (low up : Text) (q : State) (i : ℕ) → T (narrow x y && sends q (one_of x y) (step x q) j && spells (step x q) low up z k j)
-      → i < length s → one_of x y (get_or s i 0) ≡ true → At s q i 0 0 → Word s i (x ∷ low) (y ∷ up) z k j
+      → i < length s → one_of x y (get_or s i 0) ≡ true → At s q i None → Word s i (x ∷ low) (y ∷ up) z k j
   unfolding agreeing
   word_first x y low up q i t h p g = record {
     from = omega arith;
@@ -190,7 +189,7 @@ module _ (s : Text) (z : State) (k j : ℕ) where
         let d : agreeing (drop i s) (x ∷ low) (y ∷ up) ≡ cond (one_of x y (get_or s i 0)) (suc (agreeing (drop (i + 1) s) low up)) 0 = rw (add-one, drop-cons s i 0 h) in
         word_more (length low) i m (agreeing (drop (i + 1) s) low up)
         (word_on low up (step x q) (i + 1) u.1
-        (letter_on j (record { test = u0.1 }) h (one_low x y (get_or s i 0) u0.0 p) p (λ _. (refl, refl)) g) (agreeing (drop (i + 1) s) low up) refl)
+        (letter_on j (record { test = u0.1 }) h (one_low x y (get_or s i 0) u0.0 p) p (λ _. refl) g) (agreeing (drop (i + 1) s) low up) refl)
         (e ∙ d ∙ ap (λ (b : Bool). cond b (suc (agreeing (drop (i + 1) s) low up)) 0) p);
   }
     where

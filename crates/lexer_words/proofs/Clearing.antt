@@ -11,6 +11,7 @@ use borrow.Author.Tests.{eq-eqb, ne_eqb, eqb-true, lt-ltb, le-ltb}
 use lib.Dec.{T, eqb}
 use lib.ListN.{length, get_or, drop, length-append, length-drop}
 use lib.Seq.{drop_at}
+use Rattle.std.specs.Prelude.{Option, Some, None}
 use Rattle.text.specs.Text.{Text}
 use Rattle.utf8.specs.Utf8.{encode, encodes, width, decode, first_bad}
 use Rattle.utf8.specs.Scalar.{Scalar, Scalars, Encodes}
@@ -22,17 +23,16 @@ use Rattle.token.specs.Terminals.{terminals, long_terminals, tripled, terminals_
 use Rattle.token.proofs.Longest.{token_longest}
 use Rattle.automaton.specs.Levels.{intervals}
 use Rattle.automaton.specs.States.{State, in_prefix, prefix_dot, after_colon, open_states}
-use Rattle.automaton.specs.Run.{tok, answer, run, Front, Rest, Past, At, TokenAt}
+use Rattle.automaton.specs.Run.{tok, answer, len_of, run, Front, Rest, Past, At, TokenAt}
 use Rattle.automaton.specs.declared.Next.{Next}
 use Rattle.automaton.specs.declared.Token.{Token}
 use Rattle.automaton.proofs.Steps.{only, never, sends, high_sends, mimics, Sent, Alias, alias_step, sent_kind, front_whole, front_place, whole_rest, by_nothing, gain}
 use Rattle.characters.specs.Bytes.{letter}
 use Rattle.characters.specs.Names.{base, passes}
 use Rattle.characters.proofs.Points.{first, CharSent, CharEnds, point_to, point_dead}
-use Rattle.lexer_words.specs.Agree.{end_at}
-use Rattle.lexer_words.specs.Ahead.{prefixed, nameless, colon_first, Clear, next, NextAt, settled}
+use Rattle.lexer_words.specs.Ahead.{prefixed, nameless, colon_first, Clear, next, NextAt, word_of, settled}
 use Rattle.lexer_words.specs.Runs.{in_run, All_run, Scan, Beyond, RunAt}
-use Rattle.lexer_words.proofs.Muting.{kinds_pass, run_passes, only_kinds, Fails, Mute, mute_fails, mute_dead}
+use Rattle.lexer_words.proofs.Muting.{kinds_pass, PassesToo, run_passes, only_kinds, Fails, Mute, mute_fails, mute_dead}
 use Rattle.lexer_words.proofs.Running.{whole_scan, last_dot, dot_before, scan_last, Pair, state, stop_dead, run_over, mute_run}
 
 -- ---- The names alone
@@ -193,14 +193,14 @@ module _ (s : Text) (at i : ℕ) (g : RunAt s at i) where
 
   -- ---- The automaton after a run within a prefix
 
-  module _ {kind len : ℕ} (a : At s in_prefix at kind len) where
+  module _ {seen : Option Token} (a : At s in_prefix at seen) where
     -- The run over code points that begin with a run.
     over_run : (ds xs ys : List ℕ) → ds ≡ xs ++ ys → Scalars ds → All_run xs
-        → run in_prefix at kind len ds ≡ run (state moves.prefix (last_dot false xs)) (at + size width xs) kind len ys
+        → run in_prefix at seen ds ≡ run (state moves.prefix (last_dot false xs)) (at + size width xs) seen ys
     over_run ds xs ys w sc r =
-        ap (λ (x : List ℕ). run in_prefix at kind len x) w ∙ run_over moves.prefix xs ys false at kind len (subst Scalars w sc) r
+        ap (λ (x : List ℕ). run in_prefix at seen x) w ∙ run_over moves.prefix xs ys false at seen (subst Scalars w sc) r
 
-    after_run : At s (state moves.prefix (dot_before s at i)) i kind len
+    after_run : At s (state moves.prefix (dot_before s at i)) i seen
     after_run = record {
       within = g.scanned.within;
       last = let x = a.last in let y = g.scanned.from in omega arith;
@@ -210,8 +210,8 @@ module _ (s : Text) (at i : ℕ) (g : RunAt s at i) where
           (a.rest cs z e);
     }
       where
-        go : (cs : List ℕ) (z : Text) → Front s cs z → (r : Rest s in_prefix at kind len cs z) → Scan s at i r.ds z ⊎ Beyond at i r.ds
-            → Rest s (state moves.prefix (dot_before s at i)) i kind len cs z ⊎ Past i kind len cs
+        go : (cs : List ℕ) (z : Text) → Front s cs z → (r : Rest s in_prefix at seen cs z) → Scan s at i r.ds z ⊎ Beyond at i r.ds
+            → Rest s (state moves.prefix (dot_before s at i)) i seen cs z ⊎ Past i seen cs
         go cs z e r (inl c) =
             inl
             (record {
@@ -220,7 +220,7 @@ module _ (s : Text) (at i : ℕ) (g : RunAt s at i) where
               same =
                   sym
                   (over_run r.ds c.xs c.ys c.whole r.left.scalars c.run
-                  ∙ ap₂ (λ (d : Bool) (n : ℕ). run (state moves.prefix d) n kind len c.ys) (scan_last s at i r.ds z r.left c) c.sized)
+                  ∙ ap₂ (λ (d : Bool) (n : ℕ). run (state moves.prefix d) n seen c.ys) (scan_last s at i r.ds z r.left c) c.sized)
                   ∙ r.same;
             })
         go cs z e r (inr c) =
@@ -232,14 +232,14 @@ module _ (s : Text) (at i : ℕ) (g : RunAt s at i) where
               kept = λ _. sym (over_run r.ds r.ds [] (sym (append-nil r.ds)) r.left.scalars c.run) ∙ r.same;
             })
 
-    pub prefix_token : NoColon → TokenAt s (tok kind len)
+    pub prefix_token : NoColon → TokenAt s seen
     prefix_token n =
         by_nothing after_run
         (λ c u sc d. let y = follows n c u sc d in stop_dead moves.prefix (dot_before s at i) c sc y.0 y.1)
 
-    pub prefix_colon : i < length s → get_or s i 0 ≡ 58 → dot_before s at i ≡ false → At s after_colon (i + 1) 2 (i + 1)
+    pub prefix_colon : i < length s → get_or s i 0 ≡ 58 → dot_before s at i ≡ false → At s after_colon (i + 1) (Some (tok 2 (i + 1)))
     prefix_colon h e f =
-        let b : At s in_prefix i kind len = subst (λ (d : Bool). At s (state moves.prefix d) i kind len) f after_run in
+        let b : At s in_prefix i seen = subst (λ (d : Bool). At s (state moves.prefix d) i seen) f after_run in
         gain b h (omega arith) (eq-eqb _ _ e) (omega arith) moves.colon
 
 -- ---- What is known after a token
@@ -265,24 +265,24 @@ clear_drop s n len front back v c w z b = record {
       c.free v (front ++ ds) es (w ∙ ap (λ (x : List ℕ). front ++ x) (sym b ∙ d) ∙ sym (append_assoc front ds es)) (omega arith);
 }
 
-pub clear_after : (s : Text) (n k len : ℕ) → first_bad s ≡ none → Clear s n → tok k len ≡ answer (token_at (decode s)) → Clear (drop len s) (n - len)
-clear_after s n k len v c e = go (token_at (decode s)) refl (token_longest (decode s))
+pub clear_after : (s : Text) (n : ℕ) (r : Option Token) → first_bad s ≡ none → Clear s n → r ≡ answer (token_at (decode s)) → Clear (drop (len_of r) s) (n - len_of r)
+clear_after s n r v c e = go (token_at (decode s)) refl (token_longest (decode s))
   where
-    go : (m : Match) → token_at (decode s) ≡ m → Longest width (terminals_at (decode s)) (decode s) (token_at (decode s)) → Clear (drop len s) (n - len)
+    go : (m : Match) → token_at (decode s) ≡ m → Longest width (terminals_at (decode s)) (decode s) (token_at (decode s)) → Clear (drop (len_of r) s) (n - len_of r)
     go nothing f l =
-        let z : len ≡ 0 = ap (λ (t : Token). t.len) (e ∙ ap answer f) in
-        clear_drop s n len [] (decode s) v c refl z (ap (λ (x : ℕ). decode (drop x s)) z)
+        let z : len_of r ≡ 0 = ap len_of (e ∙ ap answer f) in
+        clear_drop s n (len_of r) [] (decode s) v c refl z (ap (λ (x : ℕ). decode (drop x s)) z)
     go (hit j m) f l =
-        let z : len ≡ m = ap (λ (t : Token). t.len) (e ∙ ap answer f) in
+        let z : len_of r ≡ m = ap len_of (e ∙ ap answer f) in
         let h : Hit width (terminals_at (decode s)) (decode s) j m = subst (Longest width (terminals_at (decode s)) (decode s)) f l in
         let g = token_left s (decode s) (terminals_at (decode s)) j m (valid_encoded s v) h in
-        clear_drop s n len h.front h.back v c h.whole (z ∙ h.bytes)
+        clear_drop s n (len_of r) h.front h.back v c h.whole (z ∙ h.bytes)
         (ap (λ (x : ℕ). decode (drop x s)) z ∙ (encoded_valid (drop m s) h.back g).1)
 
 -- ---- The answers
 
 -- A token with nothing known of what follows.
-pub next_token : (s : Text) (r : Token) → TokenAt s r → NextAt s 0 (next r.kind r.len 0)
+pub next_token : (s : Text) (t : Token) → TokenAt s (Some t) → NextAt s 0 (Some (next t 0))
 next_token s r t = record {
   within = t.within;
   right = λ v c. t.right (decode s) (valid_encoded s v);
@@ -291,15 +291,15 @@ next_token s r t = record {
 }
 
 -- A token after which no name begins for as long as was known before.
-pub next_known : (s : Text) (clear m : ℕ) (r : Token) → TokenAt s r → m ≡ clear - r.len → NextAt s clear (next r.kind r.len m)
-next_known s clear m r t e = record {
+pub next_known : (s : Text) (clear : ℕ) (t : Token) → TokenAt s (Some t) → NextAt s clear (Some (next t (clear - t.len)))
+next_known s clear r t = record {
   within = t.within;
   right = λ v c. t.right (decode s) (valid_encoded s v);
-  ahead = λ v c. subst (Clear (drop r.len s)) (sym e) (clear_after s clear r.kind r.len v c (t.right (decode s) (valid_encoded s v)));
+  ahead = λ v c. clear_after s clear (Some r) v c (t.right (decode s) (valid_encoded s v));
   front = λ _. t.front;
 }
 
-pub next_nothing : (s : Text) (clear : ℕ) → TokenAt s (tok 0 0) → NextAt s clear (next 0 0 0)
+pub next_nothing : (s : Text) (clear : ℕ) → TokenAt s None → NextAt s clear None
 next_nothing s clear t = record {
   within = t.within;
   right = λ v c. t.right (decode s) (valid_encoded s v);
@@ -324,24 +324,17 @@ dot_none s at i h = simp (le-ltb at i h)
 pub dot_other : (s : Text) (at i : ℕ) → at < i → (get_or s (i - 1) 0 ≡ 46 → ⊥) → dot_before s at i ≡ false
 dot_other s at i h n = simp (lt-ltb at i h, ne_eqb _ _ n)
 
-pub settled_none : (kind at i : ℕ) → kind ≡ 0 → next 0 0 0 ≡ settled kind at i
-settled_none kind at i e = ap (λ (k : ℕ). settled k at i) (sym e)
-
-pub settled_some : (kind at i : ℕ) → (kind ≡ 0 → ⊥) → next kind at (i - at) ≡ settled kind at i
-settled_some zero at i n = absurd (n refl)
-settled_some (suc k) at i n = refl
-
-pub next_zero : (s : Text) (clear : ℕ) (r : Next) → clear ≡ 0 → NextAt s 0 r → NextAt s clear r
+pub next_zero : (s : Text) (clear : ℕ) (r : Option Next) → clear ≡ 0 → NextAt s 0 r → NextAt s clear r
 next_zero s clear r e n = subst (λ (x : ℕ). NextAt s x r) (sym e) n
 
 -- The token before a run, which is no name.
-pub next_settled : (s : Text) (at i kind : ℕ) (g : RunAt s at i) → At s in_prefix at kind (end_at kind at) → NoColon s at i g → (r : Next) → r ≡ settled kind at i
-    → NextAt s 0 r
+pub next_settled : (s : Text) (at i : ℕ) (kind : Option ℕ) (g : RunAt s at i) → At s in_prefix at (word_of kind at) → NoColon s at i g → (r : Option Next)
+    → r ≡ settled kind at i → NextAt s 0 r
 next_settled s at i kind g a n r e = subst (NextAt s 0) (sym e) (go kind a)
   where
-    go : (kind : ℕ) → At s in_prefix at kind (end_at kind at) → NextAt s 0 (settled kind at i)
-    go zero a = next_nothing s 0 (prefix_token s at i g a n)
-    go (suc k) a =
+    go : (kind : Option ℕ) → At s in_prefix at (word_of kind at) → NextAt s 0 (settled kind at i)
+    go None a = next_nothing s 0 (prefix_token s at i g a n)
+    go (Some k) a =
         let t = prefix_token s at i g a n in
         record {
           within = t.within;
@@ -351,19 +344,19 @@ next_settled s at i kind g a n r e = subst (NextAt s 0) (sym e) (go kind a)
         }
 
 -- Where it is known that no name begins here, the token is the one before.
-module _ (s : Text) (at kind clear : ℕ) (a : At s in_prefix at kind (end_at kind at)) (h : 0 < clear) (f : get_or s 0 0 ≡ 58 → ⊥) where
-  known : first_bad s ≡ none → Clear s clear → tok kind (end_at kind at) ≡ answer (token_at (decode s))
+module _ (s : Text) (at clear : ℕ) (seen : Option Token) (a : At s in_prefix at seen) (h : 0 < clear) (f : get_or s 0 0 ≡ 58 → ⊥) where
+  known : first_bad s ≡ none → Clear s clear → seen ≡ answer (token_at (decode s))
   unfolding encodes
   known v c =
       let e = valid_encoded s v in
       let r = whole_rest a (decode s) e in
       let t = c.free v [] (decode s) refl h in
       ⊎_elim (λ x. sym x ∙ r.same)
-      (λ x. absurd (never_name (token_at (decode s)) (colon_no (decode s) e.bytes t) (ap (λ (t : Token). prefixed t.kind) (sym r.same) ∙ x)))
-      (run_passes prefixed r.ds in_prefix at kind (end_at kind at) moves.alone)
+      (λ x. absurd (never_name (token_at (decode s)) (colon_no (decode s) e.bytes t) (subst (PassesToo prefixed) r.same x)))
+      (run_passes prefixed r.ds in_prefix at seen moves.alone)
     where
-      never_name : (m : Match) → T (nameless m) → prefixed (answer m).kind ≡ true → ⊥
-      never_name nothing t e = subst T (sym e) tt
+      never_name : (m : Match) → T (nameless m) → PassesToo prefixed (answer m) → ⊥
+      never_name nothing t e = e
       never_name (hit k n) t e = rw e at t
 
       colon_no : (cs : List ℕ) → s ≡ encodes cs → T (colon_first cs || nameless (token_at (decode s))) → T (nameless (token_at (decode s)))
@@ -377,26 +370,20 @@ module _ (s : Text) (at kind clear : ℕ) (a : At s in_prefix at kind (end_at ki
           (⊎_elim (λ x. x.1 ∙ z) (λ x. let y = x.0 in absurd (omega arith)) (first s 0 c (encodes cs) e))))
           (λ p. rw p at t)
 
-  pub known_nothing : kind ≡ 0 → NextAt s clear (next 0 0 0)
-  known_nothing z = record {
+-- An answer of it.
+module _ (s : Text) (at clear : ℕ) (h : 0 < clear) (f : get_or s 0 0 ≡ 58 → ⊥) where
+  pub known_nothing : At s in_prefix at None → NextAt s clear None
+  known_nothing a = record {
     within = omega arith;
-    right = λ v c. subst (λ (k : ℕ). tok k (end_at k at) ≡ answer (token_at (decode s))) z (known v c);
+    right = λ v c. known s at clear None a h f v c;
     ahead = λ v c. clear_none (drop 0 s);
     front = λ e. absurd (omega arith);
   }
 
-  pub known_token : (kind ≡ 0 → ⊥) → (m : ℕ) → m ≡ clear - at → NextAt s clear (next kind at m)
-  known_token z m e =
-      let o : end_at kind at ≡ at = end kind z in
-      record {
-        within = a.within;
-        right = λ v c. subst (λ (n : ℕ). tok kind n ≡ answer (token_at (decode s))) o (known v c);
-        ahead = λ v c.
-            subst (Clear (drop at s)) (sym e)
-            (clear_after s clear kind at v c (subst (λ (n : ℕ). tok kind n ≡ answer (token_at (decode s))) o (known v c)));
-        front = λ e. absurd (omega arith);
-      }
-    where
-      end : (k : ℕ) → (k ≡ 0 → ⊥) → end_at k at ≡ at
-      end zero z = absurd (z refl)
-      end (suc k) z = refl
+  pub known_token : (k : ℕ) → At s in_prefix at (Some (tok k at)) → NextAt s clear (Some (next (tok k at) (clear - at)))
+  known_token k a = record {
+    within = a.within;
+    right = λ v c. known s at clear (Some (tok k at)) a h f v c;
+    ahead = λ v c. clear_after s clear (Some (tok k at)) v c (known s at clear (Some (tok k at)) a h f v c);
+    front = λ e. absurd (omega arith);
+  }

@@ -9,6 +9,8 @@ use native.Mathlib.Nat.{zero-add}
 use borrow.Author.Tests.{eq-eqb, lt-ltb, le-ltb}
 use lib.Dec.{T, eqb}
 use lib.ListN.{length, get_or, drop}
+use Rattle.std.specs.Prelude.{Option, Some, None}
+use Rattle.automaton.specs.declared.Token.{Token}
 use Rattle.text.specs.Text.{Text, ascii, cond}
 use Rattle.utf8.specs.Utf8.{Range, ◌–◌, width}
 use Rattle.utf8.proofs.Tests.{by, below, below_at, same, same_eq}
@@ -20,7 +22,7 @@ use Rattle.automaton.proofs.Steps.{only, never, sends, high_sends, mimics, Sent,
 use Rattle.characters.specs.Bytes.{letter}
 use Rattle.characters.specs.Names.{base, passes, CharAt}
 use Rattle.characters.proofs.Points.{first, CharSent, CharEnds, char_on, char_off}
-use Rattle.lexer_words.specs.Agree.{agreeing, end_at, Word}
+use Rattle.lexer_words.specs.Agree.{agreeing, Word}
 use Rattle.lexer_words.specs.Front.{mark}
 use Rattle.lexer_words.proofs.Agreeing.{one_of, narrow, spells, word_first}
 
@@ -72,7 +74,7 @@ module _ (s : Text) (h : 0 < length s) where
       → one_of x y (get_or s 0 0) ≡ true → Word s 0 (x ∷ low) (y ∷ up) in_prefix k 0
   word_at x y low up k t n m p = word_first s in_prefix k 0 x y low up start 0 t h p (begin s n m)
 
-  pub name_a : get_or s 0 0 ≡ 97 → At s in_prefix 1 13 1
+  pub name_a : get_or s 0 0 ≡ 97 → At s in_prefix 1 (Some (tok 13 1))
   name_a e =
       as_other (gain (begin s (λ x. absurd (omega arith)) (λ x. absurd (omega arith))) h (omega arith) (eq-eqb _ _ e) (omega arith) moves.a) moves.a_like
       (λ _. refl)
@@ -118,15 +120,15 @@ module _ (s : Text) (h : 0 < length s) where
     pub no_colon_mark : get_or s 0 0 ≡ 58 → ⊥
     no_colon_mark = no_mark 58 refl
 
-    front : At s start 0 0 0
+    front : At s start 0 None
     front = begin s (no_mark 34 refl) (no_mark 39 refl)
 
-    module _ (n : ℕ) (c : CharAt letter base s 0 n) where
-      pub name_none : n ≡ 0 → TokenAt s (tok 0 0)
+    module _ (r : Option ℕ) (c : CharAt letter base s 0 r) where
+      pub name_none : r ≡ None → TokenAt s None
       name_none z = char_off front c moves.none z (λ _. m)
 
       -- The first character begins no keyword.
-      other : in_ranges (get_or s 0 0) key_letter ≡ false → CharAt other_letter base s 0 n
+      other : in_ranges (get_or s 0 0) key_letter ≡ false → CharAt other_letter base s 0 r
       other k = record {
         within = c.within;
         right = λ d u z y.
@@ -139,22 +141,18 @@ module _ (s : Text) (h : 0 < length s) where
             rw (lt-ltb d 128 v.0) (same_eq (in_ranges d letter) (in_ranges d other_letter) (rw k' at w)))
             (λ v. rw (le-ltb d 128 v.0))
             (first s 0 d u y) in
-            c.right d u z y ∙ ap (λ (b : Bool). cond b (width d) 0) a;
+            c.right d u z y ∙ ap (λ (b : Bool). cond b (Some (width d)) None) a;
       }
 
-      pub name_more : in_ranges (get_or s 0 0) key_letter ≡ false → (n ≡ 0 → ⊥) → At s in_prefix n 0 0
-      name_more k z =
-          as_other (subst (λ (i : ℕ). At s first_letter i 0 0) (zero-add n) (char_on front (other k) moves.other z)) moves.other_like (λ _. refl)
+      pub name_more : in_ranges (get_or s 0 0) key_letter ≡ false → (n : ℕ) → r ≡ Some n → At s in_prefix n None
+      name_more k n z =
+          as_other (subst (λ (i : ℕ). At s first_letter i None) (zero-add n) (char_on front (other k) moves.other z)) moves.other_like (λ _. refl)
 
 -- ---- The routine `keyword`: the word begins at 0
 
 module _ {s low up : Text} {k m : ℕ} (w : Word s 0 low up in_prefix k 0) (e : m ≡ agreeing (drop 0 s) low up) where
-  pub key_whole : 0 < k → m ≡ length low → At s in_prefix m k (end_at k m)
-  key_whole p f = subst (λ (n : ℕ). At s in_prefix m k n) (sym (end k p)) (subst (λ (i : ℕ). At s in_prefix i k i) (zero-add m) ((w.read m e).whole f))
-    where
-      end : (k : ℕ) → 0 < k → end_at k m ≡ m
-      end zero p = absurd (omega arith)
-      end (suc k) p = refl
+  pub key_whole : m ≡ length low → At s in_prefix m (Some (tok k m))
+  key_whole f = subst (λ (i : ℕ). At s in_prefix i (Some (tok k i))) (zero-add m) ((w.read m e).whole f)
 
-  pub key_part : (m ≡ length low → ⊥) → At s in_prefix m 0 0
-  key_part f = subst (λ (i : ℕ). At s in_prefix i 0 0) (zero-add m) ((w.read m e).part f)
+  pub key_part : (m ≡ length low → ⊥) → At s in_prefix m None
+  key_part f = subst (λ (i : ℕ). At s in_prefix i None) (zero-add m) ((w.read m e).part f)

@@ -6,12 +6,14 @@ use mathlib.Core.List.{List, [], ◌∷◌, ◌++◌}
 use Prim.Native.Nat.{ℕ, ◌+◌, min}
 use native.Mathlib.Omega.{arith}
 use lib.Dec.{T}
+use Rattle.std.specs.Prelude.{Option, Some, None}
+use Rattle.automaton.specs.declared.Token.{Token}
 use Rattle.text.specs.Text.{cond}
 use Rattle.utf8.specs.Utf8.{width}
 use Rattle.utf8.proofs.Tests.{by, split}
 use Rattle.token.specs.Regular.{Re, item, Match, nothing, hit, nullable, after, of_kind, step, least_of, now_at, later, best}
 use Rattle.automaton.specs.States.{State}
-use Rattle.automaton.specs.Run.{tok, seen_kind, seen_len, run}
+use Rattle.automaton.specs.Run.{tok, see, run}
 
 -- No token ends in a run over a text.
 abbrev pub Mute : State → List ℕ → Type 0
@@ -69,18 +71,20 @@ module _ (p : ℕ → Bool) where
       fin nothing u other v = v
       fin (hit k n) u other v = u
 
+  -- A token of one of these kinds.
+  abbrev pub PassesToo : Option Token → Type 0
+  PassesToo None = ⊥
+  PassesToo (Some t) = p t.kind ≡ true
+
   -- A run over such a state sees no token, or ends with one of these kinds.
-  pub run_passes : (cs : List ℕ) (q : State) (i kind len : ℕ) → T (kinds_pass q)
-      → (run q i kind len cs ≡ tok kind len) ⊎ (p (run q i kind len cs).kind ≡ true)
-  run_passes [] q i kind len t = inl refl
-  run_passes (c ∷ cs) q i kind len t = go (now_at (step c q)) (pass_now (step c q) (pass_step c q t)) (λ k n. run_passes cs (step c q) (i + width c) k n (pass_step c q t))
+  pub run_passes : (cs : List ℕ) (q : State) (i : ℕ) (seen : Option Token) → T (kinds_pass q) → (run q i seen cs ≡ seen) ⊎ PassesToo (run q i seen cs)
+  run_passes [] q i seen t = inl refl
+  run_passes (c ∷ cs) q i seen t = go (now_at (step c q)) (pass_now (step c q) (pass_step c q t)) (λ x. run_passes cs (step c q) (i + width c) x (pass_step c q t))
     where
-      go : (m : Match) → Passes m
-          → ((k n : ℕ) → (run (step c q) (i + width c) k n cs ≡ tok k n) ⊎ (p (run (step c q) (i + width c) k n cs).kind ≡ true))
-          → (run (step c q) (i + width c) (seen_kind m kind) (seen_len m (i + width c) len) cs ≡ tok kind len)
-          ⊎ (p (run (step c q) (i + width c) (seen_kind m kind) (seen_len m (i + width c) len) cs).kind ≡ true)
-      go nothing u ih = ih kind len
-      go (hit k n) u ih = ⊎_elim (λ e. inr (rw e u)) (λ e. inr e) (ih k (i + width c))
+      go : (m : Match) → Passes m → ((x : Option Token) → (run (step c q) (i + width c) x cs ≡ x) ⊎ PassesToo (run (step c q) (i + width c) x cs))
+          → (run (step c q) (i + width c) (see m (i + width c) seen) cs ≡ seen) ⊎ PassesToo (run (step c q) (i + width c) (see m (i + width c) seen) cs)
+      go nothing u ih = ih seen
+      go (hit k n) u ih = ⊎_elim (λ e. inr (rw e u)) (λ e. inr e) (ih (Some (tok k (i + width c))))
 
   -- ---- The items of the kinds alone
 

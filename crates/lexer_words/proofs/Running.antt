@@ -11,6 +11,8 @@ use borrow.Author.Tests.{eq-eqb, ne_eqb, eqb-true, lt-ltb, le-ltb}
 use lib.Dec.{T, eqb, ltb}
 use lib.ListN.{length, get_or, drop, length-append, length-drop}
 use lib.Seq.{get_or-drop, get_or-append-add}
+use Rattle.std.specs.Prelude.{Option, Some, None}
+use Rattle.automaton.specs.declared.Token.{Token}
 use Rattle.text.specs.Text.{Text, cond}
 use Rattle.utf8.specs.Utf8.{encode, encodes, width, sequence_size}
 use Rattle.utf8.specs.Scalar.{Scalar, Scalars, Encodes}
@@ -19,13 +21,13 @@ use Rattle.utf8.proofs.Encoding.{by_width, length_encode, width_pos}
 use Rattle.utf8.proofs.Decoding.{encodes_append}
 use Rattle.token.specs.Regular.{Match, nothing, in_ranges, step, now_at, size}
 use Rattle.automaton.specs.States.{State, dead}
-use Rattle.automaton.specs.Run.{seen_kind, seen_len, run, Front}
+use Rattle.automaton.specs.Run.{see, run, Front}
 use Rattle.automaton.proofs.Steps.{only, Sent, sent_to, sent_kind, at_first, next_left, front_whole}
 use Rattle.characters.specs.Bytes.{name}
 use Rattle.characters.specs.Names.{inner, passes, CharAt}
 use Rattle.characters.specs.Runs.{Span}
 use Rattle.characters.proofs.Sets.{set_low}
-use Rattle.characters.proofs.Points.{first, char_low, CharSent, CharEnds, point_to, point_dead}
+use Rattle.characters.proofs.Points.{first, char_low, some_passes, none_passes, CharSent, CharEnds, point_to, point_dead}
 use Rattle.lexer_words.specs.Runs.{in_run, All_run, Scan, Beyond, Scanned, RunAt}
 use Rattle.lexer_words.proofs.Muting.{Mute, mute_dead}
 
@@ -88,23 +90,17 @@ module _ (s : Text) (at : ℕ) where
         (λ v. let x = v.1 in absurd (omega arith))
         (at_first s i c u d))
 
-    module _ (n : ℕ) (ch : CharAt name inner s i n) where
-      pub scan_name : (n ≡ 0 → ⊥) → Scanned s at (i + n)
-      scan_name z =
-          scan_on n ch.within (omega arith)
-          (λ c u sc d.
-          by (passes name inner c) (λ e. let r = ch.right c u sc d in (r ∙ ap (λ (b : Bool). cond b (width c) 0) e, rw e))
-          (λ e. let r = ch.right c u sc d in absurd (z (r ∙ ap (λ (b : Bool). cond b (width c) 0) e))))
+    module _ (r : Option ℕ) (ch : CharAt name inner s i r) where
+      pub scan_name : (n : ℕ) → r ≡ Some n → Scanned s at (i + n)
+      scan_name n z =
+          scan_on n (ch.within n z).1 (ch.within n z).0
+          (λ c u sc d. let v = some_passes (passes name inner c) (width c) n (sym z ∙ ch.right c u sc d) in (v.1, rw v.0))
 
-      pub run_stop : i < length s → (get_or s i 0 ≡ 46 → ⊥) → n ≡ 0 → RunAt s at i
+      pub run_stop : i < length s → (get_or s i 0 ≡ 46 → ⊥) → r ≡ None → RunAt s at i
       run_stop h m z = record {
         scanned = g;
         stop = λ c t sc d.
-            let r = ch.right c t sc d in
-            let o = width_pos c in
-            let p : passes name inner c ≡ false =
-            by (passes name inner c)
-            (λ e. let x : n ≡ width c = r ∙ ap (λ (b : Bool). cond b (width c) 0) e in absurd (omega arith)) (λ e. e) in
+            let p : passes name inner c ≡ false = none_passes (passes name inner c) (width c) (sym z ∙ ch.right c t sc d) in
             let q : eqb c 46 ≡ false = ne_eqb c 46 (λ x. ⊎_elim (λ v. m (v.1 ∙ x)) (λ v. let y = v.0 in omega arith) (first s i c t d)) in
             simp (p, q);
       }
@@ -133,7 +129,7 @@ module _ (s : Text) (at : ℕ) where
           let m : at + n + 1 ≡ at + suc n = omega arith in
           let b : in_ranges (get_or s (at + n) 0) name ≡ true = sp.all (at + n) (omega arith) (omega arith) in
           subst (λ (n : ℕ). Scanned s at n) m
-          (scan_name (at + n) (up n (omega arith)) 1 (char_low name inner s (at + n) (omega arith) true (set_low name tt (get_or s (at + n) 0) b) (sym b) 1 refl) (λ z. absurd (omega arith)))
+          (scan_name (at + n) (up n (omega arith)) (Some 1) (char_low name inner s (at + n) (omega arith) true (set_low name tt (get_or s (at + n) 0) b) (sym b)) 1 refl)
 
 -- Of UTF-8, the end of the run is not behind.
 pub whole_scan : (s : Text) (at i : ℕ) → Scanned s at i → (cs : List ℕ) → Encodes (drop at s) cs → Scan s at i cs []
@@ -248,14 +244,14 @@ module _ {a b : State} (t : Pair a b) where
       other true p q r = point_dead t.dot_none y sc p (λ _. simp (q, r))
       other false p q r = point_dead t.none y sc p (λ _. simp (q, r))
 
-  pub run_over : (xs ys : List ℕ) (d : Bool) (i kind len : ℕ) → Scalars (xs ++ ys) → All_run xs
-      → run (state d) i kind len (xs ++ ys) ≡ run (state (last_dot d xs)) (i + size width xs) kind len ys
-  run_over [] ys d i kind len sc r = ap (λ (n : ℕ). run (state d) n kind len ys) (sym (add-zero i))
-  run_over (x ∷ xs) ys d i kind len sc r =
-      ap (λ (q : State). run q (i + width x) (seen_kind (now_at q) kind) (seen_len (now_at q) (i + width x) len) (xs ++ ys)) (run_move d x sc.0 r.0)
-      ∙ ap (λ (m : Match). run (state (eqb x 46)) (i + width x) (seen_kind m kind) (seen_len m (i + width x) len) (xs ++ ys)) (silent (eqb x 46))
-      ∙ run_over xs ys (eqb x 46) (i + width x) kind len sc.1 r.1
-      ∙ ap (λ (n : ℕ). run (state (last_dot (eqb x 46) xs)) n kind len ys) (add_assoc i (width x) (size width xs))
+  pub run_over : (xs ys : List ℕ) (d : Bool) (i : ℕ) (seen : Option Token) → Scalars (xs ++ ys) → All_run xs
+      → run (state d) i seen (xs ++ ys) ≡ run (state (last_dot d xs)) (i + size width xs) seen ys
+  run_over [] ys d i seen sc r = ap (λ (n : ℕ). run (state d) n seen ys) (sym (add-zero i))
+  run_over (x ∷ xs) ys d i seen sc r =
+      ap (λ (q : State). run q (i + width x) (see (now_at q) (i + width x) seen) (xs ++ ys)) (run_move d x sc.0 r.0)
+      ∙ ap (λ (m : Match). run (state (eqb x 46)) (i + width x) (see m (i + width x) seen) (xs ++ ys)) (silent (eqb x 46))
+      ∙ run_over xs ys (eqb x 46) (i + width x) seen sc.1 r.1
+      ∙ ap (λ (n : ℕ). run (state (last_dot (eqb x 46) xs)) n seen ys) (add_assoc i (width x) (size width xs))
 
   -- No token ends in a run, nor after it.
   pub mute_run : (xs ys : List ℕ) (d : Bool) → Scalars (xs ++ ys) → All_run xs

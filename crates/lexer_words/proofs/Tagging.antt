@@ -6,6 +6,7 @@ use native.Mathlib.Omega.{arith}
 use borrow.Author.Tests.{eq-eqb, ne_eqb}
 use lib.Dec.{T, eqb}
 use lib.ListN.{length, get_or}
+use Rattle.std.specs.Prelude.{Option, Some, None}
 use Rattle.text.specs.Text.{Text, ascii}
 use Rattle.utf8.proofs.Tests.{or_false, nor}
 use Rattle.token.specs.Regular.{in_ranges, step}
@@ -62,18 +63,18 @@ moves = record {
 module _ (s : Text) where
   -- subtags
   module _ (i k : ℕ) (g : TagAt s i k) where
-    pub sub_end : length s ≤ i → TokenAt s (tok k i)
+    pub sub_end : length s ≤ i → TokenAt s (Some (tok k i))
     sub_end h = at_end g.at h
 
     module _ (h : i < length s) where
-      pub sub_stop : (get_or s i 0 ≡ 45 → ⊥) → TokenAt s (tok k i)
+      pub sub_stop : (get_or s i 0 ≡ 45 → ⊥) → TokenAt s (Some (tok k i))
       sub_stop n = done g.at moves.end (λ _. nor (is_letter (get_or s i 0)) (eqb (get_or s i 0) 45) (g.end h) (ne_eqb _ _ n))
 
       module _ (e : get_or s i 0 ≡ 45) (j : ℕ) (sp : Span letter_or_digit s (i + 1) j) where
-        dashed : At s tag_dash (i + 1) k i
+        dashed : At s tag_dash (i + 1) (Some (tok k i))
         dashed = pass g.at h (omega arith) (eq-eqb _ _ e) moves.dash
 
-        pub sub_none : j ≡ i + 1 → TokenAt s (tok k i)
+        pub sub_none : j ≡ i + 1 → TokenAt s (Some (tok k i))
         sub_none z = done dashed moves.dash_end (subst (λ (n : ℕ). n < length s → is_subtag (get_or s n 0) ≡ false) z sp.stop)
 
         pub sub_next : (j ≡ i + 1 → ⊥) → TagAt s j 7
@@ -95,7 +96,7 @@ module _ (s : Text) where
                     or_assoc false y = refl
 
   -- tag
-  module _ (at kind i : ℕ) (g : At s in_tag at kind at) (sp : Span letter s at i) where
+  module _ (at kind i : ℕ) (g : At s in_tag at (Some (tok kind at))) (sp : Span letter s at i) where
     pub tag_same : i ≡ at → TagAt s at kind
     tag_same z = record { at = g; end = subst (λ (n : ℕ). n < length s → is_letter (get_or s n 0) ≡ false) z sp.stop }
 
@@ -105,8 +106,8 @@ module _ (s : Text) where
         record { at = enter letter tt (omega arith) moves.more moves.more sp (omega arith) g; end = sp.stop }
 
   -- at_sign
-  module _ (g : At s after_at 1 0 0) where
-    pub sign_end : length s < 2 → TokenAt s (tok 0 0)
+  module _ (g : At s after_at 1 None) where
+    pub sign_end : length s < 2 → TokenAt s None
     sign_end h = at_end g (omega arith)
 
     module _ (h : 2 ≤ length s) where
@@ -116,10 +117,10 @@ module _ (s : Text) where
       pub sign_base : get_or s 1 0 ≡ 98 → Word s 1 (ascii "base") (ascii "base") in_tag 6 7
       sign_base e = word_first s in_tag 6 7 98 98 (ascii "ase") (ascii "ase") after_at 1 moves.base (omega arith) (simp (eq-eqb _ _ e)) g
 
-      pub sign_none : is_letter (get_or s 1 0) ≡ false → TokenAt s (tok 0 0)
+      pub sign_none : is_letter (get_or s 1 0) ≡ false → TokenAt s None
       sign_none e = done g moves.first_end (λ _. e)
 
-      pub sign_letter : (get_or s 1 0 ≡ 112 → ⊥) → (get_or s 1 0 ≡ 98 → ⊥) → is_letter (get_or s 1 0) ≡ true → At s in_tag 2 7 2
+      pub sign_letter : (get_or s 1 0 ≡ 112 → ⊥) → (get_or s 1 0 ≡ 98 → ⊥) → is_letter (get_or s 1 0) ≡ true → At s in_tag 2 (Some (tok 7 2))
       sign_letter n m e =
           gain g (omega arith) (set_low letter tt (get_or s 1 0) e)
           (ap (λ (b : Bool). b && not (one_of 112 98 (get_or s 1 0))) e ∙ simp (ne_eqb _ _ n, ne_eqb _ _ m)) (omega arith) moves.first

@@ -1,19 +1,21 @@
 // LANGTAG, @prefix and @base.
+ghost use Rattle.std.specs.Prelude.{Some, None};
 ghost use Rattle.token.specs.Kind.{kind_code, LANGTAG};
 ghost use Rattle.automaton.specs.States.{after_at, in_tag};
-ghost use Rattle.automaton.specs.Run.{At, TokenAt};
+ghost use Rattle.automaton.specs.Run.{tok, At, TokenAt};
 ghost use Rattle.lexer_words.specs.Agree.{Word, TagAt};
 
 use crate::words::agree;
 use automaton::Token;
 use characters::bytes::is_letter;
-use characters::runs::{letters, letters_or_digits};
+use characters::classes::{Letter, LetterOrDigit};
+use characters::runs::run;
 use token::Kind;
 
 // LANGTAG ::= '@' [a-zA-Z]+ ('-' [a-zA-Z0-9]+)*, after its first letters
 fn subtags(s: &[u8], at: usize, kind: usize) -> Token
     requires { TagAt s.now at kind }
-    ensures { TokenAt s.now result }
+    ensures { TokenAt s.now (Some result) }
 {
     let mut end: usize = at;
     let mut k: usize = kind;
@@ -21,7 +23,7 @@ fn subtags(s: &[u8], at: usize, kind: usize) -> Token
         if s[end] != b'-' {
             return Token { kind: k, len: end };
         }
-        let i = letters_or_digits(s, end + 1);
+        let i = run::<LetterOrDigit>(s, end + 1);
         if i == end + 1 {
             return Token { kind: k, len: end };
         }
@@ -33,10 +35,10 @@ fn subtags(s: &[u8], at: usize, kind: usize) -> Token
 
 // Within the first letters: what was a keyword so far is one where no letter follows.
 fn tag(s: &[u8], at: usize, kind: usize) -> Token
-    requires { At s.now in_tag at kind at }
-    ensures { TokenAt s.now result }
+    requires { At s.now in_tag at (Some (tok kind at)) }
+    ensures { TokenAt s.now (Some result) }
 {
-    let i = letters(s, at);
+    let i = run::<Letter>(s, at);
     if i == at {
         return subtags(s, at, kind);
     }
@@ -46,7 +48,7 @@ fn tag(s: &[u8], at: usize, kind: usize) -> Token
 // "Where @prefix or @base is the whole match, it is the keyword, never a LANGTAG"
 fn directive<'a>(s: &'a [u8], word: &'a [u8], kind: usize) -> Token
     requires { Word s.now 1 word.now word.now in_tag kind (kind_code LANGTAG) }
-    ensures { TokenAt s.now result }
+    ensures { TokenAt s.now (Some result) }
 {
     let m = agree(s, 1, word, word);
     if m == word.len() {
@@ -56,28 +58,22 @@ fn directive<'a>(s: &'a [u8], word: &'a [u8], kind: usize) -> Token
 }
 
 // After the @.
-pub fn at_sign(s: &[u8]) -> Token
-    requires { At s.now after_at 1 0 0 }
+pub fn at_sign(s: &[u8]) -> Option<Token>
+    requires { At s.now after_at 1 None }
     ensures { TokenAt s.now result }
 {
     if s.len() < 2 {
-        return Token {
-            kind: Kind::NONE,
-            len: 0,
-        };
+        return None;
     }
     let b = s[1];
     if b == b'p' {
-        return directive(s, b"prefix", Kind::AT_PREFIX);
+        return Some(directive(s, b"prefix", Kind::AT_PREFIX));
     }
     if b == b'b' {
-        return directive(s, b"base", Kind::AT_BASE);
+        return Some(directive(s, b"base", Kind::AT_BASE));
     }
     if is_letter(b) {
-        return tag(s, 2, Kind::LANGTAG);
+        return Some(tag(s, 2, Kind::LANGTAG));
     }
-    Token {
-        kind: Kind::NONE,
-        len: 0,
-    }
+    None
 }

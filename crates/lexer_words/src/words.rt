@@ -1,15 +1,6 @@
 // Words that are compared with the text.
-ghost use Rattle.std.specs.Prelude.{◌≡◌, ◌||◌, ◌≤◌, eqb, length, drop};
+ghost use Rattle.std.specs.Prelude.{◌≡◌, ◌≤◌, length, drop};
 ghost use Rattle.lexer_words.specs.Agree.{agreeing};
-
-fn is_either(b: u8, x: u8, y: u8) -> bool
-    ensures { result ≡ eqb b x || eqb b y }
-{
-    if b == x {
-        return true;
-    }
-    b == y
-}
 
 // How many bytes from `at` on agree with one of two words of one length.
 pub fn agree<'a>(s: &'a [u8], at: usize, low: &'a [u8], up: &'a [u8]) -> usize
@@ -21,7 +12,9 @@ pub fn agree<'a>(s: &'a [u8], at: usize, low: &'a [u8], up: &'a [u8]) -> usize
         if s.len() - at <= k {
             return k;
         }
-        if !is_either(s[at + k], low[k], up[k]) {
+        let b = s[at + k];
+        let agrees = (b == low[k]) | (b == up[k]);
+        if !agrees {
             return k;
         }
         k += 1;

@@ -5,10 +5,10 @@ use mathlib.Core.List.{List, [], ◌∷◌}
 use mathlib.Core.Option.{none}
 use Prim.Native.Nat.{ℕ, ◌+◌, ◌≤◌}
 use native.Mathlib.Omega.{arith}
-use lib.Dec.{eqb, ltb}
+use lib.Dec.{ltb}
 use lib.ListN.{length, drop}
 use lib.Seq.{length-take-le}
-use borrow.Author.Tests.{eqb-true, eqb-false, ltb-true, ltb-false}
+use borrow.Author.Tests.{ltb-true, ltb-false}
 use Rattle.text.specs.Text.{Text}
 use Rattle.text.proofs.Compare.{by}
 use Rattle.utf8.specs.Utf8.{first_bad, decode, width}
@@ -18,7 +18,6 @@ use Rattle.token.specs.Tokens.{Token, Lexeme, token, unreadable, lexemes}
 use Rattle.token.proofs.Longest.{token_longest}
 use Rattle.token.proofs.Sizes.{size_append}
 use Rattle.automaton.specs.Run.{answer}
-use Rattle.automaton.specs.declared.Token.{Token as Matched}
 use Rattle.lexer.specs.Blanks.{blanks}
 use Rattle.lexer.specs.Rest.{rest}
 use Rattle.lexer.proofs.Cutting.{blanks_valid, cut_end, cut_none, cut_token}
@@ -33,9 +32,8 @@ Reads doc place (unreadable p ∷ ls) = next_from doc place ≡ first_of (length
 Reads doc place (token t ∷ ls) = (next_from doc place ≡ first_of (length doc) (token t ∷ ls)) × Reads doc (next_from doc place).end ls
 
 -- A match is within the text.
-match_within : (cs : List ℕ) (m : Match) → Longest width (terminals_at cs) cs m → (answer m).len ≤ size width cs
-match_within cs nothing l = omega arith
-match_within cs (hit k n) l = omega (arith, l.bytes, ap (size width) l.whole ∙ size_append l.front l.back)
+match_within : (cs : List ℕ) (k n : ℕ) → Longest width (terminals_at cs) cs (hit k n) → n ≤ size width cs
+match_within cs k n l = omega (arith, l.bytes, ap (size width) l.whole ∙ size_append l.front l.back)
 
 -- ---- Behind a token
 
@@ -43,16 +41,8 @@ module _ (doc : Text) (place : ℕ) (t : Token) (ls : List Lexeme) (v : first_ba
   abbrev b : ℕ
   b = blanks false (decode (drop place doc))
 
-  abbrev r : Matched
-  r = answer (token_at (decode (drop (place + b) doc)))
-
-  len_within : r.len ≤ length (drop (place + b) doc)
-  len_within =
-      omega (
-        arith,
-        match_within (decode (drop (place + b) doc)) (token_at (decode (drop (place + b) doc))) (token_longest (decode (drop (place + b) doc))),
-        text_size (drop (place + b) doc) (blanks_valid doc place b v refl),
-      )
+  abbrev cs : List ℕ
+  cs = decode (drop (place + b) doc)
 
   abbrev Behind : Type 0
   Behind = (rest doc (t.start + length t.text) ≡ ls) × (first_bad (drop (t.start + length t.text) doc) ≡ none)
@@ -71,15 +61,18 @@ module _ (doc : Text) (place : ℕ) (t : Token) (ls : List Lexeme) (v : first_ba
       (ap (rest doc) i ∙ c, ap (λ (k : ℕ). first_bad (drop k doc)) i ∙ w)
 
   behind : Behind
-  behind =
-      by (eqb r.kind 0)
-      (λ z.
-      by (ltb (place + b) (length doc))
-      (λ h. none_unreadable (place + b) (cut_none doc place b v refl r.kind r.len refl (ltb-true (place + b) (length doc) h) (eqb-true r.kind 0 z)))
-      (λ h. none_empty (cut_end doc place b v refl (ltb-false (place + b) (length doc) h))))
-      (λ z.
-      let k = cut_token doc place b v refl r.kind r.len refl (eqb-false r.kind 0 z) in
-      token_behind _ (place + b + r.len) (ap (λ (n : ℕ). place + b + n) (length-take-le r.len (drop (place + b) doc) len_within)) k.0 k.1.0)
+  behind = go (token_at cs) refl (token_longest cs)
+    where
+      go : (m : Match) → token_at cs ≡ m → Longest width (terminals_at cs) cs (token_at cs) → Behind
+      go nothing e l =
+          by (ltb (place + b) (length doc))
+          (λ h. none_unreadable (place + b) (cut_none doc place b v refl (sym (ap answer e)) (ltb-true (place + b) (length doc) h)))
+          (λ h. none_empty (cut_end doc place b v refl (ltb-false (place + b) (length doc) h)))
+      go (hit k n) e l =
+          let c = cut_token doc place b v refl k n (sym (ap answer e)) in
+          let h : n ≤ length (drop (place + b) doc) =
+          omega (arith, match_within cs k n (subst (Longest width (terminals_at cs) cs) e l), text_size (drop (place + b) doc) (blanks_valid doc place b v refl)) in
+          token_behind _ (place + b + n) (ap (λ (x : ℕ). place + b + x) (length-take-le n (drop (place + b) doc) h)) c.0 c.1.0
 
 -- ---- All of them
 

@@ -44,14 +44,16 @@ pub fn next_token_from(document: &[u8], place: usize) -> TokenAt
         };
     }
     let start = place + lexer::skip_blanks(&document[place..]);
-    let t = lexer::next_token(&document[start..], 0);
-    // The length and not the kind: whatever the bytes are, a token that is answered has one, and a loop over the tokens goes on.
-    if t.len != 0 {
-        return TokenAt {
-            kind: t.kind,
-            start: start,
-            end: start + t.len,
-        };
+    if let Some(next) = lexer::next_token(&document[start..], 0) {
+        let t = next.token;
+        // Not that there is one: whatever the bytes are, a token that is answered has some, and a loop over the tokens goes on.
+        if t.len != 0 {
+            return TokenAt {
+                kind: t.kind,
+                start: start,
+                end: start + t.len,
+            };
+        }
     }
     if start < size {
         return TokenAt {

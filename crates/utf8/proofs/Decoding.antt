@@ -194,10 +194,6 @@ module _ (s : Text) (n : ℕ) (e : n ≡ sequence_size s) where
   read_as : (k value : ℕ) → n ≡ k → value ≡ code_point (take k s) → ReadAs value k
   read_as k value z f = (sym z ∙ e, f ∙ ap (λ (m : ℕ). code_point (take m s)) (sym z ∙ e))
 
-  pub point_none : n ≡ 0 → ReadAs 0 0
-  unfolding code_point
-  point_none z = read_as 0 0 z refl
-
   long : (k : ℕ) → n ≡ k → k ≤ length s
   long k z = let l = (size_within s).0 in omega arith
 

@@ -1,12 +1,12 @@
 // UTF-8: the sequence at the front of some bytes, its code point, and the first bad sequence of a text.
 #![tactic(auto)]
 
-ghost use Rattle.std.specs.Prelude.{◌≡◌, take};
+ghost use Rattle.std.specs.Prelude.{◌≡◌, ◌<◌, take, MatchOption};
 ghost use Rattle.text.specs.Text.{is_none, between};
 ghost use Rattle.utf8.specs.Utf8.{sequence_size, code_point, first_bad};
 ghost use Rattle.utf8.specs.Code.{lead_size, second_low, second_high, bad_place};
 
-// A code point and how many bytes it has; 0 bytes where no sequence stands.
+// A code point and how many bytes it has.
 #[derive(Clone, Copy)]
 pub struct CodePoint {
     pub value: u32,
@@ -90,34 +90,34 @@ fn wide(b: u8) -> u32
     u32::from(b)
 }
 
-// The code point at the front.
-pub fn read_code_point(s: &[u8]) -> CodePoint
-    ensures { (result.size ≡ sequence_size s.now) × (result.value ≡ code_point (take (sequence_size s.now) s.now)) }
+// The code point at the front, if a sequence stands there.
+pub fn read_code_point(s: &[u8]) -> Option<CodePoint>
+    ensures { MatchOption result (sequence_size s.now ≡ 0) (λ c. (0 < c.size) × (c.size ≡ sequence_size s.now) × (c.value ≡ code_point (take (sequence_size s.now) s.now))) }
 {
     let n = sequence_size(s);
     if n == 0 {
-        return CodePoint { value: 0, size: 0 };
+        return None;
     }
     let b = wide(s[0]);
     if n == 1 {
-        return CodePoint { value: b, size: 1 };
+        return Some(CodePoint { value: b, size: 1 });
     }
     if n == 2 {
-        return CodePoint {
+        return Some(CodePoint {
             value: b % 32 * 64 + wide(s[1]) % 64,
             size: 2,
-        };
+        });
     }
     if n == 3 {
-        return CodePoint {
+        return Some(CodePoint {
             value: (b % 16 * 64 + wide(s[1]) % 64) * 64 + wide(s[2]) % 64,
             size: 3,
-        };
+        });
     }
-    CodePoint {
+    Some(CodePoint {
         value: ((b % 8 * 64 + wide(s[1]) % 64) * 64 + wide(s[2]) % 64) * 64 + wide(s[3]) % 64,
         size: 4,
-    }
+    })
 }
 
 // Where the first bad sequence of a text begins, if there is one. A `while`, since each turn passes a sequence or a run of ASCII.

@@ -16,13 +16,13 @@ pub slice_bounds-next_token-end : goal.slice_bounds-next_token-end
 slice_bounds-next_token-end c = omega (arith, c.skip_blanks-b.ensures.within, part_length c.args.s.now c.loop-at.at)
 
 pub overflow_add-at : goal.overflow_add-at
-overflow_add-at c = omega (arith, c.skip_blanks-b.ensures.within, part_length c.args.s.now c.loop-at.at, c.next_token-t.ensures.within, part_length c.args.s.now (c.loop-at.at + c.skip_blanks-b.result))
+overflow_add-at c = omega (arith, c.skip_blanks-b.ensures.within, part_length c.args.s.now c.loop-at.at, (rw c.in-Some.is at c.next_token.ensures).within, part_length c.args.s.now (c.loop-at.at + c.skip_blanks-b.result))
 
 pub overflow_add-count : goal.overflow_add-count
 overflow_add-count c = omega (arith, c.skip_blanks-b.ensures.within, part_length c.args.s.now c.loop-at.at)
 
 pub loop-at-smaller : goal.loop-at-smaller
-loop-at-smaller c = omega (arith, c.skip_blanks-b.ensures.within, part_length c.args.s.now c.loop-at.at, c.next_token-t.ensures.within, part_length c.args.s.now (c.loop-at.at + c.skip_blanks-b.result))
+loop-at-smaller c = omega (arith, c.skip_blanks-b.ensures.within, part_length c.args.s.now c.loop-at.at, (rw c.in-Some.is at c.next_token.ensures).within, part_length c.args.s.now (c.loop-at.at + c.skip_blanks-b.result))
 
 pub loop-at-preserved : goal.loop-at-preserved
-loop-at-preserved c = (omega (arith, c.skip_blanks-b.ensures.within, part_length c.args.s.now c.loop-at.at, c.next_token-t.ensures.within, part_length c.args.s.now (c.loop-at.at + c.skip_blanks-b.result)), omega (arith, c.skip_blanks-b.ensures.within, part_length c.args.s.now c.loop-at.at))
+loop-at-preserved c = (omega (arith, c.skip_blanks-b.ensures.within, part_length c.args.s.now c.loop-at.at, (rw c.in-Some.is at c.next_token.ensures).within, part_length c.args.s.now (c.loop-at.at + c.skip_blanks-b.result)), omega (arith, c.skip_blanks-b.ensures.within, part_length c.args.s.now c.loop-at.at))

@@ -1,16 +1,9 @@
 -- `is_iri` meets its contract.
-use mathlib.Core.List.{[]}
-use Prim.Native.Nat.{◌-◌}
 use native.Mathlib.Omega.{arith}
-use Rattle.characters.specs.Bytes.{iri}
-use Rattle.characters.proofs.Sets.{bit_set, ranged}
+use mathlib.Core.Path.{◌∙◌}
+use Rattle.characters.specs.Bytes.{iri, bit_at}
+use Rattle.characters.proofs.Sets.{told}
 use Rattle.characters.proofs.bytes.is_iri.Goals as goal
 
-pub returns-then-k-lt64 : goal.returns-then-k-lt64
-returns-then-k-lt64 c = bit_set iri 12682136524905512960 0 tt c.args.b c.wide-k.result (omega (arith, c.wide-k.ensures.0)) c.if-k-lt64.true
-
-pub returns-then-k-lt128 : goal.returns-then-k-lt128
-returns-then-k-lt128 c = bit_set iri 14411518801948442623 64 tt c.args.b (c.wide-k.result - 64) (omega (arith, c.wide-k.ensures.0)) (omega arith)
-
 pub returns : goal.returns
-returns c = ranged iri _ [] 128 128 tt c.args.b (λ o. o) (omega (arith, c.wide-k.ensures.0)) (omega arith)
+returns c = c.in_bits.ensures ∙ told iri (bit_at 0xAFFFFFFA00000000 0xC7FFFFFEAFFFFFFF) tt c.args.b (omega arith)

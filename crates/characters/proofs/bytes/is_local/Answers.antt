@@ -1,16 +1,9 @@
 -- `is_local` meets its contract.
-use mathlib.Core.List.{[]}
-use Prim.Native.Nat.{◌-◌}
 use native.Mathlib.Omega.{arith}
-use Rattle.characters.specs.Bytes.{local}
-use Rattle.characters.proofs.Sets.{bit_set, ranged}
+use mathlib.Core.Path.{◌∙◌}
+use Rattle.characters.specs.Bytes.{local, bit_at}
+use Rattle.characters.proofs.Sets.{told}
 use Rattle.characters.proofs.bytes.is_local.Goals as goal
 
-pub returns-then-k-lt64 : goal.returns-then-k-lt64
-returns-then-k-lt64 c = bit_set local 576214461698801664 0 tt c.args.b c.wide-k.result (omega (arith, c.wide-k.ensures.0)) c.if-k-lt64.true
-
-pub returns-then-k-lt128 : goal.returns-then-k-lt128
-returns-then-k-lt128 c = bit_set local 576460745995190270 64 tt c.args.b (c.wide-k.result - 64) (omega (arith, c.wide-k.ensures.0)) (omega arith)
-
 pub returns : goal.returns
-returns c = ranged local _ [] 128 128 tt c.args.b (λ o. o) (omega (arith, c.wide-k.ensures.0)) (omega arith)
+returns c = c.in_bits.ensures ∙ told local (bit_at 0x07FF200000000000 0x07FFFFFE87FFFFFE) tt c.args.b (omega arith)

@@ -1,18 +1,13 @@
+-- `hexes` meets its contract.
 use native.Mathlib.Omega.{arith}
-use Rattle.characters.proofs.Spans.{hex_none, hex_stop, hex_next, hex_done, hex_begin}
+use mathlib.Core.Path.{ap}
+use lib.ListN.{length}
+use Rattle.utf8.proofs.Decoding.{tail_eq}
+use Rattle.characters.proofs.Spans.{hex_all, hex_short}
 use Rattle.characters.proofs.runs.hexes.Goals as goal
 
-pub loop-k-init : goal.loop-k-init
-loop-k-init c = (omega arith, hex_begin c.args.s.now c.args.at c.args.n)
+pub returns-in-Some : goal.returns-in-Some
+returns-in-Some c = let l = c.in-Some.ensures.lookup in hex_all c.args.s.now c.args.at c.args.n l.0.1 _ l.0.2 _ c.all_hex.ensures
 
-pub returns-then-s-at : goal.returns-then-s-at
-returns-then-s-at c = hex_none c.args.s.now c.args.at c.args.n c.loop-k.k c.loop-k-test.true c.loop-k.invariant.1 c.if-s-at.true
-
-pub returns-then-not-is_hex : goal.returns-then-not-is_hex
-returns-then-not-is_hex c = hex_stop c.args.s.now c.args.at c.args.n c.loop-k.k c.loop-k-test.true c.loop-k.invariant.1 c.if-s-at.false _ c.is_hex.ensures c.if-not-is_hex.true
-
-pub loop-k-preserved : goal.loop-k-preserved
-loop-k-preserved c = (omega arith, hex_next c.args.s.now c.args.at c.args.n c.loop-k.k c.loop-k-test.true c.loop-k.invariant.1 c.if-s-at.false _ c.is_hex.ensures c.if-not-is_hex.false)
-
-pub returns : goal.returns
-returns c = hex_done c.args.s.now c.args.at c.args.n c.loop-k.k c.loop-k-test.false c.loop-k.invariant.1
+pub returns-in-None : goal.returns-in-None
+returns-in-None c = let l = c.in-None.ensures.lookup in hex_short _ _ (omega (arith, ap length (tail_eq c.args.s.now c.args.at), l.0))

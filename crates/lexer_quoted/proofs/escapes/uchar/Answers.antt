@@ -1,21 +1,17 @@
 -- `uchar` meets its contract.
+use native.Mathlib.Omega.{arith}
+use mathlib.Core.Path.{sym, ◌∙◌}
 use Rattle.lexer_quoted.proofs.Escaping.{uchar_none, uchar_four, uchar_eight, uchar_other}
 use Rattle.lexer_quoted.proofs.escapes.uchar.Goals as goal
 
-pub returns-then-s-at : goal.returns-then-s-at
-returns-then-s-at c = uchar_none c.args.s.now c.args.at c.if-s-at.true
+pub returns-in_err-get : goal.returns-in_err-get
+returns-in_err-get c = rw c.from_residual.ensures (uchar_none c.args.s.now c.args.at (omega (arith, c.in_err-get.ensures.lookup)))
 
-pub returns-then-hexes : goal.returns-then-hexes
-returns-then-hexes c = rw c.if-hexes.true at (uchar_four c.args.s.now c.args.at c.if-s-at.false c.if-b-eq117.true c.hexes.result c.hexes.ensures)
+pub returns-in-117 : goal.returns-in-117
+returns-in-117 c = let l = c.in_ok-get.ensures.lookup.3 in c.then_some.ensures ∙ uchar_four c.args.s.now c.args.at l.0 (sym (l.1 0) ∙ c.in-117.is) _ c.hexes.ensures
 
-pub returns-then-b-eq117 : goal.returns-then-b-eq117
-returns-then-b-eq117 c = rw c.if-hexes.false at (uchar_four c.args.s.now c.args.at c.if-s-at.false c.if-b-eq117.true c.hexes.result c.hexes.ensures)
+pub returns-in-85 : goal.returns-in-85
+returns-in-85 c = let l = c.in_ok-get.ensures.lookup.3 in c.then_some-in-85.ensures ∙ uchar_eight c.args.s.now c.args.at l.0 (sym (l.1 0) ∙ c.in-85.is) _ c.hexes-in-85.ensures
 
-pub returns-then-hexes-2 : goal.returns-then-hexes-2
-returns-then-hexes-2 c = rw c.if-hexes-2.true at (uchar_eight c.args.s.now c.args.at c.if-s-at.false c.if-b-eq117.false c.if-b-eq85.true c.hexes-then-b-eq85.result c.hexes-then-b-eq85.ensures)
-
-pub returns-else-hexes-2 : goal.returns-else-hexes-2
-returns-else-hexes-2 c = rw c.if-hexes-2.false at (uchar_eight c.args.s.now c.args.at c.if-s-at.false c.if-b-eq117.false c.if-b-eq85.true c.hexes-then-b-eq85.result c.hexes-then-b-eq85.ensures)
-
-pub returns-else-b-eq85 : goal.returns-else-b-eq85
-returns-else-b-eq85 c = uchar_other c.args.s.now c.args.at c.if-s-at.false c.if-b-eq117.false c.if-b-eq85.false
+pub returns-in_default : goal.returns-in_default
+returns-in_default c = let l = c.in_ok-get.ensures.lookup.3 in uchar_other c.args.s.now c.args.at l.0 (λ e. c.in_default.in_default-own.rest.0.1 (l.1 0 ∙ e)) (λ e. c.in_default.in_default-own.rest.1 (l.1 0 ∙ e))

@@ -12,17 +12,17 @@ returns-then-run-eq2 c = long_close c.args.s.now c.args.quote c.args.kind c.requ
 pub loop-i-preserved-then-b-quote : goal.loop-i-preserved-then-b-quote
 loop-i-preserved-then-b-quote c = (omega arith, long_quote c.args.s.now c.args.quote c.args.kind c.requires.2 c.loop-i.i c.loop-i.run c.loop-i.invariant.1 c.loop-i-test.true c.if-b-quote.true c.if-run-eq2.false)
 
-pub returns-then-n-eq0 : goal.returns-then-n-eq0
-returns-then-n-eq0 c = long_broken c.args.s.now c.args.quote c.args.kind c.requires.2 c.loop-i.i c.loop-i.run c.loop-i.invariant.1 c.loop-i-test.true c.if-b-eq92.true _ c.escape-n.ensures c.if-n-eq0.true
+pub returns-in_err-n : goal.returns-in_err-n
+returns-in_err-n c = rw c.from_residual.ensures (long_broken c.args.s.now c.args.quote c.args.kind c.requires.2 c.loop-i.i c.loop-i.run c.loop-i.invariant.1 c.loop-i-test.true c.if-b-eq92.true _ c.escape.ensures c.in_err-n.was)
 
 pub overflow_add-i-then-b-eq92-3 : goal.overflow_add-i-then-b-eq92-3
-overflow_add-i-then-b-eq92-3 c = omega (arith, (long_escaped c.args.s.now c.args.quote c.args.kind c.requires.2 c.loop-i.i c.loop-i.run c.loop-i.invariant.1 c.loop-i-test.true c.if-b-eq92.true _ c.escape-n.ensures c.if-n-eq0.false).within)
+overflow_add-i-then-b-eq92-3 c = omega (arith, (long_escaped c.args.s.now c.args.quote c.args.kind c.requires.2 c.loop-i.i c.loop-i.run c.loop-i.invariant.1 c.loop-i-test.true c.if-b-eq92.true _ c.escape.ensures _ c.in_ok-n.was).within)
 
 pub loop-i-smaller-then-b-eq92 : goal.loop-i-smaller-then-b-eq92
-loop-i-smaller-then-b-eq92 c = omega (arith, (long_escaped c.args.s.now c.args.quote c.args.kind c.requires.2 c.loop-i.i c.loop-i.run c.loop-i.invariant.1 c.loop-i-test.true c.if-b-eq92.true _ c.escape-n.ensures c.if-n-eq0.false).within)
+loop-i-smaller-then-b-eq92 c = omega (arith, (long_escaped c.args.s.now c.args.quote c.args.kind c.requires.2 c.loop-i.i c.loop-i.run c.loop-i.invariant.1 c.loop-i-test.true c.if-b-eq92.true _ c.escape.ensures _ c.in_ok-n.was).within)
 
 pub loop-i-preserved-then-b-eq92 : goal.loop-i-preserved-then-b-eq92
-loop-i-preserved-then-b-eq92 c = (omega arith, long_escaped c.args.s.now c.args.quote c.args.kind c.requires.2 c.loop-i.i c.loop-i.run c.loop-i.invariant.1 c.loop-i-test.true c.if-b-eq92.true _ c.escape-n.ensures c.if-n-eq0.false)
+loop-i-preserved-then-b-eq92 c = (omega arith, long_escaped c.args.s.now c.args.quote c.args.kind c.requires.2 c.loop-i.i c.loop-i.run c.loop-i.invariant.1 c.loop-i-test.true c.if-b-eq92.true _ c.escape.ensures _ c.in_ok-n.was)
 
 pub loop-i-smaller : goal.loop-i-smaller
 loop-i-smaller c = omega (arith, c.next_of_four-i.ensures.1.0, c.next_of_four-i.ensures.1.1)

@@ -15,17 +15,17 @@ returns-then-b-eq10 c = str_line c.args.s.now c.args.quote c.args.kind c.require
 pub returns-then-b-eq13 : goal.returns-then-b-eq13
 returns-then-b-eq13 c = str_return c.args.s.now c.args.quote c.args.kind c.requires.2 c.loop-i.i c.loop-i.invariant c.loop-i-test.true c.if-b-eq13.true
 
-pub returns-then-n-eq0 : goal.returns-then-n-eq0
-returns-then-n-eq0 c = str_broken c.args.s.now c.args.quote c.args.kind c.requires.2 c.loop-i.i c.loop-i.invariant c.loop-i-test.true c.if-b-eq92.true _ c.escape-n.ensures c.if-n-eq0.true
+pub returns-in_err-n : goal.returns-in_err-n
+returns-in_err-n c = rw c.from_residual.ensures (str_broken c.args.s.now c.args.quote c.args.kind c.requires.2 c.loop-i.i c.loop-i.invariant c.loop-i-test.true c.if-b-eq92.true _ c.escape.ensures c.in_err-n.was)
 
 pub overflow_add-i-then-b-eq92-2 : goal.overflow_add-i-then-b-eq92-2
-overflow_add-i-then-b-eq92-2 c = omega (arith, (str_escaped c.args.s.now c.args.quote c.args.kind c.requires.2 c.loop-i.i c.loop-i.invariant c.loop-i-test.true c.if-b-eq92.true _ c.escape-n.ensures c.if-n-eq0.false).within)
+overflow_add-i-then-b-eq92-2 c = omega (arith, (str_escaped c.args.s.now c.args.quote c.args.kind c.requires.2 c.loop-i.i c.loop-i.invariant c.loop-i-test.true c.if-b-eq92.true _ c.escape.ensures _ c.in_ok-n.was).within)
 
 pub loop-i-smaller-then-b-eq92 : goal.loop-i-smaller-then-b-eq92
-loop-i-smaller-then-b-eq92 c = omega (arith, (str_escaped c.args.s.now c.args.quote c.args.kind c.requires.2 c.loop-i.i c.loop-i.invariant c.loop-i-test.true c.if-b-eq92.true _ c.escape-n.ensures c.if-n-eq0.false).within)
+loop-i-smaller-then-b-eq92 c = omega (arith, (str_escaped c.args.s.now c.args.quote c.args.kind c.requires.2 c.loop-i.i c.loop-i.invariant c.loop-i-test.true c.if-b-eq92.true _ c.escape.ensures _ c.in_ok-n.was).within)
 
 pub loop-i-preserved-then-b-eq92 : goal.loop-i-preserved-then-b-eq92
-loop-i-preserved-then-b-eq92 c = str_escaped c.args.s.now c.args.quote c.args.kind c.requires.2 c.loop-i.i c.loop-i.invariant c.loop-i-test.true c.if-b-eq92.true _ c.escape-n.ensures c.if-n-eq0.false
+loop-i-preserved-then-b-eq92 c = str_escaped c.args.s.now c.args.quote c.args.kind c.requires.2 c.loop-i.i c.loop-i.invariant c.loop-i-test.true c.if-b-eq92.true _ c.escape.ensures _ c.in_ok-n.was
 
 pub loop-i-smaller : goal.loop-i-smaller
 loop-i-smaller c = omega (arith, c.next_of_four-i.ensures.1.0, c.next_of_four-i.ensures.1.1)

@@ -2,26 +2,26 @@ use native.Mathlib.Omega.{arith}
 use Rattle.lexer_words.proofs.Parts.{label_run, label_stop, label_to_dot, label_other, label_more}
 use Rattle.lexer_words.proofs.labels.label_rest.Goals as goal
 
-pub names-i-requires : goal.names-i-requires
-names-i-requires c = c.requires.within
+pub run-i-requires : goal.run-i-requires
+run-i-requires c = c.requires.within
 
 pub loop-i-init : goal.loop-i-init
-loop-i-init c = label_run c.args.s.now c.args.at c.names-i.result c.requires c.names-i.ensures
+loop-i-init c = label_run c.args.s.now c.args.at c.run-i.result c.requires c.run-i.ensures
 
 pub loop-i-preserved-then-s-i-eq46 : goal.loop-i-preserved-then-s-i-eq46
 loop-i-preserved-then-s-i-eq46 c = label_to_dot c.args.s.now c.loop-i.i c.loop-i.end c.loop-i.invariant c.loop-i-test.true c.if-s-i-eq46.true
 
-pub returns-then-n-eq0 : goal.returns-then-n-eq0
-returns-then-n-eq0 c = label_other c.args.s.now c.loop-i.i c.loop-i.end c.loop-i.invariant c.loop-i-test.true _ c.name_char-n.ensures c.if-s-i-eq46.false c.if-n-eq0.true
-
 pub overflow_add-i-else-s-i-eq46 : goal.overflow_add-i-else-s-i-eq46
-overflow_add-i-else-s-i-eq46 c = omega (arith, c.name_char-n.ensures.within)
+overflow_add-i-else-s-i-eq46 c = omega (arith, c.char_at.ensures.within _ c.in-Some.is)
 
 pub loop-i-smaller : goal.loop-i-smaller
-loop-i-smaller c = omega (arith, c.name_char-n.ensures.within)
+loop-i-smaller c = omega (arith, c.char_at.ensures.within _ c.in-Some.is)
 
 pub loop-i-preserved : goal.loop-i-preserved
-loop-i-preserved c = label_more c.args.s.now c.loop-i.i c.loop-i.end c.loop-i.invariant c.loop-i-test.true _ c.name_char-n.ensures c.if-n-eq0.false
+loop-i-preserved c = label_more c.args.s.now c.loop-i.i c.loop-i.end c.loop-i.invariant c.loop-i-test.true _ c.char_at.ensures _ c.in-Some.is
 
-pub returns : goal.returns
-returns c = label_stop c.args.s.now c.loop-i.i c.loop-i.end c.loop-i.invariant c.loop-i-test.false
+pub returns-in_default : goal.returns-in_default
+returns-in_default c = label_other c.args.s.now c.loop-i.i c.loop-i.end c.loop-i.invariant c.loop-i-test.true _ c.char_at.ensures c.if-s-i-eq46.false c.in_default.is
+
+pub returns-after-loop-i : goal.returns-after-loop-i
+returns-after-loop-i c = label_stop c.args.s.now c.loop-i.i c.loop-i.end c.loop-i.invariant c.loop-i-test.false

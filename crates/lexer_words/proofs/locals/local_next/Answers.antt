@@ -5,8 +5,8 @@ use Rattle.characters.specs.Names.{inner}
 use Rattle.lexer_words.proofs.Parts.{local_char_is, local_plx_is}
 use Rattle.lexer_words.proofs.locals.local_next.Goals as goal
 
-pub returns-then-n-ne0 : goal.returns-then-n-ne0
-returns-then-n-ne0 c = local_char_is local inner c.args.s.now c.args.at _ c.requires c.local_char-n.ensures refl refl c.if-n-ne0.true
+pub returns-in-Some : goal.returns-in-Some
+returns-in-Some c = local_char_is local inner c.args.s.now c.args.at _ c.requires c.char_at.ensures refl refl _ c.in-Some.is
 
 pub returns : goal.returns
-returns c = local_plx_is local inner c.args.s.now c.args.at _ c.requires c.local_char-n.ensures refl refl c.if-n-ne0.false _ c.plx.ensures
+returns c = local_plx_is local inner c.args.s.now c.args.at _ c.requires c.char_at.ensures refl refl c.in_default.is _ c.plx.ensures

@@ -2,8 +2,8 @@
 use Rattle.lexer_words.proofs.Numbering.{exponent_done}
 use Rattle.lexer_words.proofs.numbers.exponent_digits.Goals as goal
 
-pub digits-i-requires : goal.digits-i-requires
-digits-i-requires c = c.requires.within
+pub run-i-requires : goal.run-i-requires
+run-i-requires c = c.requires.within
 
 pub returns : goal.returns
-returns c = exponent_done c.args.s.now c.args.at c.digits-i.result c.requires c.digits-i.ensures
+returns c = exponent_done c.args.s.now c.args.at c.run-i.result c.requires c.run-i.ensures
