@@ -14,12 +14,12 @@ use Rattle.text.proofs.Over.{over_at_none, over_at_length, over_part, over_at_ap
 use Rattle.table.specs.Layout.{Slices}
 use Rattle.table.specs.Usable.{for_long_form, text, usable}
 use Rattle.table.proofs.Written as told
-use Rattle.usable.specs.Lent.{drawn}
-use Rattle.look_up.specs.Record.{Rows, head_of, record_of, head_size}
+use Rattle.look_up.specs.declared.Rows.{Rows}
+use Rattle.look_up.specs.Record.{head_of, record_of, head_size}
 use Rattle.subject_index.specs.declared.Chosen.{Chosen}
 use Rattle.subject_index.specs.Index.{index_of, subject, index, write}
 use Rattle.subject_index.specs.Code.{named, Chooses}
-use Rattle.subject_index.proofs.Checking.{head_length, rows_of, record_length, left, all_left, none_left, one_left, index_drawn}
+use Rattle.subject_index.proofs.Checking.{head_length, rows_of, record_length, left, all_left, none_left, one_left, index_told}
 
 -- A record is written in two parts.
 pub put_law : (t : Text) (r : Rows) (head x y z : Text) (at k k' : ℕ) (mid : Text) → head ≡ head_of (length t) r → k ≡ length x - at → y ≡ over head (take k (drop at x)) → mid ≡ take at x ++ (y ++ drop k (drop at x))
@@ -82,13 +82,13 @@ module _ (s : Slices) (x : Text) where
   unfolding write
   not_usable e = told.not_usable 22 (usable for_long_form s) (index s) x e
 
-  module _ (e : usable for_long_form s ≡ true) (m : ℕ) (z : m ≡ s.row_count) where
+  module _ (e : usable for_long_form s ≡ true) where
     abbrev form : Text
-    form = index_of (subject (drawn s.rows s.terms s.store)) m
+    form = index_of (subject s) s.row_count
 
     pub too_long : leb (length form) (length x) ≡ false → told.answered 22 0 x ≡ write s x
     unfolding write
-    too_long f = rw (index_drawn s m z) (told.too_long 22 (usable for_long_form s) form x e f)
+    too_long f = rw (index_told s) (told.too_long 22 (usable for_long_form s) form x e f)
 
     module _ (f : leb (length form) (length x) ≡ true) where
       pub fits : length form ≤ length x
@@ -96,4 +96,4 @@ module _ (s : Slices) (x : Text) where
 
       pub whole : (r : ℕ) (y : Text) → r ≡ length form → y ≡ over form x → told.answered 0 r y ≡ write s x
       unfolding write
-      whole r y g h = rw (index_drawn s m z) (told.whole 22 (usable for_long_form s) form x e f r y g h)
+      whole r y g h = rw (index_told s) (told.whole 22 (usable for_long_form s) form x e f r y g h)

@@ -3,7 +3,7 @@ use mathlib.Core.Path.{◌≡◌, refl, sym, ap, ◌∙◌}
 use mathlib.Core.List.{[], ◌++◌}
 use mathlib.Core.Bool.{Bool, true, false, ◌&&◌}
 use mathlib.Core.Option.{Option, none, some}
-use Prim.Native.Nat.{ℕ, ◌+◌, ◌-◌, ◌≤◌, ◌<◌}
+use Prim.Native.Nat.{ℕ, ◌+◌, ◌-◌, ◌≤◌}
 use native.Mathlib.Omega.{arith}
 use lib.Dec.{eqb}
 use lib.ListN.{length, take, drop, length-append, length-drop}
@@ -13,12 +13,13 @@ use Rattle.text.proofs.Compare.{begins_length, begins_append, same_append, same_
 use Rattle.text.proofs.Over.{rest_all}
 use Rattle.table.specs.Layout.{Slices, row_at}
 use Rattle.table.specs.Usable.{for_long_form, text, usable}
-use Rattle.usable.specs.Lent.{drawn}
 use Rattle.usable.proofs.Facts.{usable_fits, usable_row}
 use Rattle.usable.proofs.Standing.{stands, text_stands, subject_in}
-use Rattle.look_up.specs.Record.{Rows, rows, head_of, record_of, head_size}
+use Rattle.look_up.specs.declared.Rows.{Rows}
+use Rattle.look_up.specs.Record.{rows, head_of, record_of, head_size}
 use Rattle.subject_index.specs.declared.Chosen.{Chosen}
-use Rattle.subject_index.specs.declared.Checked.{Checked}
+use Rattle.std.specs.Prelude.{Ok, Err}
+use Rattle.limits.specs.declared.Refusal.TheVariants.{Tables}
 use Rattle.subject_index.specs.Index.{sorted, walk, records, index_of, subject, index, check}
 use Rattle.subject_index.specs.Code.{named, Ready, next, Chooses}
 use Rattle.subject_index.proofs.Rising.{rising_sorted}
@@ -113,29 +114,22 @@ module _ (s : Slices) (subject : ℕ → Option Text) (n : ℕ) where
 
 -- ---- The answer
 
-module _ (s : Slices) (m : ℕ) (z : m ≡ s.row_count) where
-  abbrev plain : Slices
-  plain = drawn s.rows s.terms s.store
+module _ (s : Slices) where
+  pub index_told : index s ≡ index_of (subject s) s.row_count
+  unfolding index
+  index_told = refl
 
-  pub index_drawn : index s ≡ index_of (subject plain) m
-  unfolding index subject
-  index_drawn = ap (λ (k : ℕ). index_of (subject plain) k) (sym z)
-
-  pub ready : usable for_long_form s ≡ true → Ready plain m
+  pub ready : usable for_long_form s ≡ true → Ready s s.row_count
   ready e i h =
-      let l : i < s.row_count = omega (arith, z) in
       let r = row_at s.rows i in
-      let p = subject_in s r (usable_row for_long_form s e i l) in
+      let p = subject_in s r (usable_row for_long_form s e i h) in
       let f = (usable_fits for_long_form s e).rows in
       record { stands = omega arith; subject = record { stands = stands for_long_form s e r.subject p; text_in = text_stands for_long_form s e r.subject p } }
 
-  abbrev checked : ℕ → Bool → Checked
-  checked k b = record { number = k; yes = b }
-
-  pub check_bad : (bytes : Text) → usable for_long_form s ≡ false → checked 18 false ≡ check s bytes
+  pub check_bad : (bytes : Text) → usable for_long_form s ≡ false → Err Tables ≡ check s bytes
   unfolding check
   check_bad bytes e = rw e
 
-  pub check_good : (bytes : Text) (r : Bool) → usable for_long_form s ≡ true → r ≡ same_text (index_of (subject plain) m) bytes → checked 0 r ≡ check s bytes
+  pub check_good : (bytes : Text) (r : Bool) → usable for_long_form s ≡ true → r ≡ same_text (index_of (subject s) s.row_count) bytes → Ok r ≡ check s bytes
   unfolding check
-  check_good bytes r e f = rw (e, f, index_drawn)
+  check_good bytes r e f = rw (e, f, index_told)

@@ -14,8 +14,8 @@ use Rattle.text.proofs.Compare.{by, contrary, and_left, and_right, same_eq, same
 use Rattle.text.proofs.Order.{smaller_trans, smaller_differs}
 use Rattle.table.specs.Layout.{Slices, row_at, entry_at, iri_kind}
 use Rattle.table.specs.Usable.{text}
-use Rattle.usable.specs.Lent.{lent, drawn}
-use Rattle.look_up.specs.Record.{Rows, rows}
+use Rattle.look_up.specs.declared.Rows.{Rows}
+use Rattle.look_up.specs.Record.{rows}
 use Rattle.look_up.specs.Look.{rises}
 use Rattle.subject_index.specs.declared.Chosen.{Chosen}
 use Rattle.subject_index.specs.Index.{is_subject, counted, walk, subject}
@@ -60,25 +60,22 @@ module _ (rows terms : List ℕ) (i : ℕ) where
   unfolding subject_number
   number_other n k e f h = rw (ne_eqb (entry_at terms (row_at rows i).subject).kind iri_kind (λ g. h (f ∙ (ap (λ (m : ℕ). (entry_at terms m).kind) e ∙ g))))
 
-  module _ (store : Text) (S : SubjectIn (drawn rows terms store) i) (n : ℕ) (e : n ≡ subject_number rows terms i) where
-    abbrev s : Slices
-    s = lent terms 0 store 0
+module _ (s : Slices) (i : ℕ) (S : SubjectIn s i) (n : ℕ) (e : n ≡ subject_number s.rows s.terms i) where
+  pub subject_named : subject s i ≡ named s n
+  unfolding subject subject_number named
+  subject_named =
+      by (eqb (entry_at s.terms (row_at s.rows i).subject).kind iri_kind)
+      (λ q. let z : n ≡ (row_at s.rows i).subject = e ∙ rw q in
+      let p = S.subject.stands.0 in
+      rw (q, z, ne_eqb (row_at s.rows i).subject 0 (λ x. omega (arith, x))))
+      (λ q. let z : n ≡ 0 = e ∙ rw q in rw (q, z))
 
-    pub subject_named : subject (drawn rows terms store) i ≡ named s n
-    unfolding subject subject_number named
-    subject_named =
-        by (eqb (entry_at terms (row_at rows i).subject).kind iri_kind)
-        (λ q. let z : n ≡ (row_at rows i).subject = e ∙ rw q in
-        let p = S.subject.stands.0 in
-        rw (q, z, ne_eqb (row_at rows i).subject 0 (λ x. omega (arith, x))))
-        (λ q. let z : n ≡ 0 = e ∙ rw q in rw (q, z))
-
-    pub number_known : Known s n
-    unfolding subject_number
-    number_known h =
-        by (eqb (entry_at terms (row_at rows i).subject).kind iri_kind)
-        (λ q. let z : n ≡ (row_at rows i).subject = e ∙ rw q in subst (λ (m : ℕ). Readable s m) (sym z) S.subject)
-        (λ q. absurd (h (e ∙ rw q)))
+  pub number_known : Known s n
+  unfolding subject_number
+  number_known h =
+      by (eqb (entry_at s.terms (row_at s.rows i).subject).kind iri_kind)
+      (λ q. let z : n ≡ (row_at s.rows i).subject = e ∙ rw q in subst (λ (m : ℕ). Readable s m) (sym z) S.subject)
+      (λ q. absurd (h (e ∙ rw q)))
 
 -- ---- The least text above one: it rises, and what is between has no rows
 

@@ -5,7 +5,7 @@ use Rattle.text.specs.Text.{Text, cond}
 use Rattle.text.specs.Order.{smaller}
 use Rattle.table.specs.Layout.{Slices, row_at, entry_at, iri_kind}
 use Rattle.table.specs.Usable.{text}
-use Rattle.usable.specs.Lent.{Stands, RowStands, SpanIn, lent}
+use Rattle.usable.specs.Lent.{Stands, RowStands, SpanIn}
 use Rattle.look_up.specs.Record.{rows}
 use Rattle.look_up.specs.Look.{rises}
 use Rattle.subject_index.specs.declared.Chosen.{Chosen}
@@ -29,7 +29,7 @@ Known s n = (n ≡ 0 → ⊥) → Readable s n
 
 pub record SubjectIn (s : Slices) (i : ℕ) : Type 0 where
   pub stands : RowStands s.rows i
-  pub subject : Readable (lent s.terms 0 s.store 0) (row_at s.rows i).subject
+  pub subject : Readable s (row_at s.rows i).subject
 
 abbrev pub Ready : Slices → ℕ → Type 0
 Ready s count = (i : ℕ) → i < count → SubjectIn s i

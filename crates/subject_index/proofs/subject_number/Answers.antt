@@ -7,10 +7,10 @@ use borrow.Author.Rules.{rules}
 use Rattle.subject_index.proofs.subject_number.Goals as goal
 
 pub term_word-requires : goal.term_word-requires
-term_word-requires c = (subst (λ (m : ℕ). Stands c.args.terms.now m) (sym (subject_word c.args.rows.now c.args.i c.row_word-n.result c.row_word-n.ensures.0)) c.requires.1, search rules)
+term_word-requires c = (subst (λ (m : ℕ). Stands c.args.tables.now.terms.now m) (sym (subject_word c.args.tables.now.rows.now c.args.i c.row_word-n.result c.row_word-n.ensures.0)) c.requires.1, search rules)
 
 pub returns-then-term_word-eq-IRI : goal.returns-then-term_word-eq-IRI
-returns-then-term_word-eq-IRI c = number_iri c.args.rows.now c.args.terms.now c.args.i _ c.term_word.result (subject_word c.args.rows.now c.args.i c.row_word-n.result c.row_word-n.ensures.0) (kind_word c.args.terms.now c.row_word-n.result c.term_word.result c.term_word.ensures.0) c.if-term_word-eq-IRI.true
+returns-then-term_word-eq-IRI c = number_iri c.args.tables.now.rows.now c.args.tables.now.terms.now c.args.i _ c.term_word.result (subject_word c.args.tables.now.rows.now c.args.i c.row_word-n.result c.row_word-n.ensures.0) (kind_word c.args.tables.now.terms.now c.row_word-n.result c.term_word.result c.term_word.ensures.0) c.if-term_word-eq-IRI.true
 
 pub returns : goal.returns
-returns c = number_other c.args.rows.now c.args.terms.now c.args.i _ c.term_word.result (subject_word c.args.rows.now c.args.i c.row_word-n.result c.row_word-n.ensures.0) (kind_word c.args.terms.now c.row_word-n.result c.term_word.result c.term_word.ensures.0) c.if-term_word-eq-IRI.false
+returns c = number_other c.args.tables.now.rows.now c.args.tables.now.terms.now c.args.i _ c.term_word.result (subject_word c.args.tables.now.rows.now c.args.i c.row_word-n.result c.row_word-n.ensures.0) (kind_word c.args.tables.now.terms.now c.row_word-n.result c.term_word.result c.term_word.ensures.0) c.if-term_word-eq-IRI.false
