@@ -1,14 +1,12 @@
 -- What usable tables have.
-use mathlib.Core.Path.{◌≡◌, refl, sym, ◌∙◌, subst}
+use mathlib.Core.Path.{◌≡◌, sym, ◌∙◌, subst}
 use mathlib.Core.Bool.{Bool, true, ◌&&◌}
-use mathlib.Core.List.{List}
 use Prim.Native.Nat.{ℕ, zero, suc, ◌+◌, ◌*◌, ◌-◌, ◌≤◌, ◌<◌}
 use native.Mathlib.Nat.{suc-add, add-suc, add-zero}
 use native.Mathlib.Omega.{arith}
 use borrow.Author.Tests.{leb-true}
 use lib.ListN.{length}
 use lib.Dec.{leb}
-use Rattle.text.specs.Text.{Text}
 use Rattle.text.proofs.Compare.{and_left, and_right}
 use Rattle.table.specs.Layout.{Slices, row_size, row_at, term_size}
 use Rattle.table.specs.Usable.{each, Takes, counts_fit, good_term, good_row, usable}

@@ -4,14 +4,13 @@ use mathlib.Core.Logic.{⊎_elim}
 use mathlib.Core.Bool.{Bool, true, false, not, ◌&&◌}
 use mathlib.Core.List.{List, [], ◌∷◌}
 use Rattle.std.proofs.Common.{fold}
-use Prim.Native.Nat.{ℕ, zero, suc, ◌+◌, ◌≤◌, ◌<◌, min}
-use native.Mathlib.Numerals.{one-add, add-one}
+use Prim.Native.Nat.{ℕ, suc, ◌≤◌, ◌<◌, min}
+use native.Mathlib.Numerals.{one-add}
 use native.Mathlib.Nat.{min-le_left}
 use native.Mathlib.Omega.{arith}
 use borrow.Author.Tests.{lt-ltb, le-leb, lt-leb, ne_eqb, eq-eqb, eqb-true, eqb-false}
 use lib.Dec.{T, eqb, ltb, leb, ltb→lt, eqb-suc-suc, eqb-zero-suc}
 use lib.ListN.{length, drop}
-use lib.Seq.{drop-cons}
 use Rattle.text.specs.Text.{Text, ascii, cond, same_text}
 use Rattle.text.proofs.Compare.{and_false}
 use Rattle.utf8.specs.Utf8.{Range, ◌–◌, width}
