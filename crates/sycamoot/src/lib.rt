@@ -2,7 +2,7 @@
 // and the look-up in it, the comparison of two editions. Each hands on to the call that is proved, and gives its answer in types of fixed width.
 #![tactic(auto)]
 
-ghost use Rattle.std.specs.Prelude.{◌≡◌, ◌≤◌, length, replicate};
+ghost use Rattle.std.specs.Prelude.{◌≡◌, List, ℕ, ◌≤◌, length, replicate, IfOk};
 ghost use Rattle.text.specs.Text.{cond};
 ghost use Rattle.limits.specs.Limits.{iri_limit};
 ghost use Rattle.table.specs.LongForm.{write};
@@ -11,9 +11,13 @@ ghost use Rattle.usable.specs.Lent.{slices};
 ghost use Rattle.reader.specs.Reader.{lent_slices, Contract};
 ghost use Rattle.look_up.specs.Look.{look};
 ghost use Rattle.subject_index.specs.Index.{write as index_write, check};
+ghost use Rattle.comparison.specs.Answer.{answer as answer_of};
 ghost use Rattle.comparison.specs.Comparison.{compare};
-ghost use Rattle.sycamoot.specs.Answers.{known_mode, reading, written, shown, checked, looked_up, Tells};
+ghost use Rattle.sycamoot.specs.Answers.{known_mode, reading, written, shown, checked, looked_up, compared, Tells};
 
+use comparison::Counts;
+use limits::Refusal;
+use table::Tables;
 use term_text::Span;
 
 // The reader's answer: its number, the position it speaks of, and the counts of rows, terms and store bytes.
@@ -246,6 +250,27 @@ pub extern "C" fn sycamoot_look_up(address: &[u8], index: &[u8]) -> Found
     }
 }
 
+// The comparison's answer in types of fixed width.
+fn told(answer: Result<Counts, Refusal>) -> Compared
+    requires { IfOk answer (λ c. (c.left ≤ 4294967295) × (c.right ≤ 4294967295)) }
+    ensures { (left_list right_list : List ℕ) → result ≡ compared (answer_of answer left_list right_list) }
+{
+    match answer {
+        Ok(counts) => Compared {
+            number: 0,
+            same: u32::from(counts.are_none()),
+            left: narrow(counts.left),
+            right: narrow(counts.right),
+        },
+        Err(refusal) => Compared {
+            number: u32::from(u8::from(refusal)),
+            same: 0,
+            left: 0,
+            right: 0,
+        },
+    }
+}
+
 // Compares two editions: the numbers of the rows whose statements are only in the left, and only in the right.
 #[unsafe(no_mangle)]
 pub extern "C" fn sycamoot_compare(
@@ -267,31 +292,27 @@ pub extern "C" fn sycamoot_compare(
 ) -> Compared
     ensures { Tells (compare (slices left_rows.now left_row_count left_terms.now left_term_count left_store.now left_store_count) (slices right_rows.now right_row_count right_terms.now right_term_count right_store.now right_store_count) pairing.now left_list.old right_list.old) result left_list.new right_list.new }
 {
-    let plain = comparison::compare(
-        left_rows,
-        left_row_count,
-        left_terms,
-        left_term_count,
-        left_store,
-        left_store_count,
-        right_rows,
-        right_row_count,
-        right_terms,
-        right_term_count,
-        right_store,
-        right_store_count,
+    told(comparison::compare(
+        &Tables {
+            rows: left_rows,
+            row_count: left_row_count,
+            terms: left_terms,
+            term_count: left_term_count,
+            store: left_store,
+            store_count: left_store_count,
+        },
+        &Tables {
+            rows: right_rows,
+            row_count: right_row_count,
+            terms: right_terms,
+            term_count: right_term_count,
+            store: right_store,
+            store_count: right_store_count,
+        },
         pairing,
         left_list,
         right_list,
-    );
-    let left = plain.left;
-    let right = plain.right;
-    Compared {
-        number: plain.number as u32,
-        same: one_or_zero(plain.same),
-        left: narrow(left),
-        right: narrow(right),
-    }
+    ))
 }
 
 // The same, with words for an index, which are zero afterwards.
@@ -316,30 +337,26 @@ pub extern "C" fn sycamoot_compare_indexed(
 ) -> Compared
     ensures { Tells (compare (slices left_rows.now left_row_count left_terms.now left_term_count left_store.now left_store_count) (slices right_rows.now right_row_count right_terms.now right_term_count right_store.now right_store_count) pairing.now left_list.old right_list.old) result left_list.new right_list.new × (index.new ≡ replicate (length index.old) 0) }
 {
-    let indexed = comparison::compare_indexed(
-        left_rows,
-        left_row_count,
-        left_terms,
-        left_term_count,
-        left_store,
-        left_store_count,
-        right_rows,
-        right_row_count,
-        right_terms,
-        right_term_count,
-        right_store,
-        right_store_count,
+    told(comparison::compare_indexed(
+        &Tables {
+            rows: left_rows,
+            row_count: left_row_count,
+            terms: left_terms,
+            term_count: left_term_count,
+            store: left_store,
+            store_count: left_store_count,
+        },
+        &Tables {
+            rows: right_rows,
+            row_count: right_row_count,
+            terms: right_terms,
+            term_count: right_term_count,
+            store: right_store,
+            store_count: right_store_count,
+        },
         pairing,
         left_list,
         right_list,
         index,
-    );
-    let left_count = indexed.left;
-    let right_count = indexed.right;
-    Compared {
-        number: indexed.number as u32,
-        same: one_or_zero(indexed.same),
-        left: narrow(left_count),
-        right: narrow(right_count),
-    }
+    ))
 }
