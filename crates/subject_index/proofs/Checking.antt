@@ -18,13 +18,12 @@ use Rattle.usable.proofs.Standing.{stands, text_stands, subject_in}
 use Rattle.look_up.specs.declared.Rows.{Rows}
 use Rattle.look_up.specs.Record.{rows, head_of, record_of, head_size}
 use Rattle.subject_index.specs.declared.Chosen.{Chosen}
-use Rattle.std.specs.Prelude.{Ok, Err}
+use Rattle.std.specs.Prelude.{Ok, Err, Some, None}
 use Rattle.limits.specs.declared.Refusal.TheVariants.{Tables}
 use Rattle.subject_index.specs.Index.{sorted, walk, records, index_of, subject, index, check}
 use Rattle.subject_index.specs.Code.{named, Ready, next, Chooses}
 use Rattle.subject_index.proofs.Rising.{rising_sorted}
 use Rattle.subject_index.proofs.Above.{above, above_all, above_next, above_end, next_sorted}
-use Rattle.subject_index.proofs.Choosing.{named_none, named_some}
 
 -- ---- A record at the front
 
@@ -73,44 +72,41 @@ pub record_length : (t : Text) (r : Rows) → length (record_of t r) ≡ head_si
 record_length t r = let a = length-append (head_of (length t) r) t in let l = head_length (length t) r in omega arith
 
 module _ (s : Slices) (subject : ℕ → Option Text) (n : ℕ) where
-  pub all_left : index_of subject n ≡ left subject n (named s 0)
-  unfolding named
+  pub all_left : index_of subject n ≡ left subject n (named s None)
   all_left = left_start subject n
 
-  module _ (p : Option Text) (c : Chosen) (C : Chooses s subject p n c) where
-    pub none_left : c.number ≡ 0 → left subject n p ≡ []
-    none_left z = left_end subject n p (sym (named_none s c.number z) ∙ C.next)
+  pub none_left : (p : Option Text) → Chooses s subject p n None → left subject n p ≡ []
+  none_left p C = left_end subject n p C.next
 
-    pub one_left : (c.number ≡ 0 → ⊥) → left subject n p ≡ record_of (text s c.number) (rows_of c) ++ left subject n (named s c.number)
-    one_left k =
-        left_next subject n p (text s c.number) (sym (named_some s c.number k) ∙ C.next)
-        ∙ rw (C.rows k, named_some s c.number k)
+  -- In bytes that are to be the index, from a place on.
+  pub is_end : (p : Option Text) → Chooses s subject p n None → (bytes : Text) (at : ℕ) → at ≤ length bytes → same_text (index_of subject n) bytes ≡ same_text (left subject n p) (drop at bytes) → eqb at (length bytes) ≡ same_text (index_of subject n) bytes
+  is_end p C bytes at h i = sym (i ∙ (ap (λ (x : Text). same_text x (drop at bytes)) (none_left p C) ∙ same_end bytes at h))
 
-    -- In bytes that are to be the index, from a place on.
+  module _ (p : Option Text) (c : Chosen) (C : Chooses s subject p n (Some c)) where
+    pub one_left : left subject n p ≡ record_of (text s c.number) (rows_of c) ++ left subject n (named s (Some c.number))
+    one_left = left_next subject n p (text s c.number) C.next ∙ rw (C.rows c refl)
+
     module _ (bytes : Text) (at : ℕ) (h : at ≤ length bytes) (i : same_text (index_of subject n) bytes ≡ same_text (left subject n p) (drop at bytes)) where
-      pub is_end : c.number ≡ 0 → eqb at (length bytes) ≡ same_text (index_of subject n) bytes
-      is_end z = sym (i ∙ (ap (λ (x : Text). same_text x (drop at bytes)) (none_left z) ∙ same_end bytes at h))
-
-      module _ (k : c.number ≡ 0 → ⊥) (t : Text) (e : t ≡ text s c.number) (r : Bool) (b : r ≡ begins (record_of t (rows_of c)) (take (length bytes - at) (drop at bytes))) where
+      module _ (t : Text) (e : t ≡ text s c.number) (r : Bool) (b : r ≡ begins (record_of t (rows_of c)) (take (length bytes - at) (drop at bytes))) where
         here : r ≡ begins (record_of (text s c.number) (rows_of c)) (drop at bytes)
         here = b ∙ rw (e, rest_all bytes at)
 
-        split : same_text (index_of subject n) bytes ≡ (r && same_text (left subject n (named s c.number)) (drop (length (record_of (text s c.number) (rows_of c))) (drop at bytes)))
-        split = i ∙ rw (one_left k, same_append (record_of (text s c.number) (rows_of c)) (left subject n (named s c.number)) (drop at bytes), here)
+        split : same_text (index_of subject n) bytes ≡ (r && same_text (left subject n (named s (Some c.number))) (drop (length (record_of (text s c.number) (rows_of c))) (drop at bytes)))
+        split = i ∙ rw (one_left, same_append (record_of (text s c.number) (rows_of c)) (left subject n (named s (Some c.number))) (drop at bytes), here)
 
         pub other_record : r ≡ false → false ≡ same_text (index_of subject n) bytes
         other_record q = sym (split ∙ rw q)
 
-        module _ (q : r ≡ true) (u : Text) (z : u ≡ text s c.number) where
-          pub record_fits : at + (head_size + length u) ≤ length bytes
+        module _ (q : r ≡ true) where
+          pub record_fits : at + (head_size + length t) ≤ length bytes
           record_fits =
               let l = begins_length (record_of (text s c.number) (rows_of c)) (drop at bytes) (sym here ∙ q) in
               let d = length-drop at bytes in
               let m = record_length (text s c.number) (rows_of c) in
-              rw z (omega arith)
+              rw e (omega arith)
 
-          pub record_more : same_text (index_of subject n) bytes ≡ same_text (left subject n (named s c.number)) (drop (at + (head_size + length u)) bytes)
-          record_more = split ∙ rw (q, z, record_length (text s c.number) (rows_of c), drop-drop (head_size + length (text s c.number)) at bytes)
+          pub record_more : same_text (index_of subject n) bytes ≡ same_text (left subject n (named s (Some c.number))) (drop (at + (head_size + length t)) bytes)
+          record_more = split ∙ rw (q, e, record_length (text s c.number) (rows_of c), drop-drop (head_size + length (text s c.number)) at bytes)
 
 -- ---- The answer
 

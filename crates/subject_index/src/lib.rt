@@ -11,13 +11,13 @@ ghost use Rattle.usable.specs.Lent.{Stands, RowStands, slices_of};
 ghost use Rattle.look_up.specs.Record.{rows, head_of, record_of, head_size};
 ghost use Rattle.look_up.specs.Look.{rises};
 ghost use Rattle.subject_index.specs.Index.{index_of, subject, write, check};
-ghost use Rattle.subject_index.specs.Code.{named, subject_number, Readable, Known, SubjectIn, Ready, below, Chooses};
+ghost use Rattle.subject_index.specs.Code.{named, subject_number, Readable, Known, SubjectIn, Ready, Chooses};
 
 use limits::Refusal;
 use look_up::Head;
 use table::{RowWord, Tables, TermKind, TermWord, wide};
 
-// A subject by the number of a term with its text, 0 for none; how many rows it has, and the first of them.
+// A subject by the number of a term with its text; how many rows it has, and the first of them.
 #[derive(Clone, Copy)]
 struct Chosen {
     number: usize,
@@ -25,16 +25,14 @@ struct Chosen {
     first: usize,
 }
 
-// The number of the subject of the row i where it is an IRI, else 0.
-fn subject_number(tables: &Tables, i: usize) -> usize
+// The number of the subject of the row i where it is an IRI.
+#[tactic(auto, unfolding(crate::specs::Code::subject_number, table::specs::Layout::row_at, table::specs::Layout::entry_at))]
+fn subject_number(tables: &Tables, i: usize) -> Option<usize>
     requires { RowStands tables.now.rows.now i × Stands tables.now.terms.now (row_at tables.now.rows.now i).subject }
-    ensures { result ≡ subject_number tables.now.rows.now tables.now.terms.now i }
+    ensures { result ≡ subject_number (slices_of tables.now) i }
 {
     let n = tables.row_word(i, RowWord::SUBJECT);
-    if tables.term_word(n, TermWord::KIND) == TermKind::IRI {
-        return n;
-    }
-    0
+    (tables.term_word(n, TermWord::KIND) == TermKind::IRI).then_some(n)
 }
 
 // The text of a term.
@@ -46,67 +44,56 @@ fn text_of<'a>(tables: &Tables<'a>, n: usize) -> &'a [u8]
 }
 
 // Whether the text of the term n comes after that of the term before, where there is one.
-fn is_above(tables: &Tables, before: usize, n: usize) -> bool
+fn is_above(tables: &Tables, before: Option<usize>, n: usize) -> bool
     requires { Known (slices_of tables.now) before × Readable (slices_of tables.now) n }
     ensures { result ≡ rises (named (slices_of tables.now) before) (text (slices_of tables.now) n) }
 {
-    if before == 0 {
-        return true;
+    match before {
+        Some(before) => text::smaller(text_of(tables, before), text_of(tables, n)),
+        None => true,
     }
-    text::smaller(text_of(tables, before), text_of(tables, n))
-}
-
-// Whether it comes before that of the best so far, where there is one.
-fn is_below(tables: &Tables, n: usize, best: usize) -> bool
-    requires { Known (slices_of tables.now) best × Readable (slices_of tables.now) n }
-    ensures { result ≡ below (text (slices_of tables.now) n) (named (slices_of tables.now) best) }
-{
-    if best == 0 {
-        return true;
-    }
-    text::smaller(text_of(tables, n), text_of(tables, best))
 }
 
 // The best so far with the row i: it may have a better subject, or the same.
-fn closer(tables: &Tables, i: usize, before: usize, best: Chosen) -> Chosen
-    requires { (SubjectIn (slices_of tables.now) i × Known (slices_of tables.now) before) × (Chooses (slices_of tables.now) (subject (slices_of tables.now)) (named (slices_of tables.now) before) i best × (best.count ≤ i)) }
-    ensures { Chooses (slices_of tables.now) (subject (slices_of tables.now)) (named (slices_of tables.now) before) (i + 1) result × (result.count ≤ i + 1) }
+fn closer(tables: &Tables, i: usize, before: Option<usize>, best: Option<Chosen>) -> Option<Chosen>
+    requires { (SubjectIn (slices_of tables.now) i × Known (slices_of tables.now) before) × Chooses (slices_of tables.now) (subject (slices_of tables.now)) (named (slices_of tables.now) before) i best }
+    ensures { Chooses (slices_of tables.now) (subject (slices_of tables.now)) (named (slices_of tables.now) before) (i + 1) result }
 {
-    let n = subject_number(tables, i);
-    if n == 0 {
+    let Some(number) = subject_number(tables, i) else {
+        return best;
+    };
+    if !is_above(tables, before, number) {
         return best;
     }
-    if !is_above(tables, before, n) {
-        return best;
+    let next = Chosen {
+        number,
+        count: 1,
+        first: i,
+    };
+    let Some(best) = best else {
+        return Some(next);
+    };
+    let text = text_of(tables, number);
+    let known = text_of(tables, best.number);
+    if text::smaller(text, known) {
+        return Some(next);
     }
-    let number = best.number;
-    if is_below(tables, n, number) {
-        return Chosen {
-            number: n,
-            count: 1,
-            first: i,
-        };
+    if !text::same(text, known) {
+        return Some(best);
     }
-    if !text::same(text_of(tables, n), text_of(tables, number)) {
-        return best;
-    }
-    Chosen {
-        number: number,
+    Some(Chosen {
+        number: best.number,
         count: best.count + 1,
         first: best.first,
-    }
+    })
 }
 
-// The subject with the least text above that of the term before, and its rows; number 0 where there is none.
-fn next_subject(tables: &Tables, before: usize) -> Chosen
+// The subject with the least text above that of the term before, and its rows.
+fn next_subject(tables: &Tables, before: Option<usize>) -> Option<Chosen>
     requires { Ready (slices_of tables.now) tables.now.row_count × Known (slices_of tables.now) before }
     ensures { Chooses (slices_of tables.now) (subject (slices_of tables.now)) (named (slices_of tables.now) before) tables.now.row_count result }
 {
-    let mut best = Chosen {
-        number: 0,
-        count: 0,
-        first: 0,
-    };
+    let mut best = None;
     for i in 0..wide(tables.row_count) {
         best = closer(tables, i, before, best);
     }
@@ -156,20 +143,17 @@ fn is_index(tables: &Tables, bytes: &[u8]) -> bool
     requires { Ready (slices_of tables.now) tables.now.row_count }
     ensures { result ≡ same_text (index_of (subject (slices_of tables.now)) tables.now.row_count) bytes.now }
 {
-    let mut before: usize = 0;
+    let mut before = None;
     let mut at: usize = 0;
-    loop {
-        let c = next_subject(tables, before);
-        let n = c.number;
-        if n == 0 {
-            return at == bytes.len();
-        }
-        if !has_record(&bytes[at..], text_of(tables, n), c.count, c.first) {
+    while let Some(c) = next_subject(tables, before) {
+        let text = text_of(tables, c.number);
+        if !has_record(&bytes[at..], text, c.count, c.first) {
             return false;
         }
-        at += Head::SIZE + text_of(tables, n).len();
-        before = n;
+        at += Head::SIZE + text.len();
+        before = Some(c.number);
     }
+    at == bytes.len()
 }
 
 // Whether the bytes are the index of the tables; 18 where these are not usable.
@@ -187,25 +171,21 @@ fn fits_index(tables: &Tables, room: usize) -> bool
     requires { Ready (slices_of tables.now) tables.now.row_count }
     ensures { result ≡ leb (length (index_of (subject (slices_of tables.now)) tables.now.row_count)) room }
 {
-    let mut before: usize = 0;
+    let mut before = None;
     let mut used: usize = 0;
-    loop {
-        let c = next_subject(tables, before);
-        let n = c.number;
-        if n == 0 {
-            return true;
-        }
+    while let Some(c) = next_subject(tables, before) {
         let left = room - used;
         if left < Head::SIZE {
             return false;
         }
-        let size = text_of(tables, n).len();
+        let size = text_of(tables, c.number).len();
         if left - Head::SIZE < size {
             return false;
         }
         used += Head::SIZE + size;
-        before = n;
+        before = Some(c.number);
     }
+    true
 }
 
 // Writes a record over the output, from a place on.
@@ -224,18 +204,15 @@ fn put_index(tables: &Tables, out: &mut [u8]) -> usize
     requires { (Ready (slices_of tables.now) tables.now.row_count × (length (index_of (subject (slices_of tables.now)) tables.now.row_count) ≤ length out.old)) × (length out.old < 2 ^ 64) }
     ensures { (result ≡ length (index_of (subject (slices_of tables.now)) tables.now.row_count)) × (out.new ≡ over (index_of (subject (slices_of tables.now)) tables.now.row_count) out.old) }
 {
-    let mut before: usize = 0;
+    let mut before = None;
     let mut at: usize = 0;
-    loop {
-        let c = next_subject(tables, before);
-        let n = c.number;
-        if n == 0 {
-            return at;
-        }
-        put_record(text_of(tables, n), c.count, c.first, out, at);
-        at += Head::SIZE + text_of(tables, n).len();
-        before = n;
+    while let Some(c) = next_subject(tables, before) {
+        let text = text_of(tables, c.number);
+        put_record(text, c.count, c.first, out, at);
+        at += Head::SIZE + text.len();
+        before = Some(c.number);
     }
+    at
 }
 
 // Writes the index of the tables over the front of out; the length written.

@@ -8,8 +8,8 @@ use Rattle.subject_index.specs.Code.{named, Known}
 use Rattle.subject_index.proofs.Checking.{left}
 use Rattle.subject_index.proofs.fits_index.Given as goal
 
-abbrev pub invariant-loop-room : goal.invariant-loop-room
-invariant-loop-room l = (l.used ≤ l.room) × (Known (slices_of l.tables) l.before × (length (index_of (subject (slices_of l.tables)) l.tables.row_count) ≡ l.used + length (left (subject (slices_of l.tables)) l.tables.row_count (named (slices_of l.tables) l.before))))
+abbrev pub invariant-loop-c : goal.invariant-loop-c
+invariant-loop-c l = (l.used ≤ l.room) × (Known (slices_of l.tables) l.before × (length (index_of (subject (slices_of l.tables)) l.tables.row_count) ≡ l.used + length (left (subject (slices_of l.tables)) l.tables.row_count (named (slices_of l.tables) l.before))))
 
-abbrev pub decreases-loop-room : goal.decreases-loop-room
-decreases-loop-room l = l.room - l.used
+abbrev pub decreases-loop-c : goal.decreases-loop-c
+decreases-loop-c l = l.room - l.used
