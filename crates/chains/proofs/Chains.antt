@@ -9,9 +9,11 @@ use native.Mathlib.Omega.{arith}
 use borrow.Author.Tests.{eq-eqb, ne_eqb, eqb-true, eqb-false, ltb-true, ltb-false, lt-ltb, le-ltb}
 use lib.Dec.{eqb, ltb}
 use lib.ListN.{length, get_or, set, length-set}
-use lib.Seq.{get_or-set_same, get_or-set_other}
+use lib.Seq.{get_or-set_same, get_or-set_other, length-take-le}
 use Rattle.text.proofs.Compare.{by, contrary}
-use Rattle.chains.specs.Chains.{latest, heads, near, key_at, Linked, Chained, First, Before, KeyOf, MayHave, Cleared, Keyed, linked_one}
+use Rattle.std.proofs.Common.{Option, Some, None, ◌++◌, replicate, take, drop}
+use Rattle.std.proofs.lemmas.List.{get_or_append_left, get_or-append_right, get_or-replicate, get_or-drop, length-append, length-replicate, length-drop}
+use Rattle.chains.specs.Chains.{behind, latest, heads, near, key_at, Linked, Chained, First, Before, KeyOf, Cleared, Keyed, linked_one}
 
 -- A number below n + 1 that is not n.
 less : (j n : ℕ) → j < n + 1 → (j ≡ n → ⊥) → j < n
@@ -95,31 +97,74 @@ module _ (b : ℕ) (f : ℕ → ℕ) (x : ℕ) (t : ℕ → Bool) where
   pub walk_start : (n : ℕ) → ((j : ℕ) → j < n → t j ≡ true → near b f x j ≡ true) → latest t (latest (near b f x) n) ≡ latest t n
   walk_start n h = latest_over t (near b f x) n h
 
-  module _ (p q : ℕ) (on : latest (near b f x) p ≡ p) (some : p ≡ 0 → ⊥) (next : q ≡ latest (near b f (f (p - 1))) (p - 1)) where
-    place : p ≡ suc (p - 1)
-    place = omega arith
+  module _ (j q : ℕ) (on : latest (near b f x) (suc j) ≡ suc j) (next : q ≡ latest (near b f (f j)) j) where
+    here : near b f x j ≡ true
+    here = latest_passes (near b f x) (suc j) j on
 
-    here : near b f x (p - 1) ≡ true
-    here = latest_passes (near b f x) p (p - 1) (on ∙ place)
-
-    whole : q ≡ latest (near b f x) (p - 1)
-    whole = next ∙ turned b f x (p - 1) (p - 1) here
+    whole : q ≡ latest (near b f x) j
+    whole = next ∙ turned b f x j j here
 
     pub walk_on : latest (near b f x) q ≡ q
-    walk_on = place_on (near b f x) (p - 1) q whole
+    walk_on = place_on (near b f x) j q whole
 
-    pub walk_low : q < p
-    walk_low = omega (arith, place_low (near b f x) (p - 1) q whole)
+    pub walk_low : q ≤ j
+    walk_low = place_low (near b f x) j q whole
 
     -- Where the number reached does not pass, those behind it in the chain are left.
-    pub walk_next : ((j : ℕ) → j < p → t j ≡ true → near b f x j ≡ true) → t (p - 1) ≡ false → latest t p ≡ latest t q
-    walk_next h e =
-        ap (latest t) place
-        ∙ (latest_miss t (p - 1) e
-        ∙ (sym (latest_over t (near b f x) (p - 1) (λ j k. h j (omega arith))) ∙ ap (latest t) (sym whole)))
+    pub walk_next : ((i : ℕ) → i < suc j → t i ≡ true → near b f x i ≡ true) → t j ≡ false → latest t (suc j) ≡ latest t q
+    walk_next h e = latest_miss t j e ∙ (sym (latest_over t (near b f x) j (λ i k. h i (omega arith))) ∙ ap (latest t) (sym whole))
 
-    pub walk_found : t (p - 1) ≡ true → latest t p ≡ p
-    walk_found e = ap (latest t) place ∙ (latest_hit t (p - 1) e ∙ sym place)
+-- What a chain of x has from a place on, where numbers below m are sought.
+module _ (b : ℕ) (f : ℕ → ℕ) (x : ℕ) (t : ℕ → Bool) (m : ℕ) where
+  pub record At (r : Option ℕ) : Type 0 where
+    pub low : behind r ≤ m
+    pub on : latest (near b f x) (behind r) ≡ behind r
+    pub left : latest t m ≡ latest t (behind r)
+
+  pub at_place : (r : Option ℕ) → behind r ≡ m → latest (near b f x) m ≡ m → At r
+  at_place r e on = record { low = omega arith; on = ap (latest (near b f x)) e ∙ (on ∙ sym e); left = sym (ap (latest t) e) }
+
+  pub at_first : (r : Option ℕ) → ((j : ℕ) → j < m → t j ≡ true → near b f x j ≡ true) → behind r ≡ latest (near b f x) m → At r
+  at_first r h e =
+      record {
+        low = place_low (near b f x) m (behind r) e;
+        on = place_on (near b f x) m (behind r) e;
+        left = sym (ap (latest t) e ∙ walk_start b f x t m h);
+      }
+
+  -- Where no number is reached, none passes.
+  pub at_none : (r : Option ℕ) → r ≡ None → At r → latest t m ≡ 0
+  unfolding latest
+  at_none r e a = a.left ∙ ap (λ (o : Option ℕ). latest t (behind o)) e
+
+  -- A number that is reached.
+  module _ (r : Option ℕ) (j : ℕ) (is : r ≡ Some j) (a : At r) where
+    as_suc : behind r ≡ suc j
+    as_suc = ap behind is
+
+    pub at_below : j < m
+    at_below = omega (arith, as_suc, a.low)
+
+    at_on : latest (near b f x) (suc j) ≡ suc j
+    at_on = ap (latest (near b f x)) (sym as_suc) ∙ (a.on ∙ as_suc)
+
+    at_left : latest t m ≡ latest t (suc j)
+    at_left = a.left ∙ ap (latest t) as_suc
+
+    pub at_found : t j ≡ true → latest t m ≡ suc j
+    at_found e = at_left ∙ latest_hit t j e
+
+    module _ (q : Option ℕ) (next : behind q ≡ latest (near b f (f j)) j) where
+      pub at_low : behind q < behind r
+      at_low = omega (arith, as_suc, walk_low b f x t j (behind q) at_on next)
+
+      pub at_next : ((i : ℕ) → i < m → t i ≡ true → near b f x i ≡ true) → t j ≡ false → At q
+      at_next h e =
+          record {
+            low = omega (arith, at_low, a.low);
+            on = walk_on b f x t j (behind q) at_on next;
+            left = at_left ∙ walk_next b f x t j (behind q) at_on next (λ i k. h i (omega (arith, at_below))) e;
+          }
 
 -- ---- Linking
 
@@ -225,46 +270,37 @@ module _ (words : List ℕ) (n c : ℕ) (e : c ≡ heads (length words) n) where
   unfolding Chained
   linked z f h = subst (λ (b : ℕ). Linked words b n f n) (sym e) (h (heads_some z))
 
-  pub first_none : (x : ℕ) → c ≡ 0 → First words n x n
-  first_none x z f h = sym (ap (λ (b : ℕ). latest (near b f x) n) (sym e ∙ z) ∙ near_all f x n)
+  pub first_none : (x : ℕ) (r : Option ℕ) → c ≡ 0 → behind r ≡ n → First words n x r
+  first_none x r z g f h = g ∙ sym (ap (λ (b : ℕ). latest (near b f x) n) (sym e ∙ z) ∙ near_all f x n)
 
-  pub first_some : (x r : ℕ) → (c ≡ 0 → ⊥) → r ≡ get_or words (x % c) 0 → First words n x r
+  pub first_some : (x : ℕ) (r : Option ℕ) → (c ≡ 0 → ⊥) → behind r ≡ get_or words (x % c) 0 → First words n x r
   first_some x r z g f h = g ∙ ((linked z f h).first x ∙ ap (λ (b : ℕ). latest (near b f x) n) e)
 
-  pub before_none : (p : ℕ) → c ≡ 0 → Before words n p (p - 1)
-  before_none p z f h = sym (ap (λ (b : ℕ). latest (near b f (f (p - 1))) (p - 1)) (sym e ∙ z) ∙ near_all f (f (p - 1)) (p - 1))
+  pub before_none : (j : ℕ) (r : Option ℕ) → c ≡ 0 → behind r ≡ j → Before words n j r
+  before_none j r z g f h = g ∙ sym (ap (λ (b : ℕ). latest (near b f (f j)) j) (sym e ∙ z) ∙ near_all f (f j) j)
 
-  pub before_some : (p r : ℕ) → 1 ≤ p → p ≤ n → (c ≡ 0 → ⊥) → r ≡ get_or words (c + (p - 1)) 0 → Before words n p r
-  before_some p r a b z g f h = g ∙ ((linked z f h).links (p - 1) (omega arith) ∙ ap (λ (k : ℕ). latest (near k f (f (p - 1))) (p - 1)) e)
+  pub before_some : (j : ℕ) (r : Option ℕ) → j < n → (c ≡ 0 → ⊥) → behind r ≡ get_or words (c + j) 0 → Before words n j r
+  before_some j r a z g f h = g ∙ ((linked z f h).links j a ∙ ap (λ (k : ℕ). latest (near k f (f j)) j) e)
 
-  pub key_none : (j r : ℕ) → c ≡ 0 → KeyOf words n j r
-  key_none j r z f h s = absurd (s (sym e ∙ z))
+  pub key_none : (j : ℕ) → c ≡ 0 → KeyOf words n j None
+  key_none j z f h = let q : heads (length words) n ≡ 0 = sym e ∙ z in rw q
 
-  pub key_some : (j r : ℕ) → j < n → (c ≡ 0 → ⊥) → r ≡ get_or words (c + n + j) 0 → KeyOf words n j r
-  key_some j r a z g f h s = g ∙ (linked z f h).keys j a
-
-  pub may_none : (j x : ℕ) → c ≡ 0 → MayHave words n j x true
-  may_none j x z f h = let q : heads (length words) n ≡ 0 = sym e ∙ z in rw q
-
-  pub may_some : (j x k : ℕ) (r : Bool) → j < n → (c ≡ 0 → ⊥) → k ≡ get_or words (c + n + j) 0 → r ≡ eqb k x → MayHave words n j x r
-  may_some j x k r a z g t f h =
+  pub key_some : (j r : ℕ) → j < n → (c ≡ 0 → ⊥) → r ≡ get_or words (c + n + j) 0 → KeyOf words n j (Some r)
+  key_some j r a z g f h =
       let q = ne_eqb (heads (length words) n) 0 (heads_some z) in
-      let l : k ≡ f j = g ∙ (linked z f h).keys j a in
-      t ∙ rw (q, l)
+      let k : r ≡ f j = g ∙ (linked z f h).keys j a in
+      rw (q, k)
 
 -- ---- Making the heads zero
 
-pub cleared_start : (s : List ℕ) → Cleared s s 0
-cleared_start s = record { size = refl; zeros = λ i h. absurd (omega arith); rest = λ i h. refl }
-
-pub cleared_next : (s w : List ℕ) (i : ℕ) → i < length w → Cleared s w i → Cleared s (set w i 0) (i + 1)
-cleared_next s w i h c =
+pub filled : (s v : List ℕ) (n : ℕ) → n ≤ length s → v ≡ replicate (length (take n s)) 0 → Cleared s (v ++ drop n s) n
+filled s v n h q =
+    let e : v ≡ replicate n 0 = q ∙ ap (λ k. replicate k 0) (length-take-le n s h) in
     record {
-      size = simp length-set c.size;
-      zeros = λ j k.
-          by (eqb j i) (λ e. let z = eqb-true j i e in ap (λ (m : ℕ). get_or (set w i 0) m 0) z ∙ get_or-set_same w i 0 0 h)
-          (λ e. let z = eqb-false j i e in get_or-set_other w i j 0 0 z ∙ c.zeros j (less j i k z));
-      rest = λ j k. get_or-set_other w i j 0 0 (λ e. omega arith) ∙ c.rest j (omega arith);
+      size = rw e (simp (length-append, length-replicate, length-drop) (omega arith));
+      zeros = λ i k. rw e (get_or_append_left (replicate n 0) (drop n s) 0 i (simp length-replicate k) ∙ get_or-replicate n i 0 0 k);
+      rest = λ i k.
+          rw e (get_or-append_right (replicate n 0) (drop n s) n i 0 (length-replicate n 0) k ∙ (get_or-drop n s (i - n) 0 ∙ ap (λ (m : ℕ). get_or s m 0) (omega arith)));
     }
 
 -- ---- Linking one number
@@ -314,25 +350,26 @@ linked_step words next b n f m some room less l e = (
 
 -- ---- Writing the keys
 
-pub keyed_start : (s : List ℕ) (at : ℕ) (f : ℕ → ℕ) → Keyed s s at f 0
-keyed_start s at f = record { size = refl; keys = λ j h. absurd (omega arith) }
+pub keyed_start : (s : List ℕ) (at : ℕ) (P : ℕ → ℕ → Type 0) → Keyed s s at P 0
+keyed_start s at P = record { size = refl; keys = λ j h. absurd (omega arith) }
 
-pub keyed_next : (s w v : List ℕ) (at : ℕ) (f : ℕ → ℕ) (m x : ℕ) → at + m < length w → x ≡ f m → Keyed s w at f m → v ≡ set w (at + m) x → Keyed s v at f (m + 1)
-keyed_next s w v at f m x h q k e =
+pub keyed_next : (s w : List ℕ) (at : ℕ) (P : ℕ → ℕ → Type 0) (m x : ℕ) → at + m < length w → P m x → Keyed s w at P m → Keyed s (set w (at + m) x) at P (m + 1)
+keyed_next s w at P m x h q k =
     record {
-      size = ap length e ∙ simp length-set k.size;
+      size = simp length-set k.size;
       keys = λ j l.
-          ap (λ (u : List ℕ). get_or u (at + j) 0) e
-          ∙ by (eqb j m) (λ t. let z = eqb-true j m t in ap (λ (i : ℕ). get_or (set w (at + m) x) (at + i) 0) z ∙ (get_or-set_same w (at + m) x 0 h ∙ (q ∙ ap f (sym z))))
-          (λ t. let z = eqb-false j m t in get_or-set_other w (at + m) (at + j) x 0 (λ y. z (omega arith)) ∙ k.keys j (less j m l z));
+          by (eqb j m)
+          (λ t. let z = eqb-true j m t in subst (λ (i : ℕ). P i (get_or (set w (at + m) x) (at + i) 0)) (sym z) (subst (P m) (sym (get_or-set_same w (at + m) x 0 h)) q))
+          (λ t. let z = eqb-false j m t in subst (P j) (sym (get_or-set_other w (at + m) (at + j) x 0 (λ y. z (omega arith)))) (k.keys j (less j m l z)));
     }
 
 -- Linked by keys that were written.
-pub keyed_all : (s w v : List ℕ) (n c m : ℕ) (f : ℕ → ℕ) → c ≡ heads (length s) n → m ≡ n → Keyed s w (c + n) f m → (length v ≡ length w) × Chained v n (key_at w n) → (length v ≡ length s) × Chained v n f
-keyed_all s w v n c m f e whole k (size, ch) = (
+pub keyed_all : (s w v : List ℕ) (n c m : ℕ) (P : ℕ → ℕ → Type 0) → c ≡ heads (length s) n → m ≡ n → Keyed s w (c + n) P m → (length v ≡ length w) × Chained v n (key_at w n)
+    → (length v ≡ length s) × ((f : ℕ → ℕ) → ((j k : ℕ) → j < n → P j k → k ≡ f j) → Chained v n f)
+keyed_all s w v n c m P e whole k (size, ch) = (
   size ∙ k.size,
-  chained_same v n (key_at w n) f
-      (λ j h. ap (λ (b : ℕ). get_or w (b + n + j) 0) (ap (λ (x : ℕ). heads x n) k.size ∙ sym e) ∙ k.keys j (omega arith)) ch,
+  λ f h. chained_same v n (key_at w n) f
+      (λ j l. ap (λ (b : ℕ). get_or w (b + n + j) 0) (ap (λ (x : ℕ). heads x n) k.size ∙ sym e) ∙ h j _ l (k.keys j (omega arith))) ch,
 )
 
 -- ---- How many heads there are

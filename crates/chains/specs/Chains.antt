@@ -1,5 +1,5 @@
 -- What an index in lent words holds: ours, and of no meaning to any answer.
-use Rattle.std.specs.Prelude.{◌≡◌, List, Bool, true, ◌||◌, ℕ, zero, suc, ◌+◌, ◌*◌, ◌-◌, ◌%◌, ◌≤◌, ◌<◌, eqb, ltb, length, get_or, set}
+use Rattle.std.specs.Prelude.{◌≡◌, List, Bool, true, ◌||◌, ℕ, zero, suc, ◌+◌, ◌*◌, ◌-◌, ◌%◌, ◌≤◌, ◌<◌, eqb, ltb, length, get_or, set, Option, Some, None}
 use Rattle.text.specs.Text.{cond}
 
 -- The greatest number below n that passes the test, plus one; 0 where there is none.
@@ -40,20 +40,29 @@ OnChain words n f x p = latest (near (heads (length words) n) f x) p ≡ p
 
 -- ---- What the routines answer, by whatever keys the words are linked
 
--- The greatest number in the chain of a key, plus one; 0 where there is none.
-abbrev pub First : List ℕ → ℕ → ℕ → ℕ → Type 0
-First words n x r = (f : ℕ → ℕ) → Chained words n f → r ≡ latest (near (heads (length words) n) f x) n
+-- The number that was found, plus one; 0 where none was.
+abbrev pub behind : Option ℕ → ℕ
+behind None = 0
+behind (Some j) = suc j
 
--- The next smaller one in the chain of the number behind which p stands.
-abbrev pub Before : List ℕ → ℕ → ℕ → ℕ → Type 0
-Before words n p r = (f : ℕ → ℕ) → Chained words n f → r ≡ latest (near (heads (length words) n) f (f (p - 1))) (p - 1)
+-- The greatest number in the chain of a key.
+abbrev pub First : List ℕ → ℕ → ℕ → Option ℕ → Type 0
+First words n x r = (f : ℕ → ℕ) → Chained words n f → behind r ≡ latest (near (heads (length words) n) f x) n
+
+-- The next smaller one in the chain of the number j.
+abbrev pub Before : List ℕ → ℕ → ℕ → Option ℕ → Type 0
+Before words n j r = (f : ℕ → ℕ) → Chained words n f → behind r ≡ latest (near (heads (length words) n) f (f j)) j
 
 -- The key of a number, where there are heads; and whether a number may have a key.
-abbrev pub KeyOf : List ℕ → ℕ → ℕ → ℕ → Type 0
-KeyOf words n j r = (f : ℕ → ℕ) → Chained words n f → (heads (length words) n ≡ 0 → ⊥) → r ≡ f j
+abbrev pub KeyOf : List ℕ → ℕ → ℕ → Option ℕ → Type 0
+KeyOf words n j r = (f : ℕ → ℕ) → Chained words n f → r ≡ cond (eqb (heads (length words) n) 0) None (Some (f j))
 
 abbrev pub MayHave : List ℕ → ℕ → ℕ → ℕ → Bool → Type 0
 MayHave words n j x r = (f : ℕ → ℕ) → Chained words n f → r ≡ (eqb (heads (length words) n) 0 || eqb (f j) x)
+
+-- The keys of the numbers below n may be asked for, and words hold them.
+abbrev pub MayLink : (ℕ → Type 0) → (ℕ → ℕ → Type 0) → ℕ → Type 0
+MayLink pre post n = (j : ℕ) → j < n → pre j × ((k : ℕ) → post j k → k < 4294967296)
 
 -- The words from which the numbers below n are linked stand in a slice.
 abbrev pub WordsIn : List ℕ → ℕ → ℕ → ℕ → Type 0
@@ -65,10 +74,10 @@ pub record Cleared (old new : List ℕ) (count : ℕ) : Type 0 where
   pub zeros : (i : ℕ) → i < count → get_or new i 0 ≡ 0
   pub rest : (i : ℕ) → count ≤ i → get_or new i 0 ≡ get_or old i 0
 
--- The first m keys are written, and nothing else.
-pub record Keyed (old new : List ℕ) (at : ℕ) (f : ℕ → ℕ) (m : ℕ) : Type 0 where
+-- The first m keys are written, each as P says, and nothing else.
+pub record Keyed (old new : List ℕ) (at : ℕ) (P : ℕ → ℕ → Type 0) (m : ℕ) : Type 0 where
   pub size : length new ≡ length old
-  pub keys : (j : ℕ) → j < m → get_or new (at + j) 0 ≡ f j
+  pub keys : (j : ℕ) → j < m → P j (get_or new (at + j) 0)
 
 unfoldable pub linked_one : List ℕ → ℕ → ℕ → ℕ → List ℕ
 linked_one words b n j = let h = get_or words (b + n + j) 0 % b in set (set words (b + j) (get_or words h 0)) h (suc j)

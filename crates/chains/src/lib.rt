@@ -3,8 +3,112 @@
 // suffice have no heads: then all numbers are one chain, and what is found there is the same.
 #![tactic(auto)]
 
-ghost use Rattle.std.specs.Prelude.{◌≡◌, ◌+◌, ◌*◌, ◌≤◌, ◌<◌, length, get_or, set};
-ghost use Rattle.chains.specs.Chains.{heads, latest, key_at, word_at, has_word, Chained, OnChain, First, Before, KeyOf, MayHave, WordsIn, Cleared, linked_one};
+ghost use Rattle.std.specs.Prelude.{◌≡◌, ℕ, ◌+◌, ◌*◌, ◌≤◌, ◌<◌, length, get_or};
+ghost use Rattle.chains.specs.Chains.{behind, heads, latest, key_at, word_at, has_word, Chained, OnChain, First, Before, KeyOf, MayHave, WordsIn, linked_one, MayLink};
+
+// Numbers below a count, each with a word: the words stand so far apart from a place on.
+#[derive(Clone, Copy)]
+pub struct Column<'a> {
+    pub words: &'a [u32],
+    pub from: usize,
+    pub step: usize,
+    pub count: usize,
+    ghost stands: { WordsIn words.now from step count },
+}
+
+impl<'a> Column<'a> {
+    // The word of the number j.
+    pub fn word(&self, j: usize) -> usize
+        requires { j < self.now.count }
+        ensures { (result ≡ word_at self.now.words.now self.now.from self.now.step j) × (result < 4294967296) }
+    {
+        self.words[self.from + self.step * j] as usize
+    }
+
+    // Links the numbers by their words.
+    pub fn link(&self, chain: &mut [u32])
+        ensures { (length chain.new ≡ length chain.old) × Chained chain.new self.now.count (word_at self.now.words.now self.now.from self.now.step) }
+    {
+        link(chain, self.count, |j| self.word(j));
+    }
+}
+
+// Numbers below a count, linked in lent words.
+#[derive(Clone, Copy)]
+pub struct Links<'a> {
+    pub words: &'a [u32],
+    pub count: usize,
+    pub head_count: usize,
+    ghost headed: { head_count ≡ heads (length words.now) count },
+}
+
+impl<'a> Links<'a> {
+    pub fn new(words: &'a [u32], count: usize) -> Links<'a>
+        ensures { (result.words.now ≡ words.now) × (result.count ≡ count) }
+    {
+        let head_count = head_count(words.len(), count);
+        Links {
+            words,
+            count,
+            head_count,
+        }
+    }
+
+    // The greatest number in the chain of a key.
+    pub fn first(&self, key: usize) -> Option<usize>
+        ensures { First self.now.words.now self.now.count key result }
+    {
+        if self.head_count == 0 {
+            return self.count.checked_sub(1);
+        }
+        linked(self.words, key % self.head_count)
+    }
+
+    // The next smaller number in the chain of the number j.
+    pub fn before(&self, j: usize) -> Option<usize>
+        requires { j < self.now.count }
+        ensures { Before self.now.words.now self.now.count j result }
+    {
+        if self.head_count == 0 {
+            return j.checked_sub(1);
+        }
+        linked(self.words, self.head_count + j)
+    }
+
+    // The key of the number j, where there are heads.
+    pub fn key_of(&self, j: usize) -> Option<usize>
+        requires { j < self.now.count }
+        ensures { KeyOf self.now.words.now self.now.count j result }
+    {
+        if self.head_count == 0 {
+            return None;
+        }
+        Some(self.words[self.head_count + self.count + j] as usize)
+    }
+
+    // Whether the number j may have the key.
+    pub fn may_have(&self, j: usize, key: usize) -> bool
+        requires { j < self.now.count }
+        ensures { MayHave self.now.words.now self.now.count j key result }
+    {
+        self.key_of(j).is_none_or(|own| own == key)
+    }
+
+    // The greatest number whose word is x, from a place in the chain of x on. The numbers are linked by these words.
+    pub fn find(&self, column: &Column<'_>, from: Option<usize>, x: usize) -> Option<usize>
+        requires { (self.now.count ≡ column.now.count) × (Chained self.now.words.now self.now.count (word_at column.now.words.now column.now.from column.now.step) × ((behind from ≤ self.now.count) × OnChain self.now.words.now self.now.count (word_at column.now.words.now column.now.from column.now.step) x (behind from))) }
+        ensures { behind result ≡ latest (has_word column.now.words.now column.now.from column.now.step x) (behind from) }
+    {
+        let mut at = from;
+        while let Some(j) = at {
+            if column.word(j) == x {
+                return Some(j);
+            }
+            at = self.before(j);
+        }
+        None
+    }
+}
 
 // How many heads so many words have, beside a link and a key for each of n numbers.
 pub fn head_count(size: usize, n: usize) -> usize
@@ -19,31 +123,12 @@ pub fn head_count(size: usize, n: usize) -> usize
     size - 2 * n
 }
 
-// One of the words.
-fn word(words: &[u32], k: usize) -> usize
+// The number that a head or a link names.
+fn linked(words: &[u32], k: usize) -> Option<usize>
     requires { k < length words.now }
-    ensures { (result ≡ get_or words.now k 0) × (result < 4294967296) }
+    ensures { behind result ≡ get_or words.now k 0 }
 {
-    words[k] as usize
-}
-
-pub fn set_word(words: &mut [u32], k: usize, value: usize)
-    requires { (k < length words.old) × (value < 4294967296) }
-    ensures { words.new ≡ set words.old k value }
-{
-    words[k] = value as u32;
-}
-
-// Makes so many words in front zero.
-fn clear_heads(chain: &mut [u32], count: usize)
-    requires { count ≤ length chain.old }
-    ensures { Cleared chain.old chain.new count }
-{
-    let mut i: usize = 0;
-    while i < count {
-        chain[i] = 0;
-        i += 1;
-    }
+    (words[k] as usize).checked_sub(1)
 }
 
 // The number j becomes the head of its chain, and is linked to the head before it.
@@ -51,112 +136,37 @@ fn link_one(chain: &mut [u32], count: usize, n: usize, j: usize)
     requires { (1 ≤ count) × ((count + 2 * n ≤ length chain.old) × ((j < n) × (n < 4294967296))) }
     ensures { chain.new ≡ linked_one chain.old count n j }
 {
-    let head = word(chain, count + n + j) % count;
-    let before = word(chain, head);
-    set_word(chain, count + j, before);
-    set_word(chain, head, j + 1);
+    let head = chain[count + n + j] as usize % count;
+    let before = chain[head];
+    chain[count + j] = before;
+    chain[head] = j as u32 + 1;
 }
 
 // Links the numbers below n, whose keys stand at the end of the words.
-pub fn link(chain: &mut [u32], n: usize)
+fn link_keys(chain: &mut [u32], n: usize)
     ensures { (length chain.new ≡ length chain.old) × Chained chain.new n (key_at chain.old n) }
 {
     let count = head_count(chain.len(), n);
     if count == 0 {
         return;
     }
-    clear_heads(chain, count);
-    let mut j: usize = 0;
-    while j < n {
+    chain[..count].fill(0);
+    for j in 0..n {
         link_one(chain, count, n, j);
-        j += 1;
     }
 }
 
-// Links the numbers below n by words that stand so far apart from a place on.
-pub fn link_words(words: &[u32], from: usize, step: usize, n: usize, chain: &mut [u32])
-    requires { WordsIn words.now from step n }
-    ensures { (length chain.new ≡ length chain.old) × Chained chain.new n (word_at words.now from step) }
+// Links the numbers below n by their keys.
+pub fn link<F: Fn(usize) -> usize>(chain: &mut [u32], n: usize, key_of: F)
+    requires { MayLink (F.pre key_of) (F.post key_of) n }
+    ensures { (length chain.new ≡ length chain.old) × ((f : ℕ → ℕ) → ((j k : ℕ) → j < n → F.post key_of j k → k ≡ f j) → Chained chain.new n f) }
 {
     let count = head_count(chain.len(), n);
     if count == 0 {
         return;
     }
-    let mut j: usize = 0;
-    while j < n {
-        set_word(chain, count + n + j, word(words, from + step * j));
-        j += 1;
+    for j in 0..n {
+        chain[count + n + j] = key_of(j) as u32;
     }
-    link(chain, n);
-}
-
-// The greatest number in the chain of a key, plus one; 0 where there is none.
-pub fn first(chain: &[u32], n: usize, key: usize) -> usize
-    ensures { First chain.now n key result }
-{
-    let count = head_count(chain.len(), n);
-    if count == 0 {
-        return n;
-    }
-    word(chain, key % count)
-}
-
-// The next smaller number in the chain of the number p - 1, plus one; 0 where there is none.
-pub fn before(chain: &[u32], n: usize, p: usize) -> usize
-    requires { (1 ≤ p) × (p ≤ n) }
-    ensures { Before chain.now n p result }
-{
-    let count = head_count(chain.len(), n);
-    if count == 0 {
-        return p - 1;
-    }
-    word(chain, count + (p - 1))
-}
-
-// The key of the number j; without heads it is not known.
-pub fn key_of(chain: &[u32], n: usize, j: usize) -> usize
-    requires { j < n }
-    ensures { KeyOf chain.now n j result }
-{
-    let count = head_count(chain.len(), n);
-    if count == 0 {
-        return 0;
-    }
-    word(chain, count + n + j)
-}
-
-// Whether the number j may have the key.
-pub fn may_have(chain: &[u32], n: usize, j: usize, key: usize) -> bool
-    requires { j < n }
-    ensures { MayHave chain.now n j key result }
-{
-    let count = head_count(chain.len(), n);
-    if count == 0 {
-        return true;
-    }
-    word(chain, count + n + j) == key
-}
-
-// The greatest number below p whose word is x, plus one; 0 where there is none. The numbers are linked by these words, and p is a
-// place in the chain of x.
-pub fn find(
-    words: &[u32],
-    from: usize,
-    step: usize,
-    n: usize,
-    chain: &[u32],
-    p: usize,
-    x: usize,
-) -> usize
-    requires { WordsIn words.now from step n × (Chained chain.now n (word_at words.now from step) × ((p ≤ n) × OnChain chain.now n (word_at words.now from step) x p)) }
-    ensures { result ≡ latest (has_word words.now from step x) p }
-{
-    let mut q = p;
-    while q != 0 {
-        if word(words, from + step * (q - 1)) == x {
-            return q;
-        }
-        q = before(chain, n, q);
-    }
-    0
+    link_keys(chain, n);
 }

@@ -1,88 +1,87 @@
 -- The answers, as the routines come by them.
-use mathlib.Core.Path.{◌≡◌, refl, sym, ap, ap₂, ◌∙◌}
-use mathlib.Core.Bool.{Bool, true, false, ◌&&◌, ◌||◌}
-use mathlib.Core.List.{List, []}
-use Prim.Native.Nat.{ℕ, ◌-◌, ◌≤◌, ◌<◌}
+use mathlib.Core.Path.{◌≡◌, sym, ap, ap₂, ◌∙◌}
+use mathlib.Core.Bool.{Bool, true, ◌&&◌, ◌||◌}
+use mathlib.Core.List.{List}
+use Prim.Native.Nat.{ℕ, ◌≤◌, ◌<◌}
 use native.Mathlib.Omega.{arith}
 use borrow.Author.Tests.{lt-ltb, le-ltb}
 use lib.Dec.{eqb, ltb}
 use lib.ListN.{length}
-use Rattle.text.specs.Text.{Text, empty}
+use Rattle.text.specs.Text.{empty}
 use Rattle.text.specs.Slice.{over}
 use Rattle.text.proofs.Compare.{by}
 use Rattle.text.proofs.Over.{over_fits}
 use Rattle.table.specs.Layout.{Slices}
 use Rattle.table.specs.Usable.{for_long_form, usable}
-use Rattle.usable.specs.Lent.{slices, lent}
+use Rattle.usable.specs.Lent.{SoundRows}
 use Rattle.dataset.specs.Terms.{Quad}
-use Rattle.comparison.specs.Comparison.{carries, lefts, rights, listed, only, has_node, known, legal, Comparison, refused, compare}
-use Rattle.comparison.specs.Code.{counted, refusal, listing}
+use Rattle.comparison.specs.Comparison.{carries, lefts, rights, listed, only, legal, Comparison, refused, compare}
+use Rattle.std.proofs.Common.{Result, Ok, Err}
+use Rattle.limits.specs.Refusal.{number}
+use Rattle.limits.specs.declared.Refusal.{Refusal}
+use Rattle.limits.specs.declared.Refusal.TheVariants.{Tables, Pairing}
+use Rattle.usable.proofs.Standing.{sound_rows}
+use Rattle.comparison.specs.Code.{in_both, refusal, listing}
+use Rattle.comparison.specs.declared.edition.Edition.{Edition}
+use Rattle.comparison.specs.declared.edition.Edition.TheVariants.{Left, Right}
 use Rattle.comparison.proofs.Any.{empty_length}
 use Rattle.comparison.proofs.Listing.{picked_short}
 
 -- ---- 18, then 25
 
--- The pairing is looked at with the terms alone.
-pub legal_terms : (rows : List ℕ) (rc : ℕ) (terms : List ℕ) (tc : ℕ) (store : Text) (sc : ℕ) (rows' : List ℕ) (rc' : ℕ) (terms' : List ℕ) (tc' : ℕ) (store' : Text) (sc' : ℕ) (p : List ℕ)
-    → legal (lent terms tc [] 0) (lent terms' tc' [] 0) p ≡ legal (slices rows rc terms tc store sc) (slices rows' rc' terms' tc' store' sc') p
-unfolding legal known has_node
-legal_terms rows rc terms tc store sc rows' rc' terms' tc' store' sc' p = refl
-
 module _ (l r : Slices) (p : List ℕ) where
-  pub left_unusable : usable for_long_form l ≡ false → 18 ≡ refusal l r p
-  unfolding refusal
-  left_unusable e = rw e
-
-  module _ (a : usable for_long_form l ≡ true) where
-    pub right_unusable : usable for_long_form r ≡ false → 18 ≡ refusal l r p
-    unfolding refusal
-    right_unusable e = rw (a, e)
-
-    module _ (b : usable for_long_form r ≡ true) where
-      pub not_legal : legal l r p ≡ false → 25 ≡ refusal l r p
-      unfolding refusal
-      not_legal e = rw (a, b, e)
-
-      pub none_refused : legal l r p ≡ true → 0 ≡ refusal l r p
-      unfolding refusal
-      none_refused e = rw (a, b, e)
-
-  -- What follows from 0.
-  pub both_usable : 0 ≡ refusal l r p → (usable for_long_form l ≡ true) × (usable for_long_form r ≡ true)
+  -- What follows where none is refused.
+  pub both_usable : Ok tt ≡ refusal l r p → (usable for_long_form l ≡ true) × (usable for_long_form r ≡ true)
   unfolding refusal
   both_usable e =
       by (usable for_long_form l)
       (λ a.
-      by (usable for_long_form r) (λ b. (a, b)) (λ b. let z : 0 ≡ 18 = rw (a, b) at e in absurd (omega arith)))
-      (λ a. let z : 0 ≡ 18 = rw a at e in absurd (omega arith))
+      by (usable for_long_form r) (λ b. (a, b)) (λ b. let z : Ok tt ≡ Err Tables = rw (a, b) at e in cc))
+      (λ a. let z : Ok tt ≡ Err Tables = rw a at e in cc)
 
-  pub is_legal : 0 ≡ refusal l r p → legal l r p ≡ true
+  pub is_legal : Ok tt ≡ refusal l r p → legal l r p ≡ true
   unfolding refusal
   is_legal e =
       let u = both_usable e in
-      by (legal l r p) (λ a. a) (λ a. let z : 0 ≡ 25 = rw (u.0, u.1, a) at e in absurd (omega arith))
+      by (legal l r p) (λ a. a) (λ a. let z : Ok tt ≡ Err Pairing = rw (u.0, u.1, a) at e in cc)
 
   module _ (out_left out_right : List ℕ) where
-    pub compare_refused : (n : ℕ) → n ≡ refusal l r p → (n ≡ 0 → ⊥) → refused n out_left out_right ≡ compare l r p out_left out_right
-    unfolding refusal compare
-    compare_refused n e z =
+    after : Result (Unit {0}) Refusal → Comparison
+    after (Ok x) = listing l r p out_left out_right
+    after (Err e) = refused (number e) out_left out_right
+
+    compare_after : after (refusal l r p) ≡ compare l r p out_left out_right
+    unfolding refusal listing compare after
+    compare_after =
         by (usable for_long_form l)
         (λ a.
         by (usable for_long_form r)
         (λ b.
-        by (legal l r p) (λ c. absurd (z (rw (a, b, c) at e))) (λ c. let q : n ≡ 25 = rw (a, b, c) at e in rw (a, b, c, q)))
-        (λ b. let q : n ≡ 18 = rw (a, b) at e in rw (a, b, q)))
-        (λ a. let q : n ≡ 18 = rw a at e in rw (a, q))
+        by (legal l r p) (λ c. rw (a, b, c)) (λ c. rw (a, b, c)))
+        (λ b. rw (a, b)))
+        (λ a. rw a)
 
-    pub compare_listing : 0 ≡ refusal l r p → listing l r p out_left out_right ≡ compare l r p out_left out_right
-    unfolding listing compare
-    compare_listing e = let u = both_usable e in rw (u.0, u.1, is_legal e)
+    pub compare_refused : (e : Refusal) → Err e ≡ refusal l r p → refused (number e) out_left out_right ≡ compare l r p out_left out_right
+    unfolding after
+    compare_refused e q = ap after q ∙ compare_after
 
--- The lists look at the rows that are counted, and at no other count.
-pub listing_counted : (rows : List ℕ) (rc : ℕ) (terms : List ℕ) (tc : ℕ) (store : Text) (sc : ℕ) (rows' : List ℕ) (rc' : ℕ) (terms' : List ℕ) (tc' : ℕ) (store' : Text) (sc' : ℕ) (p out_left out_right : List ℕ)
-    → listing (counted rows rc terms store) (counted rows' rc' terms' store') p out_left out_right ≡ listing (slices rows rc terms tc store sc) (slices rows' rc' terms' tc' store' sc') p out_left out_right
-unfolding listing only listed
-listing_counted rows rc terms tc store sc rows' rc' terms' tc' store' sc' p out_left out_right = refl
+    pub compare_listing : Ok tt ≡ refusal l r p → listing l r p out_left out_right ≡ compare l r p out_left out_right
+    unfolding after
+    compare_listing q = ap after q ∙ compare_after
+
+-- The rows of tables that the writer takes are sound.
+pub sound_of : (s : Slices) → usable for_long_form s ≡ true → SoundRows s s.row_count
+sound_of s u i h =
+    let r = sound_rows for_long_form s u i h in
+    record { stands = r.stands; graph = r.graph; subject = r.subject; predicate = r.predicate; object = r.object }
+
+-- What is listed, by the edition.
+module _ (e : Edition) (l r : Slices) (p : List ℕ) where
+  pub as_lefts : e ≡ Left → only (in_both e p) l r ≡ lefts l r p
+  as_lefts z = rw z
+
+  pub as_rights : e ≡ Right → only (in_both e p) r l ≡ rights l r p
+  as_rights z = rw z
 
 -- ---- 26, or the two lists
 

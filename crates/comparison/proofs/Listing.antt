@@ -1,154 +1,147 @@
 -- The rows that are listed, found along chains, and how a list is written.
-use mathlib.Core.Path.{◌≡◌, refl, sym, ap, ap₂, ◌∙◌, subst, fun_ext}
+use mathlib.Core.Path.{◌≡◌, refl, sym, ap, ap₂, ◌∙◌, fun_ext}
 use mathlib.Core.Bool.{Bool, true, false, not, ◌&&◌}
 use mathlib.Core.List.{List, [], ◌∷◌, ◌++◌}
-use Prim.Native.Nat.{ℕ, zero, suc, ◌+◌, ◌-◌, ◌%◌, ◌≤◌, ◌<◌}
+use Prim.Native.Nat.{ℕ, zero, suc, ◌+◌, ◌%◌, ◌≤◌}
 use native.Mathlib.Nat.{add-zero}
 use native.Mathlib.Numerals.{add-one}
 use native.Mathlib.Omega.{arith}
-use borrow.Author.Tests.{eq-eqb, eqb-true, eqb-false}
+use borrow.Author.Tests.{eq-eqb, ne_eqb, eqb-true, eqb-false}
 use lib.Dec.{eqb}
 use lib.ListN.{length, set, length-append}
-use Rattle.text.specs.Text.{Text}
 use Rattle.text.specs.Slice.{over, over_at}
 use Rattle.text.proofs.Compare.{by, contrary}
 use Rattle.text.proofs.Over.{over_append, over_at_none, over_at_more, over_at_enough}
-use Rattle.table.specs.Layout.{Slices}
-use Rattle.usable.specs.Lent.{drawn}
-use Rattle.chains.specs.Chains.{latest, heads, near, Chained, First, Before, KeyOf, MayHave}
+use Rattle.std.proofs.Common.{Option}
+use Rattle.std.specs.Option.{unwrap_or}
+use Rattle.dataset.specs.Terms.{Quad}
+use Rattle.chains.specs.Chains.{behind, latest, heads, near, First, Before, KeyOf, MayHave}
 use Rattle.chains.proofs.Chains.{place_low, place_on, latest_over, near_all}
 use Rattle.comparison.specs.Comparison.{any, picked, paired, alike_quad, statement, listed}
-use Rattle.comparison.specs.Code.{Matched, nodes, source, target, within, across, in_both, counted, one, row_key, finds, On, Sought, Ready}
-use Rattle.comparison.specs.declared.values.Way.{Way}
+use Rattle.comparison.specs.Partners.{Matched}
+use Rattle.comparison.specs.Code.{opposite, tables_of, nodes, in_both, one, row_key, finds, On, Tells, Sought, Ready}
+use Rattle.comparison.specs.declared.edition.Edition.{Edition}
+use Rattle.comparison.specs.declared.edition.Edition.TheVariants.{Left, Right}
+use Rattle.comparison.specs.declared.edition.Side.{Side}
 use Rattle.comparison.proofs.Alike.{quad_turned}
 use Rattle.comparison.proofs.RowKeys.{node_keys, quad_keys}
 use Rattle.comparison.proofs.Search.{any_latest}
 
 -- ---- A row that is alike has the key
 
-module _ (way : Way) (p : List ℕ) (matched : Matched p) (mine : Slices) (i : ℕ) (other : Slices) (chain : List ℕ) (count key : ℕ) (s : Sought way p mine i other chain count key) where
-  has_key : (j : ℕ) → (heads (length chain) count ≡ 0 → ⊥) → finds way p mine i other j ≡ true → row_key (target way) p other j ≡ key
-  has_key j some e = sym (s.tells some ∙ quad_keys (nodes way p) _ _ (node_keys way p matched) (statement mine i) (statement other j) e)
+module _ (p : List ℕ) (matched : Matched p) (mine : Side) (i : ℕ) (other : Side) (key : ℕ) (s : Sought p mine i other key) where
+  has_key : (j : ℕ) → (heads (length other.links.words.now) other.links.count ≡ 0 → ⊥) → finds p mine i other j ≡ true → row_key other.edition p (tables_of other) j ≡ key
+  has_key j some e =
+      sym (s.tells some ∙ quad_keys (nodes mine.edition other.edition p) _ _ (node_keys mine.edition other.edition p matched) (statement (tables_of mine) i) (statement (tables_of other) j) e)
 
-  pub found_near : (j : ℕ) → finds way p mine i other j ≡ true → near (heads (length chain) count) (row_key (target way) p other) key j ≡ true
+  pub found_near : (j : ℕ) → finds p mine i other j ≡ true → near (heads (length other.links.words.now) other.links.count) (row_key other.edition p (tables_of other)) key j ≡ true
   unfolding near
   found_near j e =
-      by (eqb (heads (length chain) count) 0) (λ z. rw z)
-      (λ z. rw (z, has_key j (eqb-false (heads (length chain) count) 0 z) e, eq-eqb (key % heads (length chain) count) (key % heads (length chain) count) refl))
-
-  pub key_differs : (j : ℕ) (r : Bool) → MayHave chain count j key r → r ≡ false → false ≡ finds way p mine i other j
-  key_differs j r m e =
-      let q = sym (m (row_key (target way) p other) s.linked) ∙ e in
-      by (finds way p mine i other j)
-      (λ t.
-      by (eqb (heads (length chain) count) 0) (λ z. contrary (rw z at q))
+      by (eqb (heads (length other.links.words.now) other.links.count) 0) (λ z. rw z)
       (λ z.
-      let y : eqb (row_key (target way) p other j) key ≡ false = rw z at q in
-      absurd (eqb-false (row_key (target way) p other j) key y (has_key j (eqb-false (heads (length chain) count) 0 z) t))))
+      rw (
+        z,
+        has_key j (eqb-false (heads (length other.links.words.now) other.links.count) 0 z) e,
+        eq-eqb (key % heads (length other.links.words.now) other.links.count) (key % heads (length other.links.words.now) other.links.count) refl,
+      ))
+
+  pub key_differs : (j : ℕ) (r : Bool) → MayHave other.links.words.now other.links.count j key r → r ≡ false → false ≡ finds p mine i other j
+  key_differs j r m e =
+      let q = sym (m (row_key other.edition p (tables_of other)) s.linked) ∙ e in
+      by (finds p mine i other j)
+      (λ t.
+      by (eqb (heads (length other.links.words.now) other.links.count) 0) (λ z. contrary (rw z at q))
+      (λ z.
+      let y : eqb (row_key other.edition p (tables_of other) j) key ≡ false = rw z at q in
+      absurd (eqb-false (row_key other.edition p (tables_of other) j) key y (has_key j (eqb-false (heads (length other.links.words.now) other.links.count) 0 z) t))))
       (λ t. sym t)
 
 -- ---- The row reached, sought among those before it and among the other side's
 
-module _ (left : Bool) (p pair_chain : List ℕ) (mine : Slices) (count : ℕ) (chain : List ℕ) (other : Slices) (other_count : ℕ) (other_chain : List ℕ) (r : Ready left p pair_chain mine count chain other other_count other_chain) where
-  within_source : source (within left) ≡ left
-  within_source = by left (λ e. rw e) (λ e. rw e)
+same_nodes : (e : Edition) (p : List ℕ) → ◌≡◌ {A = ℕ → ℕ → Bool} (nodes e e p) eqb
+same_nodes Left p = refl
+same_nodes Right p = refl
 
-  within_target : target (within left) ≡ left
-  within_target = by left (λ e. rw e) (λ e. rw e)
+both_sides : (a b : Edition) (p : List ℕ) → b ≡ opposite a → (q t : Quad) → alike_quad (nodes a b p) q t ≡ in_both a p q t
+both_sides Left Right p e q t = refl
+both_sides Right Left p e q t = sym (quad_turned (λ m n. paired p m n) t q)
+both_sides Left Left p e q t = cc
+both_sides Right Right p e q t = cc
 
-  across_source : source (across left) ≡ left
-  across_source = by left (λ e. rw e) (λ e. rw e)
+module _ (p : List ℕ) (mine other : Side) (r : Ready p mine other) (i : ℕ) where
+  listed_is : listed (in_both mine.edition p) (tables_of mine) (tables_of other) i ≡ (not (any (finds p mine i mine) i) && not (any (finds p mine i other) other.links.count))
+  unfolding listed
+  listed_is =
+      ap₂ (λ x y. not x && not y) (ap (λ (f : ℕ → ℕ → Bool). any (λ j. alike_quad f (statement (tables_of mine) i) (statement (tables_of mine) j)) i) (sym (same_nodes mine.edition p)))
+      (ap₂ any (fun_ext (λ j. sym (both_sides mine.edition other.edition p r.turned (statement (tables_of mine) i) (statement (tables_of other) j)))) (sym other.counted))
 
-  across_target : target (across left) ≡ not left
-  across_target = by left (λ e. rw e) (λ e. rw e)
+  pub own_key : (o : Option ℕ) → KeyOf mine.links.words.now mine.links.count i o → (key d : ℕ) → key ≡ unwrap_or o d → Tells mine.links.words.now mine.links.count key (row_key mine.edition p (tables_of mine) i)
+  own_key o k key d e some = e ∙ (ap (λ x. unwrap_or x d) (k (row_key mine.edition p (tables_of mine)) r.linked) ∙ rw (ne_eqb (heads (length mine.links.words.now) mine.links.count) 0 some))
 
-  module _ (i key : ℕ) (k : KeyOf chain count i key) where
-    pub sought_within : Sought (within left) p mine i mine chain count key
-    sought_within =
-        record {
-          linked = subst (λ (b : Bool). Chained chain count (row_key b p mine)) (sym within_target) r.linked;
-          tells = λ some. k (row_key left p mine) r.linked some ∙ ap (λ (b : Bool). row_key b p mine i) (sym within_source);
-        }
+  module _ (key : ℕ) (k : Tells mine.links.words.now mine.links.count key (row_key mine.edition p (tables_of mine) i)) where
+    pub sought_within : Sought p mine i mine key
+    sought_within = record { linked = r.linked; tells = k }
 
-    pub sought_across : Sought (across left) p mine i other other_chain other_count key
-    sought_across =
-        record {
-          linked = subst (λ (b : Bool). Chained other_chain other_count (row_key b p other)) (sym across_target) r.other_linked;
-          tells = λ some. k (row_key left p mine) r.linked (r.both some) ∙ ap (λ (b : Bool). row_key b p mine i) (sym across_source);
-        }
+    pub sought_across : Sought p mine i other key
+    sought_across = record { linked = r.other_linked; tells = λ some. k (r.both some) }
 
     -- Where the searches begin, and what they find is what is found among all.
-    module _ (from : ℕ) (b : Before chain count (i + 1) from) where
-      begins : from ≡ latest (near (heads (length chain) count) (row_key left p mine) (row_key left p mine i)) i
-      begins =
-          let back : i + 1 - 1 ≡ i = omega arith in
-          b (row_key left p mine) r.linked ∙ ap (λ (n : ℕ). latest (near (heads (length chain) count) (row_key left p mine) (row_key left p mine n)) n) back
+    module _ (from : Option ℕ) (b : First other.links.words.now other.links.count key from) where
+      firsts : behind from ≡ latest (near (heads (length other.links.words.now) other.links.count) (row_key other.edition p (tables_of other)) key) other.links.count
+      firsts = b (row_key other.edition p (tables_of other)) r.other_linked
 
-      pub before_low : from ≤ i
-      before_low = place_low (near (heads (length chain) count) (row_key left p mine) (row_key left p mine i)) i from begins
+      pub first_low : behind from ≤ other.links.count
+      first_low = place_low (near (heads (length other.links.words.now) other.links.count) (row_key other.edition p (tables_of other)) key) other.links.count (behind from) firsts
 
-      pub before_on : On (target (within left)) p mine chain count key from
-      before_on =
-          subst (λ (b : Bool). On b p mine chain count key from) (sym within_target)
-          (by (eqb (heads (length chain) count) 0)
-          (λ z. ap (λ (h : ℕ). latest (near h (row_key left p mine) key) from) (eqb-true (heads (length chain) count) 0 z) ∙ near_all (row_key left p mine) key from)
-          (λ z.
-          let e = k (row_key left p mine) r.linked (eqb-false (heads (length chain) count) 0 z) in
-          ap (λ (x : ℕ). latest (near (heads (length chain) count) (row_key left p mine) x) from) e
-          ∙ place_on (near (heads (length chain) count) (row_key left p mine) (row_key left p mine i)) i from begins))
+      pub first_on : On p other key (behind from)
+      first_on = place_on (near (heads (length other.links.words.now) other.links.count) (row_key other.edition p (tables_of other)) key) other.links.count (behind from) firsts
 
-      by_own_key : Sought (within left) p mine i mine chain count (row_key (source (within left)) p mine i)
-      by_own_key = record { linked = sought_within.linked; tells = λ some. refl }
-
-      pub before_all : any (finds (within left) p mine i mine) from ≡ any (finds (within left) p mine i mine) i
-      before_all =
-          let t = finds (within left) p mine i mine in
-          let near_own : (j : ℕ) → j < i → t j ≡ true → near (heads (length chain) count) (row_key left p mine) (row_key left p mine i) j ≡ true =
-          λ j h e. subst (λ (b : Bool). near (heads (length chain) count) (row_key b p mine) (row_key b p mine i) j ≡ true) within_target
-          (subst (λ (b : Bool). near (heads (length chain) count) (row_key (target (within left)) p mine) (row_key b p mine i) j ≡ true) (within_source ∙ sym within_target)
-          (found_near (within left) p r.paired.matched mine i mine chain count (row_key (source (within left)) p mine i) by_own_key j e)) in
-          any_latest t from
-          ∙ (ap (λ (n : ℕ). not (eqb n 0)) (ap (latest t) begins ∙ latest_over t (near (heads (length chain) count) (row_key left p mine) (row_key left p mine i)) i near_own)
-          ∙ sym (any_latest t i))
-
-    module _ (from : ℕ) (b : First other_chain other_count key from) where
-      firsts : from ≡ latest (near (heads (length other_chain) other_count) (row_key (target (across left)) p other) key) other_count
-      firsts = b (row_key (target (across left)) p other) sought_across.linked
-
-      pub first_low : from ≤ other_count
-      first_low = place_low (near (heads (length other_chain) other_count) (row_key (target (across left)) p other) key) other_count from firsts
-
-      pub first_on : On (target (across left)) p other other_chain other_count key from
-      first_on = place_on (near (heads (length other_chain) other_count) (row_key (target (across left)) p other) key) other_count from firsts
-
-      pub first_all : any (finds (across left) p mine i other) from ≡ any (finds (across left) p mine i other) other_count
+      first_all : any (finds p mine i other) (behind from) ≡ any (finds p mine i other) other.links.count
       first_all =
-          let t = finds (across left) p mine i other in
-          any_latest t from
+          let t = finds p mine i other in
+          any_latest t (behind from)
           ∙ (ap (λ (n : ℕ). not (eqb n 0))
           (ap (latest t) firsts
-          ∙ latest_over t (near (heads (length other_chain) other_count) (row_key (target (across left)) p other) key) other_count
-          (λ j h e. found_near (across left) p r.paired.matched mine i other other_chain other_count key sought_across j e))
-          ∙ sym (any_latest t other_count))
+          ∙ latest_over t (near (heads (length other.links.words.now) other.links.count) (row_key other.edition p (tables_of other)) key) other.links.count
+          (λ j h e. found_near p r.matched mine i other key sought_across j e))
+          ∙ sym (any_latest t other.links.count))
 
--- ---- In the words of the definition
+    module _ (from : Option ℕ) (b : Before mine.links.words.now mine.links.count i from) where
+      begins : behind from ≡ latest (near (heads (length mine.links.words.now) mine.links.count) (row_key mine.edition p (tables_of mine)) (row_key mine.edition p (tables_of mine) i)) i
+      begins = b (row_key mine.edition p (tables_of mine)) r.linked
 
-module _ (left : Bool) (p : List ℕ) (rows : List ℕ) (count : ℕ) (terms : List ℕ) (store : Text) (rows' : List ℕ) (count' : ℕ) (terms' : List ℕ) (store' : Text) (i : ℕ) where
-  abbrev mine : Slices
-  mine = drawn rows terms store
+      pub before_low : behind from ≤ i
+      before_low = place_low (near (heads (length mine.links.words.now) mine.links.count) (row_key mine.edition p (tables_of mine)) (row_key mine.edition p (tables_of mine) i)) i (behind from) begins
 
-  abbrev other : Slices
-  other = drawn rows' terms' store'
+      pub before_on : On p mine key (behind from)
+      before_on =
+          by (eqb (heads (length mine.links.words.now) mine.links.count) 0)
+          (λ z.
+          ap (λ (h : ℕ). latest (near h (row_key mine.edition p (tables_of mine)) key) (behind from)) (eqb-true (heads (length mine.links.words.now) mine.links.count) 0 z)
+          ∙ near_all (row_key mine.edition p (tables_of mine)) key (behind from))
+          (λ z.
+          ap (λ (x : ℕ). latest (near (heads (length mine.links.words.now) mine.links.count) (row_key mine.edition p (tables_of mine)) x) (behind from)) (k (eqb-false (heads (length mine.links.words.now) mine.links.count) 0 z))
+          ∙ place_on (near (heads (length mine.links.words.now) mine.links.count) (row_key mine.edition p (tables_of mine)) (row_key mine.edition p (tables_of mine) i)) i (behind from) begins)
 
-  as_same : ◌≡◌ {A = ℕ → Bool} (finds (within left) p mine i mine) (λ j. alike_quad eqb (statement mine i) (statement mine j))
-  as_same = by left (λ e. rw e) (λ e. rw e)
+      before_all : any (finds p mine i mine) (behind from) ≡ any (finds p mine i mine) i
+      before_all =
+          let t = finds p mine i mine in
+          let own : Sought p mine i mine (row_key mine.edition p (tables_of mine) i) = record { linked = r.linked; tells = λ some. refl } in
+          any_latest t (behind from)
+          ∙ (ap (λ (n : ℕ). not (eqb n 0))
+          (ap (latest t) begins
+          ∙ latest_over t (near (heads (length mine.links.words.now) mine.links.count) (row_key mine.edition p (tables_of mine)) (row_key mine.edition p (tables_of mine) i)) i
+          (λ j h e. found_near p r.matched mine i mine (row_key mine.edition p (tables_of mine) i) own j e))
+          ∙ sym (any_latest t i))
 
-  as_both : ◌≡◌ {A = ℕ → Bool} (finds (across left) p mine i other) (λ j. in_both left p (statement mine i) (statement other j))
-  as_both = by left (λ e. rw e) (λ e. fun_ext (λ j. rw e (sym (quad_turned (λ m n. paired p m n) (statement other j) (statement mine i)))))
+      -- A row is listed where neither search finds its statement.
+      module _ (found : Bool) (f : found ≡ any (finds p mine i mine) (behind from)) where
+        pub listed_repeated : found ≡ true → false ≡ listed (in_both mine.edition p) (tables_of mine) (tables_of other) i
+        listed_repeated t = sym (listed_is ∙ rw (sym (f ∙ before_all) ∙ t))
 
-  pub listed_is : listed (in_both left p) (counted rows count terms store) (counted rows' count' terms' store') i ≡ (not (any (finds (within left) p mine i mine) i) && not (any (finds (across left) p mine i other) count'))
-  unfolding listed
-  listed_is = ap₂ (λ x y. not x && not y) (ap (λ (t : ℕ → Bool). any t i) (sym as_same)) (ap (λ (t : ℕ → Bool). any t count') (sym as_both))
+        pub listed_first : found ≡ false → (start : Option ℕ) → First other.links.words.now other.links.count key start → (again : Bool) → again ≡ any (finds p mine i other) (behind start)
+            → not again ≡ listed (in_both mine.edition p) (tables_of mine) (tables_of other) i
+        listed_first t start b' again g = sym (listed_is ∙ rw (sym (f ∙ before_all) ∙ t, sym (g ∙ first_all start b')))
 
 -- ---- Writing a list
 
@@ -187,21 +180,3 @@ put_next t n x y z at r b e l o w q =
       q ∙ (ap (λ (k : ℕ). k + length (one b n)) l ∙ (sym (length-append (picked t n) (one b n)) ∙ ap length (sym f))),
       put_more (picked t n) (one b n) x y z o (w ∙ ap (λ (k : ℕ). over_at k (one b n) y) l) ∙ ap (λ (s : List ℕ). over s x) (sym f),
     )
-
--- A row is listed where neither search finds its statement.
-module _ (left : Bool) (p pair_chain : List ℕ) (rows : List ℕ) (count : ℕ) (terms : List ℕ) (store : Text) (chain : List ℕ) (rows' : List ℕ) (count' : ℕ) (terms' : List ℕ) (store' : Text) (chain' : List ℕ) (r : Ready left p pair_chain (drawn rows terms store) count chain (drawn rows' terms' store') count' chain') (i key : ℕ) (k : KeyOf chain count i key) (w : Way) (e : w ≡ within left) (from : ℕ) (b : Before chain count (i + 1) from) (found : Bool) (f : found ≡ any (finds w p (drawn rows terms store) i (drawn rows terms store)) from) where
-  before_found : found ≡ any (finds (within left) p (drawn rows terms store) i (drawn rows terms store)) i
-  before_found =
-      f ∙ (ap (λ (v : Way). any (finds v p (drawn rows terms store) i (drawn rows terms store)) from) e
-      ∙ before_all left p pair_chain (drawn rows terms store) count chain (drawn rows' terms' store') count' chain' r i key k from b)
-
-  pub listed_repeated : found ≡ true → false ≡ listed (in_both left p) (counted rows count terms store) (counted rows' count' terms' store') i
-  listed_repeated t = sym (listed_is left p rows count terms store rows' count' terms' store' i ∙ rw (sym before_found ∙ t))
-
-  pub listed_first : found ≡ false → (v : Way) → v ≡ across left → (from' : ℕ) → First chain' count' key from' → (found' : Bool) → found' ≡ any (finds v p (drawn rows terms store) i (drawn rows' terms' store')) from'
-      → not found' ≡ listed (in_both left p) (counted rows count terms store) (counted rows' count' terms' store') i
-  listed_first t v a from' b' found' f' =
-      let g : found' ≡ any (finds (across left) p (drawn rows terms store) i (drawn rows' terms' store')) count' =
-      f' ∙ (ap (λ (x : Way). any (finds x p (drawn rows terms store) i (drawn rows' terms' store')) from') a
-      ∙ first_all left p pair_chain (drawn rows terms store) count chain (drawn rows' terms' store') count' chain' r i key k from' b') in
-      sym (listed_is left p rows count terms store rows' count' terms' store' i ∙ rw (sym before_found ∙ t, sym g))

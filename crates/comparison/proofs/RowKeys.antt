@@ -1,13 +1,18 @@
 -- Statements that are alike have one key.
 use mathlib.Core.Path.{◌≡◌, refl, sym, ap, ◌∙◌}
-use mathlib.Core.Bool.{Bool, true, false}
+use mathlib.Core.Bool.{Bool, true}
 use mathlib.Core.List.{List}
 use mathlib.Core.Option.{Option, none, some}
 use Prim.Native.Nat.{ℕ, zero, suc, ◌+◌, ◌%◌}
 use native.Mathlib.Numerals.{add-one}
 use native.Mathlib.Omega.{arith}
 use borrow.Author.Tests.{ne_eqb, eqb-true}
+use Rattle.std.specs.Option.{unwrap_or}
+use Rattle.std.proofs.Common.{Option as StdOption, Some, None}
+use Rattle.text.specs.Text.{cond}
+use lib.Dec.{eqb}
 use Rattle.text.proofs.Compare.{contrary}
+use Rattle.chains.specs.Chains.{behind}
 use Rattle.dataset.specs.Terms.{Term, Quad}
 use Rattle.spelling.specs.Hash.{first_multiplier, stir, hash_from}
 use Rattle.table.specs.Layout.{Slices, word_limit}
@@ -16,25 +21,26 @@ use Rattle.table.specs.Usable.{the, text, term, graph}
 use Rattle.table.proofs.Numbers.{same_term_eq}
 use Rattle.usable.specs.Lent.{Sound}
 use Rattle.comparison.specs.Comparison.{paired, node, alike_by, alike, alike_graph, alike_quad}
-use Rattle.comparison.specs.Code.{partner, Matched, nodes, source, target, number_key, key_by, term_key, graph_key, quad_key}
-use Rattle.comparison.specs.declared.values.Way.{Way}
-use Rattle.comparison.specs.declared.values.Way.TheVariants.{InLeft, InRight, ToRight, ToLeft}
+use Rattle.comparison.specs.Partners.{partner, Matched}
+use Rattle.comparison.specs.Code.{nodes, number_key, key_by, term_key, graph_key, quad_key}
+use Rattle.comparison.specs.declared.edition.Edition.{Edition}
+use Rattle.comparison.specs.declared.edition.Edition.TheVariants.{Left, Right}
 use Rattle.comparison.proofs.Alike.{four}
 use Rattle.comparison.proofs.ByKind.{term_blank, text_is, no_number}
 
 -- ---- Of numbers
 
-paired_key : (p : List ℕ) → Matched p → (m n : ℕ) → paired p m n ≡ true → number_key true p m ≡ number_key false p n
+paired_key : (p : List ℕ) → Matched p → (m n : ℕ) → paired p m n ≡ true → number_key Left p m ≡ number_key Right p n
 unfolding number_key
 paired_key p h m n e =
     let q = eqb-true (partner p m) (suc n) (sym (h m n) ∙ e) in
     rw (q, ne_eqb (suc n) 0 (λ z. omega arith)) (ap (λ (k : ℕ). k % word_limit) (sym (add-one n)))
 
-pub node_keys : (way : Way) (p : List ℕ) → Matched p → (m n : ℕ) → nodes way p m n ≡ true → number_key (source way) p m ≡ number_key (target way) p n
-node_keys InLeft p h m n e = ap (number_key true p) (eqb-true m n e)
-node_keys InRight p h m n e = ap (number_key false p) (eqb-true m n e)
-node_keys ToRight p h m n e = paired_key p h m n e
-node_keys ToLeft p h m n e = sym (paired_key p h n m e)
+pub node_keys : (a b : Edition) (p : List ℕ) → Matched p → (m n : ℕ) → nodes a b p m n ≡ true → number_key a p m ≡ number_key b p n
+node_keys Left Left p h m n e = ap (number_key Left p) (eqb-true m n e)
+node_keys Right Right p h m n e = ap (number_key Right p) (eqb-true m n e)
+node_keys Left Right p h m n e = paired_key p h m n e
+node_keys Right Left p h m n e = sym (paired_key p h n m e)
 
 -- ---- Of terms and statements
 
@@ -80,18 +86,19 @@ pub a_graph : (k : ℕ → ℕ) (s : Slices) (n : ℕ) → (n ≡ 0 → ⊥) →
 a_graph k s zero h = absurd (h refl)
 a_graph k s (suc n) h = refl
 
-module _ (left : Bool) (p : List ℕ) (m : ℕ) where
-  pub left_key : (r : ℕ) → left ≡ true → r ≡ partner p m → (r ≡ 0 → ⊥) → r % word_limit ≡ number_key left p m
-  unfolding number_key
-  left_key r l e z = rw (l, ← e, ne_eqb r 0 z)
+-- The key of a blank number, by its partner.
+by_partner : (r : StdOption ℕ) (m q : ℕ) → behind r ≡ q → (unwrap_or r m + 1) % word_limit ≡ cond (eqb q 0) (m + 1) q % word_limit
+by_partner None m q e = rw (← e)
+by_partner (Some j) m q e = rw (← e, ne_eqb (suc j) 0 (λ z. omega arith), add-one j)
 
-  pub own_key : (r : ℕ) → left ≡ true → r ≡ partner p m → r ≡ 0 → (m + 1) % word_limit ≡ number_key left p m
+module _ (edition : Edition) (p : List ℕ) (m : ℕ) (r : StdOption ℕ) (u : ℕ) (is : u ≡ unwrap_or r m) where
+  pub left_key : edition ≡ Left → behind r ≡ partner p m → (u + 1) % word_limit ≡ number_key edition p m
   unfolding number_key
-  own_key r l e z = let q : partner p m ≡ 0 = sym e ∙ z in rw (l, q)
+  left_key l e = rw (l, is) (by_partner r m (partner p m) e)
 
-  pub right_key : left ≡ false → (m + 1) % word_limit ≡ number_key left p m
+  pub right_key : edition ≡ Right → r ≡ None → (u + 1) % word_limit ≡ number_key edition p m
   unfolding number_key
-  right_key l = rw l
+  right_key l e = rw (l, is, e)
 
 pub stirred : (k : ℕ → ℕ) (q : Quad) (g s p o a b c : ℕ)
     → g ≡ graph_key k q.graph → s ≡ term_key k q.triple.subject → p ≡ term_key k q.triple.predicate → o ≡ term_key k q.triple.object

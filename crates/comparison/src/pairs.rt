@@ -1,14 +1,15 @@
 // The pairing: which blank node of the left stands for which of the right, and whether it may be lent. Numbers are found along chains:
 // of the pairs by one side's numbers, of the terms by their fourth word.
-ghost use Rattle.std.specs.Prelude.{◌≡◌, [], ◌+◌, ◌*◌, ◌≤◌, ◌<◌, length, get_or};
-ghost use Rattle.table.specs.Layout.{term_size};
-ghost use Rattle.usable.specs.Lent.{Stands, lent};
-ghost use Rattle.chains.specs.Chains.{word_at, Chained};
-ghost use Rattle.comparison.specs.Comparison.{pairs, has_node, known, once, legal};
-ghost use Rattle.comparison.specs.Code.{is_node, partner};
+ghost use Rattle.std.specs.Prelude.{◌≡◌, not, ◌*◌, ◌≤◌, ◌<◌, eqb, length};
+ghost use Rattle.table.specs.Layout.{term_size, word_limit};
+ghost use Rattle.usable.specs.Lent.{Stands, slices_of};
+ghost use Rattle.chains.specs.Chains.{behind, word_at, Chained};
+ghost use Rattle.comparison.specs.Comparison.{any, pairs, has_node, known, once, legal};
+ghost use Rattle.comparison.specs.Partners.{partner, ByLeft, ByLeft-prop};
+ghost use Rattle.comparison.specs.Code.{is_node};
 
-use table::{Layout, TermKind, TermWord, wide};
-use usable::fields::term_word;
+use chains::{Column, Links};
+use table::{Layout, Tables, TermKind, TermWord, wide};
 
 // The words of a pair.
 #[derive(Drop)]
@@ -22,129 +23,129 @@ impl Pair {
     pub const WORDS: usize = 2;
 }
 
-// A word of the pairing.
-fn pair_word(pairing: &[u32], k: usize) -> usize
-    requires { k < length pairing.now }
-    ensures { (result ≡ get_or pairing.now k 0) × (result < 4294967296) }
+// One side's numbers of the pairs.
+fn numbers<'a>(pairing: &'a [u32], side: usize) -> Column<'a>
+    requires { side < 2 }
+    ensures { (result.words.now ≡ pairing.now) × ((result.from ≡ side) × ((result.step ≡ 2) × (result.count ≡ pairs pairing.now))) }
 {
-    wide(pairing[k])
+    Column {
+        words: pairing,
+        from: side,
+        step: Pair::WORDS,
+        count: pairing.len() / Pair::WORDS,
+    }
 }
 
-// Whether no number of a side stands there before.
-fn is_once(pairing: &[u32], side: usize, chain: &[u32]) -> bool
-    requires { (side < 2) × Chained chain.now (pairs pairing.now) (word_at pairing.now side 2) }
-    ensures { result ≡ once (word_at pairing.now side 2) (pairs pairing.now) }
-{
-    let count = pairing.len() / Pair::WORDS;
-    let mut i: usize = 0;
-    while i < count {
-        let n = pair_word(pairing, side + Pair::WORDS * i);
-        let from = chains::before(chain, count, i + 1);
-        if chains::find(pairing, side, Pair::WORDS, count, chain, from, n) != 0 {
-            return false;
+// The pairs, linked by their left numbers.
+#[derive(Clone, Copy)]
+pub struct Pairing<'a> {
+    pub words: &'a [u32],
+    pub links: Links<'a>,
+    ghost counted: { links.count ≡ pairs words.now },
+    ghost linked: { ByLeft words.now links.words.now } by { ByLeft-prop words.now links.words.now },
+}
+
+impl<'a> Pairing<'a> {
+    // Links the pairs in words that are lent.
+    pub fn new(words: &'a [u32], chain: &'a mut [u32]) -> Pairing<'a>
+        ensures { result.words.now ≡ words.now }
+    {
+        let lefts = numbers(words, Pair::LEFT);
+        lefts.link(chain);
+        Pairing {
+            words,
+            links: Links::new(chain, lefts.count),
         }
-        i += 1;
     }
-    true
+
+    // The right number that the left number m is paired with.
+    pub fn partner(&self, m: usize) -> Option<usize>
+        ensures { (behind result ≡ partner self.now.words.now m) × (behind result ≤ word_limit) }
+    {
+        let found = self
+            .links
+            .find(&numbers(self.words, Pair::LEFT), self.links.first(m), m)?;
+        Some(numbers(self.words, Pair::RIGHT).word(found))
+    }
+}
+
+// Whether the number of the pair i stands in no pair before. The pairs are linked by these numbers.
+fn is_first(numbers: &Column<'_>, links: &Links<'_>, i: usize) -> bool
+    requires { (i < numbers.now.count) × ((links.now.count ≡ numbers.now.count) × Chained links.now.words.now links.now.count (word_at numbers.now.words.now numbers.now.from numbers.now.step)) }
+    ensures { result ≡ not (any (λ j. eqb (word_at numbers.now.words.now numbers.now.from numbers.now.step j) (word_at numbers.now.words.now numbers.now.from numbers.now.step i)) i) }
+{
+    let before = links.before(i);
+    links.find(numbers, before, numbers.word(i)).is_none()
+}
+
+// Whether no number of a side stands there twice.
+fn is_once(numbers: &Column<'_>, index: &mut [u32]) -> bool
+    ensures { (result ≡ once (word_at numbers.now.words.now numbers.now.from numbers.now.step) numbers.now.count) × (length index.new ≡ length index.old) }
+{
+    numbers.link(index);
+    let links = Links::new(index, numbers.count);
+    (0..numbers.count).all(|i| is_first(numbers, &links, i))
 }
 
 // Whether the term k is the blank node n.
-fn is_node(terms: &[u32], n: usize, k: usize) -> bool
-    requires { Stands terms.now k }
-    ensures { result ≡ is_node (lent terms.now 0 [] 0) n k }
+#[tactic(auto, unfolding(table::specs::Layout::entry_at))]
+fn is_node(tables: &Tables<'_>, n: usize, k: usize) -> bool
+    requires { Stands tables.now.terms.now k }
+    ensures { result ≡ is_node (slices_of tables.now) n k }
 {
-    if term_word(terms, k, TermWord::KIND) != TermKind::BLANK {
-        return false;
-    }
-    term_word(terms, k, TermWord::FOURTH) == n
+    tables.term_word(k, TermWord::KIND) == TermKind::BLANK
+        && tables.term_word(k, TermWord::FOURTH) == n
 }
 
-// Whether some term is the blank node n.
-fn has_node(terms: &[u32], count: usize, chain: &[u32], n: usize) -> bool
-    requires { (term_size * count ≤ length terms.now) × Chained chain.now count (word_at terms.now 3 term_size) }
-    ensures { result ≡ has_node (lent terms.now count [] 0) n }
+// Whether some term is the blank node n. The terms are linked by their fourth words.
+fn has_node(tables: &Tables<'_>, links: &Links<'_>, n: usize) -> bool
+    requires { (term_size * tables.now.term_count ≤ length tables.now.terms.now) × ((links.now.count ≡ tables.now.term_count) × Chained links.now.words.now tables.now.term_count (word_at tables.now.terms.now 3 term_size)) }
+    ensures { result ≡ has_node (slices_of tables.now) n }
 {
-    let mut p = chains::first(chain, count, n);
-    while p != 0 {
-        if is_node(terms, n, p) {
+    let mut at = links.first(n);
+    while let Some(k) = at {
+        if is_node(tables, n, k + 1) {
             return true;
         }
-        p = chains::before(chain, count, p);
+        at = links.before(k);
     }
     false
 }
 
 // Whether every number of a side is a blank node of its table.
-fn is_known(pairing: &[u32], side: usize, terms: &[u32], count: usize, chain: &[u32]) -> bool
-    requires { (side < 2) × ((term_size * count ≤ length terms.now) × Chained chain.now count (word_at terms.now 3 term_size)) }
-    ensures { result ≡ known (lent terms.now count [] 0) (word_at pairing.now side 2) (pairs pairing.now) }
+fn is_known(numbers: &Column<'_>, tables: &Tables<'_>, index: &mut [u32]) -> bool
+    requires { term_size * tables.now.term_count ≤ length tables.now.terms.now }
+    ensures { (result ≡ known (slices_of tables.now) (word_at numbers.now.words.now numbers.now.from numbers.now.step) numbers.now.count) × (length index.new ≡ length index.old) }
 {
-    let pairs = pairing.len() / Pair::WORDS;
-    let mut i: usize = 0;
-    while i < pairs {
-        let n = pair_word(pairing, side + Pair::WORDS * i);
-        if !has_node(terms, count, chain, n) {
-            return false;
-        }
-        i += 1;
-    }
-    true
+    let nodes = Column {
+        words: tables.terms,
+        from: TermWord::FOURTH,
+        step: Layout::TERM_WORDS,
+        count: wide(tables.term_count),
+    };
+    nodes.link(index);
+    let links = Links::new(index, nodes.count);
+    (0..numbers.count).all(|i| has_node(tables, &links, numbers.word(i)))
 }
 
-// Whether the pairing may be lent for these terms.
-pub fn is_legal(
-    pairing: &[u32],
-    left_terms: &[u32],
-    left_count: usize,
-    right_terms: &[u32],
-    right_count: usize,
-    index: &mut [u32],
-) -> bool
-    requires { (term_size * left_count ≤ length left_terms.now) × (term_size * right_count ≤ length right_terms.now) }
-    ensures { (result ≡ legal (lent left_terms.now left_count [] 0) (lent right_terms.now right_count [] 0) pairing.now) × (length index.new ≡ length index.old) }
+// Whether the pairing may be lent for these tables.
+pub fn is_legal(pairing: &[u32], left: &Tables<'_>, right: &Tables<'_>, index: &mut [u32]) -> bool
+    requires { (term_size * left.now.term_count ≤ length left.now.terms.now) × (term_size * right.now.term_count ≤ length right.now.terms.now) }
+    ensures { (result ≡ legal (slices_of left.now) (slices_of right.now) pairing.now) × (length index.new ≡ length index.old) }
 {
-    let count = pairing.len() / Pair::WORDS;
-    if Pair::WORDS * count != pairing.len() {
+    if pairing.len() % Pair::WORDS != 0 {
         return false;
     }
-    chains::link_words(pairing, Pair::LEFT, Pair::WORDS, count, index);
-    if !is_once(pairing, Pair::LEFT, index) {
+    let lefts = numbers(pairing, Pair::LEFT);
+    if !is_once(&lefts, index) {
         return false;
     }
-    chains::link_words(pairing, Pair::RIGHT, Pair::WORDS, count, index);
-    if !is_once(pairing, Pair::RIGHT, index) {
+    let rights = numbers(pairing, Pair::RIGHT);
+    if !is_once(&rights, index) {
         return false;
     }
-    chains::link_words(
-        left_terms,
-        TermWord::FOURTH,
-        Layout::TERM_WORDS,
-        left_count,
-        index,
-    );
-    if !is_known(pairing, Pair::LEFT, left_terms, left_count, index) {
+    if !is_known(&lefts, left, index) {
         return false;
     }
-    chains::link_words(
-        right_terms,
-        TermWord::FOURTH,
-        Layout::TERM_WORDS,
-        right_count,
-        index,
-    );
-    is_known(pairing, Pair::RIGHT, right_terms, right_count, index)
-}
-
-// The right number that the left number m is paired with, plus one; 0 where it is not paired.
-pub fn partner(pairing: &[u32], chain: &[u32], m: usize) -> usize
-    requires { Chained chain.now (pairs pairing.now) (word_at pairing.now 0 2) }
-    ensures { (result ≡ partner pairing.now m) × (result ≤ 4294967296) }
-{
-    let count = pairing.len() / Pair::WORDS;
-    let from = chains::first(chain, count, m);
-    let found = chains::find(pairing, Pair::LEFT, Pair::WORDS, count, chain, from, m);
-    if found == 0 {
-        return 0;
-    }
-    pair_word(pairing, Pair::RIGHT + Pair::WORDS * (found - 1)) + 1
+    is_known(&rights, right, index)
 }

@@ -7,9 +7,10 @@ use lib.ListN.{take, drop, replicate}
 use Rattle.text.specs.Text.{Text, ascii}
 use Rattle.text.proofs.Table.{◌⇒◌, Gives}
 use Rattle.limits.specs.Limits.{iri_limit}
-use Rattle.look_up.specs.declared.Found.{Found}
-use Rattle.look_up.specs.Record.{rows, record_of}
-use Rattle.look_up.specs.Look.{found, absent, refused, look, computing}
+use Rattle.std.specs.Prelude.{Result, Ok}
+use Rattle.limits.specs.declared.Refusal.{Refusal}
+use Rattle.look_up.specs.Record.{Rows, rows, record_of}
+use Rattle.look_up.specs.Look.{absent, refused, look, computing}
 
 abbrev of : String → ℕ → ℕ → Text
 of t count first = record_of (ascii t) (rows count first)
@@ -17,7 +18,7 @@ of t count first = record_of (ascii t) (rows count first)
 abbrev a : Text
 a = of "x:a" 3 7
 
-abbrev looked : Text → Text → Found
+abbrev looked : Text → Text → Result Rows Refusal
 looked index address = look iri_limit address index
 
 -- Each reason for 23, behind a record of the text x:b: no mark, another one, a head or a text cut short, a length over the limit, an equal text, a smaller one. The look-up of x:a and of x:b has stopped before it,
@@ -27,8 +28,8 @@ reasons =
     ascii "junk" ∷ (0x47 ∷ 0x59 ∷ drop 2 (of "x:d" 2 1)) ∷ take 11 (of "x:d" 2 1) ∷ take 14 (of "x:d" 2 1) ∷ record_of (ascii "x:d" ++ replicate 1022 97) (rows 2 1) ∷ of "x:b" 2 1 ∷ of "x:a" 2 1 ∷ []
 
 each_reason : Gives (λ t. map (λ bad. looked (of "x:b" 3 7 ++ bad) t) reasons) (
-    ascii "x:a" ⇒ replicate 7 absent
-    ∷ ascii "x:b" ⇒ replicate 7 (found 0 (rows 3 7))
+    ascii "x:a" ⇒ replicate 7 (Ok absent)
+    ∷ ascii "x:b" ⇒ replicate 7 (Ok (rows 3 7))
     ∷ ascii "x:c" ⇒ replicate 7 refused
     ∷ ascii "x:e" ⇒ replicate 7 refused
     ∷ [])
@@ -36,12 +37,12 @@ unfolding computing
 each_reason = refl
 
 -- Without any of them.
-no_reason : Gives (looked (of "x:b" 3 7 ++ of "x:d" 2 1)) (ascii "x:a" ⇒ absent ∷ ascii "x:b" ⇒ found 0 (rows 3 7) ∷ ascii "x:c" ⇒ absent ∷ ascii "x:d" ⇒ found 0 (rows 2 1) ∷ ascii "x:e" ⇒ absent ∷ [])
+no_reason : Gives (looked (of "x:b" 3 7 ++ of "x:d" 2 1)) (ascii "x:a" ⇒ Ok absent ∷ ascii "x:b" ⇒ Ok (rows 3 7) ∷ ascii "x:c" ⇒ Ok absent ∷ ascii "x:d" ⇒ Ok (rows 2 1) ∷ ascii "x:e" ⇒ Ok absent ∷ [])
 unfolding computing
 no_reason = refl
 
 -- Cut in its text, behind its head, in its head; the end of the bytes is no refusal.
-cut_short : Gives (λ n. looked (take n a) (ascii "x:a")) (0 ⇒ absent ∷ 1 ⇒ refused ∷ 11 ⇒ refused ∷ 12 ⇒ refused ∷ 14 ⇒ refused ∷ 15 ⇒ found 0 (rows 3 7) ∷ [])
+cut_short : Gives (λ n. looked (take n a) (ascii "x:a")) (0 ⇒ Ok absent ∷ 1 ⇒ refused ∷ 11 ⇒ refused ∷ 12 ⇒ refused ∷ 14 ⇒ refused ∷ 15 ⇒ Ok (rows 3 7) ∷ [])
 unfolding computing
 cut_short = refl
 
@@ -50,26 +51,26 @@ cut_greater : looked (take 14 (of "x:b" 3 7)) (ascii "x:a") ≡ refused
 unfolding computing
 cut_greater = refl
 
-other_mark : Gives (λ m. looked (m ++ drop 2 a) (ascii "x:a")) ((0x47 ∷ 0x58 ∷ []) ⇒ found 0 (rows 3 7) ∷ (0x47 ∷ 0x59 ∷ []) ⇒ refused ∷ (0x48 ∷ 0x58 ∷ []) ⇒ refused ∷ [])
+other_mark : Gives (λ m. looked (m ++ drop 2 a) (ascii "x:a")) ((0x47 ∷ 0x58 ∷ []) ⇒ Ok (rows 3 7) ∷ (0x47 ∷ 0x59 ∷ []) ⇒ refused ∷ (0x48 ∷ 0x58 ∷ []) ⇒ refused ∷ [])
 unfolding computing
 other_mark = refl
 
 -- Between the records, at the last one, behind it.
-between : Gives (looked (a ++ of "x:ab" 4294967295 65536)) (ascii "x:aa" ⇒ absent ∷ ascii "x:ab" ⇒ found 0 (rows 4294967295 65536) ∷ ascii "x:c" ⇒ absent ∷ [])
+between : Gives (looked (a ++ of "x:ab" 4294967295 65536)) (ascii "x:aa" ⇒ Ok absent ∷ ascii "x:ab" ⇒ Ok (rows 4294967295 65536) ∷ ascii "x:c" ⇒ Ok absent ∷ [])
 unfolding computing
 between = refl
 
 -- Bytes are unsigned: C3 comes after 7F.
-unsigned : Gives (looked (of "x:\u{7f}" 1 2 ++ record_of (120 ∷ 58 ∷ 195 ∷ 169 ∷ []) (rows 3 4))) ((120 ∷ 58 ∷ 195 ∷ 169 ∷ []) ⇒ found 0 (rows 3 4) ∷ ascii "x:a" ⇒ absent ∷ [])
+unsigned : Gives (looked (of "x:\u{7f}" 1 2 ++ record_of (120 ∷ 58 ∷ 195 ∷ 169 ∷ []) (rows 3 4))) ((120 ∷ 58 ∷ 195 ∷ 169 ∷ []) ⇒ Ok (rows 3 4) ∷ ascii "x:a" ⇒ Ok absent ∷ [])
 unfolding computing
 unsigned = refl
 
 -- A text and an address may be empty.
-empty_text : Gives (looked (of "" 3 7)) ([] ⇒ found 0 (rows 3 7) ∷ ascii "x" ⇒ absent ∷ [])
+empty_text : Gives (looked (of "" 3 7)) ([] ⇒ Ok (rows 3 7) ∷ ascii "x" ⇒ Ok absent ∷ [])
 unfolding computing
 empty_text = refl
 
-nothing : Gives (looked []) ([] ⇒ absent ∷ ascii "x" ⇒ absent ∷ [])
+nothing : Gives (looked []) ([] ⇒ Ok absent ∷ ascii "x" ⇒ Ok absent ∷ [])
 unfolding computing
 nothing = refl
 
@@ -77,10 +78,10 @@ nothing = refl
 long : ℕ → Text
 long n = record_of (replicate n 97) (rows 1 0)
 
-limit : Gives (λ n. looked (long n) (ascii "b")) (1024 ⇒ absent ∷ 1025 ⇒ refused ∷ [])
+limit : Gives (λ n. looked (long n) (ascii "b")) (1024 ⇒ Ok absent ∷ 1025 ⇒ refused ∷ [])
 unfolding computing long
 limit = refl
 
-longer_limit : Gives (λ n. look 1536 (ascii "b") (long n)) (1025 ⇒ absent ∷ 1536 ⇒ absent ∷ 1537 ⇒ refused ∷ [])
+longer_limit : Gives (λ n. look 1536 (ascii "b") (long n)) (1025 ⇒ Ok absent ∷ 1536 ⇒ Ok absent ∷ 1537 ⇒ refused ∷ [])
 unfolding computing long
 longer_limit = refl

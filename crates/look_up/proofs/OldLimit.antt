@@ -12,15 +12,16 @@ use borrow.Author.Tests.{leb-true, le-leb}
 use Rattle.text.specs.Text.{Text, cond, begins}
 use Rattle.text.specs.Order.{smaller}
 use Rattle.text.proofs.Compare.{by, and_left, and_right}
-use Rattle.look_up.specs.declared.Found.{Found}
-use Rattle.look_up.specs.Record.{mark, head_size, size_of, text_of, is_record, entry_of, entries_from}
+use Rattle.std.specs.Prelude.{Result, Ok}
+use Rattle.limits.specs.declared.Refusal.{Refusal}
+use Rattle.look_up.specs.Record.{Rows, mark, head_size, size_of, text_of, is_record, entry_of, entries_from}
 use Rattle.look_up.specs.Look.{refused, rises, stops, search, look}
 
 -- The first refuses, or gives the second's answer.
-abbrev pub Agrees : Found → Found → Type 0
+abbrev pub Agrees : Result Rows Refusal → Result Rows Refusal → Type 0
 Agrees a b = (a ≡ refused) ⊎ (a ≡ b)
 
-pass : (p q : Bool) (a b c : Found) → Agrees a b → Agrees (cond p (cond q a c) refused) (cond p (cond q b c) refused)
+pass : (p q : Bool) (a b c : Result Rows Refusal) → Agrees a b → Agrees (cond p (cond q a c) refused) (cond p (cond q b c) refused)
 pass true true a b c x = x
 pass true false a b c x = inr refl
 pass false q a b c x = inr refl
@@ -45,7 +46,7 @@ module _ (old new : ℕ) (h : old ≤ new) where
         let left = head_size + size_of r - 1 in
         by (is_record old r)
         (λ e. rw (e, wider r e)
-        (pass (rises before (text_of r)) (smaller (text_of r) address) (search address (some (text_of r)) (entries_from old left s)) (search address (some (text_of r)) (entries_from new left s)) (stops address (entry_of r)) (agrees_from (some (text_of r)) left s)))
+        (pass (rises before (text_of r)) (smaller (text_of r) address) (search address (some (text_of r)) (entries_from old left s)) (search address (some (text_of r)) (entries_from new left s)) (Ok (stops address (entry_of r))) (agrees_from (some (text_of r)) left s)))
         (λ e. inl (rw e))
 
     pub old_agrees : (index : Text) → Agrees (look old address index) (look new address index)

@@ -3,11 +3,7 @@ use Rattle.std.specs.Prelude.{List, [], ◌∷◌, ◌++◌, Bool, ◌&&◌, ℕ
 use Rattle.std.proofs.Math.Option.{Option, none, some}
 use Rattle.text.specs.Text.{Text, cond, begins}
 use Rattle.text.specs.Words.{four_at}
-
--- The rows of a subject: how many, and the number of the first, from 0.
-pub record Rows : Type 0 where
-  pub count : ℕ
-  pub first : ℕ
+pub use Rattle.look_up.specs.declared.Rows.{Rows}
 
 abbrev pub rows : ℕ → ℕ → Rows
 rows count first = record { count = count; first = first }

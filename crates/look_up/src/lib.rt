@@ -5,10 +5,10 @@ ghost use Rattle.std.specs.Prelude.{◌≡◌, true, ◌+◌, ◌≤◌, ◌<◌
 ghost use Rattle.limits.specs.Limits.{iri_limit};
 ghost use Rattle.text.specs.Words.{four_at};
 ghost use Rattle.look_up.specs.Record.{size_of, text_of, is_record, entry_of};
-ghost use Rattle.look_up.specs.Look.{absent, refused, rises, stops, look};
+ghost use Rattle.look_up.specs.Look.{rises, stops, look};
 ghost use Rattle.look_up.specs.Code.{prior};
 
-use limits::{Answer, Limits};
+use limits::{Limits, Refusal};
 
 // What stands before the text of a record: so many bytes, of which the first two are its mark, and the places of its numbers.
 #[derive(Drop)]
@@ -28,40 +28,20 @@ impl Head {
     pub const FIRST: usize = 8;
 }
 
-// The answer: its number, 0 or 23, how many rows the subject has, and the first of them.
+// The rows of a subject: how many, and the number of the first, from 0.
 #[derive(Clone, Copy)]
-pub struct Found {
-    pub number: u8,
-    pub rows: u32,
+pub struct Rows {
+    pub count: u32,
     pub first: u32,
 }
 
-fn absent() -> Found
-    ensures { result ≡ absent }
-{
-    Found {
-        number: Answer::ACCEPTED,
-        rows: 0,
-        first: 0,
-    }
-}
-
-fn refused() -> Found
-    ensures { result ≡ refused }
-{
-    Found {
-        number: Answer::INDEX,
-        rows: 0,
-        first: 0,
-    }
-}
-
 // The length of the text of the record at the front.
+#[tactic(auto, unfolding(crate::specs::Record::size_of))]
 fn size_of(front: &[u8]) -> usize
     requires { 4 ≤ length front.now }
     ensures { (result ≡ size_of front.now) × (result < 65536) }
 {
-    text::wide(front[Head::LENGTH]) + 256 * text::wide(front[Head::LENGTH + 1])
+    usize::from(front[Head::LENGTH]) + 256 * usize::from(front[Head::LENGTH + 1])
 }
 
 // Whether a record stands at the front.
@@ -93,14 +73,14 @@ fn text_of(front: &[u8]) -> &[u8]
     &front[Head::SIZE..end]
 }
 
-// Whether a text rises above the one before it, unless it is the first.
-fn has_risen(before: &[u8], is_first: bool, text: &[u8]) -> bool
-    ensures { result ≡ rises (prior is_first before.now) text.now }
+// Whether a text rises above the one before it, where there is one.
+fn has_risen(before: Option<&[u8]>, text: &[u8]) -> bool
+    ensures { result ≡ rises (prior before.entry) text.now }
 {
-    if is_first {
-        return true;
+    match before {
+        Some(before) => text::smaller(before, text),
+        None => true,
     }
-    text::smaller(before, text)
 }
 
 // Four bytes as a number.
@@ -111,41 +91,39 @@ fn number_at(front: &[u8], at: usize) -> u32
     text::four(front, at) as u32
 }
 
-// The answer at the record where the look-up stops.
-fn stop(address: &[u8], front: &[u8]) -> Found
+// The rows at the record where the look-up stops.
+fn stop(address: &[u8], front: &[u8]) -> Rows
     requires { is_record iri_limit front.now ≡ true }
     ensures { result ≡ stops address.now (entry_of front.now) }
 {
     if !text::same(text_of(front), address) {
-        return absent();
+        return Rows { count: 0, first: 0 };
     }
-    Found {
-        number: Answer::ACCEPTED,
-        rows: number_at(front, Head::COUNT),
+    Rows {
+        count: number_at(front, Head::COUNT),
         first: number_at(front, Head::FIRST),
     }
 }
 
-// The rows of the subject with this address: how many, and the first. Any bytes may be given.
-pub fn look_up(address: &[u8], index: &[u8]) -> Found
+// The rows of the subject with this address; none where it is absent. Any bytes may be given.
+pub fn look_up(address: &[u8], index: &[u8]) -> Result<Rows, Refusal>
     ensures { result ≡ look iri_limit address.now index.now }
 {
-    let mut before: usize = 0;
-    let mut at: usize = 0;
-    while at < index.len() {
-        let front = &index[at..];
-        if !is_record(front) {
-            return refused();
+    let mut before: Option<&[u8]> = None;
+    let mut rest = index;
+    while !rest.is_empty() {
+        if !is_record(rest) {
+            return Err(Refusal::Index);
         }
-        let text = text_of(front);
-        if !has_risen(&index[before..at], at == 0, text) {
-            return refused();
+        let text = text_of(rest);
+        if !has_risen(before, text) {
+            return Err(Refusal::Index);
         }
         if !text::smaller(text, address) {
-            return stop(address, front);
+            return Ok(stop(address, rest));
         }
-        before = at + Head::SIZE;
-        at = before + text.len();
+        before = Some(text);
+        rest = &rest[Head::SIZE + text.len()..];
     }
-    absent()
+    Ok(Rows { count: 0, first: 0 })
 }

@@ -4,12 +4,13 @@
 
 ghost use Rattle.std.specs.Prelude.{◌≡◌, IfSome, OnOk, length};
 ghost use Rattle.std.specs.Io.KnownBytes.{Appends};
-ghost use Rattle.usable.specs.Lent.{slices};
+ghost use Rattle.usable.specs.Lent.{slices_of};
 ghost use Rattle.machine.specs.Read.{lends};
 ghost use Rattle.printing.specs.Printed.{refusal, tables_printed, narrow, document_printed, printed};
 
 use std::io;
 use std::io::{Read, Write};
+use table::Tables;
 
 fn print_refusal<W: Write>(out: &mut W, number: u8, position: usize) -> io::Result<()>
     ensures { OnOk result (Appends (W.contents out.old) (W.contents out.new) (refusal number position)) }
@@ -27,35 +28,13 @@ fn narrow(n: usize) -> u32
     0
 }
 
-fn write_rows<W: Write>(
-    out: &mut W,
-    rows: &[u32],
-    row_count: u32,
-    terms: &[u32],
-    term_count: u32,
-    store: &[u8],
-    store_count: u32,
-    lines: &mut [u8],
-) -> io::Result<()>
-    ensures { OnOk result (Appends (W.contents out.old) (W.contents out.new) (tables_printed (slices rows.now row_count terms.now term_count store.now store_count) (length lines.old))) }
+fn write_rows<W: Write>(out: &mut W, tables: &Tables, lines: &mut [u8]) -> io::Result<()>
+    ensures { OnOk result (Appends (W.contents out.old) (W.contents out.new) (tables_printed (slices_of tables.now) (length lines.old))) }
 {
-    let w = writer::write_long_form(
-        rows,
-        row_count,
-        terms,
-        term_count,
-        store,
-        store_count,
-        lines,
-    );
-    if w.number != 0 {
-        return print_refusal(out, w.number, w.position);
+    match writer::write_long_form(tables, lines) {
+        Ok(n) => out.write_all(&lines[..n]),
+        Err(refusal) => print_refusal(out, refusal.into(), 0),
     }
-    let k = w.position;
-    if k <= lines.len() {
-        out.write_all(&lines[..k])?;
-    }
-    Ok(())
 }
 
 fn show<W: Write>(out: &mut W, document: &[u8]) -> io::Result<()>
@@ -76,16 +55,17 @@ fn show<W: Write>(out: &mut W, document: &[u8]) -> io::Result<()>
         &mut store,
     );
     match read {
-        Ok(read) => write_rows(
-            out,
-            &rows,
-            narrow(read.rows),
-            &terms,
-            narrow(read.terms),
-            &store,
-            narrow(read.store),
-            &mut lines,
-        ),
+        Ok(read) => {
+            let tables = Tables {
+                rows: &rows,
+                row_count: narrow(read.rows),
+                terms: &terms,
+                term_count: narrow(read.terms),
+                store: &store,
+                store_count: narrow(read.store),
+            };
+            write_rows(out, &tables, &mut lines)
+        }
         Err(refused) => print_refusal(out, refused.refusal.into(), refused.position),
     }
 }

@@ -1,12 +1,13 @@
 -- The subject of a row by its number, and the best of the subjects above one.
 use mathlib.Core.Path.{◌≡◌, refl, sym, ap, ◌∙◌, subst}
-use mathlib.Core.List.{List}
+use Rattle.std.specs.Prelude as code
+use Rattle.std.specs.Prelude.{Some, None}
 use mathlib.Core.Bool.{Bool, true, false, ◌&&◌}
 use mathlib.Core.Option.{Option, none, some}
-use Prim.Native.Nat.{ℕ, zero, suc, ◌+◌}
+use Prim.Native.Nat.{ℕ, zero, suc, ◌+◌, ◌≤◌, ◌<◌}
 use native.Mathlib.Numerals.{add-one}
 use native.Mathlib.Omega.{arith}
-use borrow.Author.Tests.{eq-eqb, ne_eqb}
+use borrow.Author.Tests.{ne_eqb}
 use lib.Dec.{eqb}
 use Rattle.text.specs.Text.{Text, same_text}
 use Rattle.text.specs.Order.{smaller}
@@ -14,71 +15,53 @@ use Rattle.text.proofs.Compare.{by, contrary, and_left, and_right, same_eq, same
 use Rattle.text.proofs.Order.{smaller_trans, smaller_differs}
 use Rattle.table.specs.Layout.{Slices, row_at, entry_at, iri_kind}
 use Rattle.table.specs.Usable.{text}
-use Rattle.usable.specs.Lent.{lent, drawn}
-use Rattle.look_up.specs.Record.{Rows, rows}
+use Rattle.look_up.specs.declared.Rows.{Rows}
+use Rattle.look_up.specs.Record.{rows}
 use Rattle.look_up.specs.Look.{rises}
 use Rattle.subject_index.specs.declared.Chosen.{Chosen}
 use Rattle.subject_index.specs.Index.{is_subject, counted, walk, subject}
-use Rattle.subject_index.specs.Code.{named, subject_number, Readable, Known, SubjectIn, below, nearer, next, Chooses}
+use Rattle.subject_index.specs.Code.{named, number, subject_number, Readable, SubjectIn, below, nearer, next, Chooses}
 use Rattle.subject_index.proofs.Above.{some_eq, none_some}
 
--- ---- A term by its number, 0 for none
+number_or : ℕ → code.Option ℕ → ℕ
+number_or d None = d
+number_or d (Some n) = n
 
-pub named_none : (s : Slices) (n : ℕ) → n ≡ 0 → named s n ≡ none
-unfolding named
-named_none s n e = rw (eq-eqb n 0 e)
+one_or_zero : code.Option ℕ → ℕ
+one_or_zero None = 0
+one_or_zero (Some n) = 1
 
-pub named_some : (s : Slices) (n : ℕ) → (n ≡ 0 → ⊥) → named s n ≡ some (text s n)
-unfolding named
-named_some s n e = rw (ne_eqb n 0 e)
-
-pub known_none : (s : Slices) → Known s 0
-known_none s h = absurd (h refl)
-
-pub above_none : (s : Slices) (before n : ℕ) → before ≡ 0 → true ≡ rises (named s before) (text s n)
-above_none s before n e = rw (named_none s before e)
-
-pub above_some : (s : Slices) (before n : ℕ) (r : Bool) (t u : Text) → (before ≡ 0 → ⊥) → r ≡ smaller t u → t ≡ text s before → u ≡ text s n → r ≡ rises (named s before) (text s n)
-above_some s before n r t u h e f g = e ∙ rw (f, g, named_some s before h)
-
-pub below_none : (s : Slices) (n best : ℕ) → best ≡ 0 → true ≡ below (text s n) (named s best)
-below_none s n best e = rw (named_none s best e)
-
-pub below_some : (s : Slices) (n best : ℕ) (r : Bool) (t u : Text) → (best ≡ 0 → ⊥) → r ≡ smaller t u → t ≡ text s n → u ≡ text s best → r ≡ below (text s n) (named s best)
-below_some s n best r t u h e f g = e ∙ rw (f, g, named_some s best h)
+some_is_none : (n : ℕ) → Some n ≡ None → ⊥
+unfolding one_or_zero
+some_is_none n e = let z : ◌≡◌ {A = ℕ} 1 0 = ap one_or_zero e in absurd (omega arith)
 
 -- ---- The subject of a row
 
-module _ (rows terms : List ℕ) (i : ℕ) where
-  pub number_iri : (n k : ℕ) → n ≡ (row_at rows i).subject → k ≡ (entry_at terms n).kind → k ≡ iri_kind → n ≡ subject_number rows terms i
-  unfolding subject_number
-  number_iri n k e f h =
-      let g : (entry_at terms (row_at rows i).subject).kind ≡ iri_kind = ap (λ (m : ℕ). (entry_at terms m).kind) (sym e) ∙ (sym f ∙ h) in
-      rw (eq-eqb (entry_at terms (row_at rows i).subject).kind iri_kind g) e
+module _ (s : Slices) (i : ℕ) (S : SubjectIn s i) where
+  pub subject_none : subject_number s i ≡ None → subject s i ≡ none
+  unfolding subject subject_number
+  subject_none e =
+      by (eqb (entry_at s.terms (row_at s.rows i).subject).kind iri_kind)
+      (λ q. absurd (some_is_none (row_at s.rows i).subject (sym (rw q) ∙ e)))
+      (λ q. rw q)
 
-  pub number_other : (n k : ℕ) → n ≡ (row_at rows i).subject → k ≡ (entry_at terms n).kind → (k ≡ iri_kind → ⊥) → 0 ≡ subject_number rows terms i
-  unfolding subject_number
-  number_other n k e f h = rw (ne_eqb (entry_at terms (row_at rows i).subject).kind iri_kind (λ g. h (f ∙ (ap (λ (m : ℕ). (entry_at terms m).kind) e ∙ g))))
+  module _ (n : ℕ) (e : subject_number s i ≡ Some n) where
+    is_subject_of : (row_at s.rows i).subject ≡ n
+    unfolding subject_number number_or
+    is_subject_of =
+        by (eqb (entry_at s.terms (row_at s.rows i).subject).kind iri_kind)
+        (λ q. let f : Some (row_at s.rows i).subject ≡ Some n = sym (rw q) ∙ e in ap (number_or 0) f)
+        (λ q. absurd (some_is_none n (sym e ∙ rw q)))
 
-  module _ (store : Text) (S : SubjectIn (drawn rows terms store) i) (n : ℕ) (e : n ≡ subject_number rows terms i) where
-    abbrev s : Slices
-    s = lent terms 0 store 0
+    pub subject_some : subject s i ≡ some (text s n)
+    unfolding subject subject_number
+    subject_some =
+        by (eqb (entry_at s.terms (row_at s.rows i).subject).kind iri_kind)
+        (λ q. rw (q, is_subject_of))
+        (λ q. absurd (some_is_none n (sym e ∙ rw q)))
 
-    pub subject_named : subject (drawn rows terms store) i ≡ named s n
-    unfolding subject subject_number named
-    subject_named =
-        by (eqb (entry_at terms (row_at rows i).subject).kind iri_kind)
-        (λ q. let z : n ≡ (row_at rows i).subject = e ∙ rw q in
-        let p = S.subject.stands.0 in
-        rw (q, z, ne_eqb (row_at rows i).subject 0 (λ x. omega (arith, x))))
-        (λ q. let z : n ≡ 0 = e ∙ rw q in rw (q, z))
-
-    pub number_known : Known s n
-    unfolding subject_number
-    number_known h =
-        by (eqb (entry_at terms (row_at rows i).subject).kind iri_kind)
-        (λ q. let z : n ≡ (row_at rows i).subject = e ∙ rw q in subst (λ (m : ℕ). Readable s m) (sym z) S.subject)
-        (λ q. absurd (h (e ∙ rw q)))
+    pub number_known : Readable s n
+    number_known = subst (λ (m : ℕ). Readable s m) is_subject_of S.subject
 
 -- ---- The least text above one: it rises, and what is between has no rows
 
@@ -126,66 +109,94 @@ walk_more subject t i w v b e f g = g ∙ rw (e, f, add-one i)
 abbrev chosen : ℕ → ℕ → ℕ → Chosen
 chosen number count first = record { number = number; count = count; first = first }
 
-pub chosen_start : (s : Slices) (subject : ℕ → Option Text) (p : Option Text) → Chooses s subject p 0 (chosen 0 0 0)
-unfolding next named
-chosen_start s subject p = record { next = refl; known = known_none s; rows = λ k. absurd (k refl); some = λ k. absurd (k refl) }
+none_chosen : (c : Chosen) → None ≡ Some c → ⊥
+none_chosen c e = some_is_none 0 (sym (ap (λ (o : code.Option Chosen). flag o) e))
+  where
+    flag : code.Option Chosen → code.Option ℕ
+    flag None = None
+    flag (Some c) = Some 0
 
-module _ (s : Slices) (subject : ℕ → Option Text) (p : Option Text) (i n : ℕ) (best : Chosen) (C : Chooses s subject p i best) (e : subject i ≡ named s n) where
-  abbrev b : ℕ
-  b = best.number
+it_is : (c d : Chosen) → ◌≡◌ {A = code.Option Chosen} (Some c) (Some d) → c ≡ d
+it_is c d e = ap (λ (o : code.Option Chosen). or o) e
+  where
+    or : code.Option Chosen → Chosen
+    or None = c
+    or (Some x) = x
 
-  -- The best so far stays, where the row has another subject.
-  stays : named s b ≡ nearer p (subject i) (named s b) → ((b ≡ 0 → ⊥) → false ≡ is_subject (text s b) (subject i)) → Chooses s subject p (i + 1) best
-  unfolding counted
-  stays f g = record {
-    next = next_more subject p (named s b) (named s b) i C.next f;
-    known = C.known;
-    rows = λ k. walk_more subject (text s b) i (rows best.count best.first) (rows best.count best.first) false (C.rows k) (g k) refl;
-    some = C.some;
+pub chosen_start : (s : Slices) (subject : ℕ → Option Text) (p : Option Text) → Chooses s subject p 0 None
+unfolding next
+chosen_start s subject p = record { next = refl; known = tt; rows = λ k e. absurd (none_chosen k e); some = λ k e. absurd (none_chosen k e); few = λ k e. absurd (none_chosen k e) }
+
+module _ (s : Slices) (subject : ℕ → Option Text) (p : Option Text) (i : ℕ) where
+  -- One subject, with its rows among one row more.
+  one_chosen : (c : Chosen) → some (text s c.number) ≡ next subject p (i + 1) → Readable s c.number → rows c.count c.first ≡ walk subject (text s c.number) (i + 1) → 0 < c.count → c.count ≤ i + 1 → Chooses s subject p (i + 1) (Some c)
+  one_chosen c e known r m f = record {
+    next = e;
+    known = known;
+    rows = λ k q. subst (λ (d : Chosen). rows d.count d.first ≡ walk subject (text s d.number) (i + 1)) (it_is c k q) r;
+    some = λ k q. subst (λ (d : Chosen). 0 < d.count) (it_is c k q) m;
+    few = λ k q. subst (λ (d : Chosen). d.count ≤ i + 1) (it_is c k q) f;
   }
 
-  pub no_subject : n ≡ 0 → Chooses s subject p (i + 1) best
+  -- The best so far stays, where the row has another subject.
+  stays : (best : code.Option Chosen) → Chooses s subject p i best → named s (number best) ≡ nearer p (subject i) (named s (number best)) → ((k : Chosen) → best ≡ Some k → false ≡ is_subject (text s k.number) (subject i)) → Chooses s subject p (i + 1) best
+  unfolding counted
+  stays best C f g = record {
+    next = next_more subject p (named s (number best)) (named s (number best)) i C.next f;
+    known = C.known;
+    rows = λ k e. walk_more subject (text s k.number) i (rows k.count k.first) (rows k.count k.first) false (C.rows k e) (g k e) refl;
+    some = C.some;
+    few = λ k e. omega (arith, C.few k e);
+  }
+
+  pub no_subject : (best : code.Option Chosen) → Chooses s subject p i best → subject i ≡ none → Chooses s subject p (i + 1) best
   unfolding nearer
-  no_subject z = stays (rw (e, named_none s n z)) (λ k. rw (e, named_none s n z))
+  no_subject best C e = stays best C (rw e) (λ k q. rw e)
 
-  module _ (k : n ≡ 0 → ⊥) where
-    other : same_text (text s n) (text s b) ≡ false → false ≡ is_subject (text s b) (subject i)
-    other f = rw (e, named_some s n k) (sym f)
+  module _ (n : ℕ) (e : subject i ≡ some (text s n)) where
+    other : (k : Chosen) → same_text (text s n) (text s k.number) ≡ false → false ≡ is_subject (text s k.number) (subject i)
+    other k f = rw e (sym f)
 
-    pub not_above : rises p (text s n) ≡ false → Chooses s subject p (i + 1) best
+    pub not_above : (best : code.Option Chosen) → Chooses s subject p i best → rises p (text s n) ≡ false → Chooses s subject p (i + 1) best
     unfolding nearer
-    not_above a =
-        stays (rw (e, named_some s n k, a))
-        (λ q. other (by (same_text (text s n) (text s b))
-        (λ f. contrary (sym (next_rises subject p i (text s b) (sym C.next ∙ named_some s b q)) ∙ (ap (rises p) (sym (same_eq (text s n) (text s b) f)) ∙ a)))
+    not_above best C a =
+        stays best C (rw (e, a))
+        (λ k q. other k (by (same_text (text s n) (text s k.number))
+        (λ f. contrary (sym (next_rises subject p i (text s k.number) (sym C.next ∙ ap (λ (o : code.Option Chosen). named s (number o)) q)) ∙ (ap (rises p) (sym (same_eq (text s n) (text s k.number) f)) ∙ a)))
         (λ f. f)))
 
     module _ (a : rises p (text s n) ≡ true) where
-      pub is_nearer : Known s n → below (text s n) (named s b) ≡ true → Chooses s subject p (i + 1) (chosen n 1 i)
+      nearest : (best : code.Option Chosen) → Chooses s subject p i best → Readable s n → below (text s n) (named s (number best)) ≡ true → Chooses s subject p (i + 1) (Some (chosen n 1 i))
       unfolding nearer counted
-      is_nearer K l = record {
-        next = next_more subject p (named s b) (named s n) i C.next (rw (e, named_some s n k, a, l));
-        known = K;
-        rows = λ q. walk_more subject (text s n) i (rows 0 0) (rows 1 i) true
-            (sym (walk_between subject p (text s n) a i (subst (λ (o : Option Text). below (text s n) o ≡ true) C.next l)))
-            (rw (e, named_some s n k) (sym (same_refl (text s n)))) refl;
-        some = λ q. omega arith;
-      }
+      nearest best C K l =
+          one_chosen (chosen n 1 i)
+          (next_more subject p (named s (number best)) (some (text s n)) i C.next (rw (e, a, l)))
+          K
+          (walk_more subject (text s n) i (rows 0 0) (rows 1 i) true
+          (sym (walk_between subject p (text s n) a i (subst (λ (o : Option Text). below (text s n) o ≡ true) C.next l)))
+          (rw e (sym (same_refl (text s n)))) refl)
+          (omega arith)
+          (omega arith)
 
-      module _ (l : below (text s n) (named s b) ≡ false) where
-        pub some_best : b ≡ 0 → ⊥
-        some_best z = contrary (below_none s n b z ∙ l)
+      pub first_one : Chooses s subject p i None → Readable s n → Chooses s subject p (i + 1) (Some (chosen n 1 i))
+      first_one C K = nearest None C K refl
 
-        pub not_nearer : same_text (text s n) (text s b) ≡ false → Chooses s subject p (i + 1) best
-        unfolding nearer
-        not_nearer f = stays (rw (e, named_some s n k, a, l)) (λ q. other f)
+      module _ (b : Chosen) (C : Chooses s subject p i (Some b)) where
+        pub is_nearer : Readable s n → smaller (text s n) (text s b.number) ≡ true → Chooses s subject p (i + 1) (Some (chosen n 1 i))
+        is_nearer K l = nearest (Some b) C K l
 
-        pub again : same_text (text s n) (text s b) ≡ true → Chooses s subject p (i + 1) (chosen b (best.count + 1) best.first)
-        unfolding nearer counted
-        again f = record {
-          next = next_more subject p (named s b) (named s b) i C.next (rw (e, named_some s n k, a, l));
-          known = C.known;
-          rows = λ q. walk_more subject (text s b) i (rows best.count best.first) (rows (best.count + 1) best.first) true (C.rows q)
-              (rw (e, named_some s n k) (sym f)) (rw (ne_eqb best.count 0 (λ z. omega (arith, z, C.some q))));
-          some = λ q. omega arith;
-        }
+        module _ (l : smaller (text s n) (text s b.number) ≡ false) where
+          pub not_nearer : same_text (text s n) (text s b.number) ≡ false → Chooses s subject p (i + 1) (Some b)
+          unfolding nearer
+          not_nearer f = stays (Some b) C (rw (e, a, l)) (λ k q. other k (subst (λ (d : Chosen). same_text (text s n) (text s d.number) ≡ false) (it_is b k q) f))
+
+          pub again : same_text (text s n) (text s b.number) ≡ true → Chooses s subject p (i + 1) (Some (chosen b.number (b.count + 1) b.first))
+          unfolding nearer counted
+          again f =
+              one_chosen (chosen b.number (b.count + 1) b.first)
+              (next_more subject p (some (text s b.number)) (some (text s b.number)) i C.next (rw (e, a, l)))
+              C.known
+              (walk_more subject (text s b.number) i (rows b.count b.first) (rows (b.count + 1) b.first) true (C.rows b refl)
+              (rw e (sym f)) (rw (ne_eqb b.count 0 (λ z. omega (arith, z, C.some b refl)))))
+              (omega arith)
+              (omega (arith, C.few b refl))

@@ -1,6 +1,6 @@
 -- Indexes and their checks, by computing.
 use mathlib.Core.Path.{◌≡◌, refl}
-use mathlib.Core.Bool.{Bool, true, false}
+use mathlib.Core.Bool.{true, false}
 use mathlib.Core.List.{List, [], ◌∷◌, ◌++◌}
 use Prim.Native.Nat.{ℕ, zero, suc}
 use Prim.Native.String.{String}
@@ -16,8 +16,9 @@ use Rattle.table.specs.Usable.{quads_held}
 use Rattle.table.specs.Written.{Written}
 use Rattle.usable.specs.Lent.{slices}
 use Rattle.look_up.specs.Record.{rows, record_of}
-use Rattle.look_up.specs.Look.{found, absent, look, computing as look_computing}
-use Rattle.subject_index.specs.declared.Checked.{Checked}
+use Rattle.look_up.specs.Look.{absent, look, computing as look_computing}
+use Rattle.std.specs.Prelude.{Ok, Err}
+use Rattle.limits.specs.declared.Refusal.TheVariants.{Tables}
 use Rattle.subject_index.specs.Index.{index, write, check, computing}
 use Rattle.subject_index.specs.About.{about}
 
@@ -79,7 +80,7 @@ no_subjects = refl
 
 -- ---- The look-up in it, and the walk over all statements that it spares
 
-pallet_looked : Gives (λ t. look iri_limit t (index pallet)) (ascii "x:b" ⇒ found 0 (rows 3 0) ∷ ascii "x:a" ⇒ found 0 (rows 1 2) ∷ ascii "x:g" ⇒ absent ∷ [])
+pallet_looked : Gives (λ t. look iri_limit t (index pallet)) (ascii "x:b" ⇒ Ok (rows 3 0) ∷ ascii "x:a" ⇒ Ok (rows 1 2) ∷ ascii "x:g" ⇒ Ok absent ∷ [])
 unfolding computing look_computing
 pallet_looked = refl
 
@@ -118,22 +119,19 @@ refuses = refl
 
 -- ---- The check
 
-abbrev says : ℕ → Bool → Checked
-says number b = record { number = number; yes = b }
-
 checks : Gives (check small) (
-    of "x:a" 1 0 ⇒ says 0 true
-    ∷ of "x:a" 1 1 ⇒ says 0 false
-    ∷ of "x:a" 2 0 ⇒ says 0 false
-    ∷ of "x:b" 1 0 ⇒ says 0 false
-    ∷ (of "x:a" 1 0 ++ 0 ∷ []) ⇒ says 0 false
-    ∷ take 14 (of "x:a" 1 0) ⇒ says 0 false
-    ∷ (of "x:a" 1 0 ++ of "x:a" 1 0) ⇒ says 0 false
-    ∷ [] ⇒ says 0 false
+    of "x:a" 1 0 ⇒ Ok true
+    ∷ of "x:a" 1 1 ⇒ Ok false
+    ∷ of "x:a" 2 0 ⇒ Ok false
+    ∷ of "x:b" 1 0 ⇒ Ok false
+    ∷ (of "x:a" 1 0 ++ 0 ∷ []) ⇒ Ok false
+    ∷ take 14 (of "x:a" 1 0) ⇒ Ok false
+    ∷ (of "x:a" 1 0 ++ of "x:a" 1 0) ⇒ Ok false
+    ∷ [] ⇒ Ok false
     ∷ [])
 unfolding computing
 checks = refl
 
-refuses_too : Gives (check broken) ([] ⇒ says 18 false ∷ of "x:a" 1 0 ⇒ says 18 false ∷ [])
+refuses_too : Gives (check broken) ([] ⇒ Err Tables ∷ of "x:a" 1 0 ⇒ Err Tables ∷ [])
 unfolding computing
 refuses_too = refl

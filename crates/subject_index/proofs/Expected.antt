@@ -9,6 +9,8 @@ use native.Mathlib.Omega.{arith}
 use borrow.Author.Tests.{leb-true, eqb-true, eqb-false, ltb-true, ltb-false}
 use lib.Dec.{eqb, leb, ltb}
 use lib.ListN.{length, take, drop, length-take}
+use Rattle.std.specs.Prelude.{Result, Ok, Err}
+use Rattle.limits.specs.declared.Refusal.{Refusal}
 use Rattle.text.specs.Text.{Text, cond, same_text}
 use Rattle.text.specs.Order.{smaller}
 use Rattle.text.proofs.Compare.{by, contrary, and_right, same_eq, same_refl}
@@ -19,7 +21,7 @@ use Rattle.table.specs.Usable.{for_long_form, the, text, has_kind, good_iri, goo
 use Rattle.table.proofs.Written.{zero_whole}
 use Rattle.usable.proofs.Facts.{usable_row}
 use Rattle.usable.proofs.Standing.{first, kind_good, subject_in}
-use Rattle.look_up.specs.Record.{Rows}
+use Rattle.look_up.specs.declared.Rows.{Rows}
 use Rattle.look_up.proofs.Records.{Holds}
 use Rattle.subject_index.specs.Index.{insert, insert_any, is_subject, counted, sorted, walk, subject, index, write, check}
 use Rattle.subject_index.proofs.Rising.{Rising, rising_sorted}
@@ -193,17 +195,22 @@ module _ (s : Slices) (e : usable for_long_form s ≡ true) where
 
 -- ---- "yes exactly when the bytes are the index of the given tables"
 
-module _ (s : Slices) where
-  pub yes_only : (bytes : Text) → (check s bytes).yes ≡ true → (usable for_long_form s ≡ true) × (bytes ≡ index s)
-  unfolding check
-  yes_only bytes e =
-      by (usable for_long_form s) (λ u. (u, sym (same_eq (index s) bytes (rw u at e)))) (λ u. contrary (sym (rw u at e)))
+says_yes : Result Bool Refusal → Bool
+says_yes (Ok b) = b
+says_yes (Err r) = false
 
-  pub index_yes : usable for_long_form s ≡ true → check s (index s) ≡ record { number = 0; yes = true }
+module _ (s : Slices) where
+  pub yes_only : (bytes : Text) → check s bytes ≡ Ok true → (usable for_long_form s ≡ true) × (bytes ≡ index s)
+  unfolding check says_yes
+  yes_only bytes e =
+      let yes : says_yes (check s bytes) ≡ true = ap says_yes e in
+      by (usable for_long_form s) (λ u. (u, sym (same_eq (index s) bytes (rw u at yes)))) (λ u. contrary (sym (rw u at yes)))
+
+  pub index_yes : usable for_long_form s ≡ true → check s (index s) ≡ Ok true
   unfolding check
   index_yes u = rw (u, same_refl (index s))
 
   -- What the builder wrote, the check accepts.
-  pub written_yes : (out : Text) → (write s out).number ≡ 0 → check s (take (write s out).position (write s out).output) ≡ record { number = 0; yes = true }
+  pub written_yes : (out : Text) → (write s out).number ≡ 0 → check s (take (write s out).position (write s out).output) ≡ Ok true
   unfolding write
   written_yes out e = let w = zero_whole 22 (usable for_long_form s) (index s) out (λ z. omega arith) e in rw w.text (index_yes w.usable)

@@ -6,14 +6,17 @@ use mathlib.Core.Option.{Option, none, some}
 use Prim.Native.Nat.{ℕ, zero, suc, ◌≤◌, ◌<◌}
 use native.Mathlib.Omega.{arith}
 use lib.ListN.{length}
+use Rattle.std.specs.Prelude.{Result, Ok}
+use Rattle.limits.specs.declared.Refusal.{Refusal}
 use Rattle.text.specs.Text.{Text, cond, same_text}
 use Rattle.text.specs.Order.{smaller}
 use Rattle.text.proofs.Compare.{by, same_eq, same_refl}
 use Rattle.text.proofs.Order.{smaller_trans, smaller_differs, smaller_unlike, one_of_three}
 use Rattle.limits.specs.Limits.{iri_limit}
 use Rattle.table.specs.Layout.{Slices}
-use Rattle.look_up.specs.Record.{Rows, rows, Entry, entries_from, entries}
-use Rattle.look_up.specs.Look.{found, absent, search, look}
+use Rattle.look_up.specs.declared.Rows.{Rows}
+use Rattle.look_up.specs.Record.{rows, Entry, entries_from, entries}
+use Rattle.look_up.specs.Look.{absent, search, look}
 use Rattle.look_up.proofs.Records.{Holds, read_again}
 use Rattle.subject_index.specs.Index.{insert_any, is_subject, counted, sorted, walk, records, index_of, subject, index, check}
 use Rattle.subject_index.proofs.Rising.{Rising, rising_sorted}
@@ -45,7 +48,7 @@ module _ (subject : ℕ → Option Text) (n : ℕ) where
   module _ (address : Text) where
     -- ---- The look-up in rising texts finds the address just where it is among them
 
-    search_told : (b : Option Text) (ts : List Text) → Rising b ts → search address b (told ts) ≡ cond (has address ts) (found 0 (walk subject address n)) absent
+    search_told : (b : Option Text) (ts : List Text) → Rising b ts → search address b (told ts) ≡ cond (has address ts) (Ok (walk subject address n)) (Ok absent)
     unfolding told has search
     search_told b [] r = refl
     search_told b (t ∷ ts) (k, r) =
@@ -63,21 +66,21 @@ module _ (subject : ℕ → Option Text) (n : ℕ) where
         go none r = r
         go (some t) r = let e = has_any subject address (some t) (sorted subject m) in by (same_text t address) (λ f. rw (e, f)) (λ f. rw (e, f) r)
 
-    found_cond : (b : Bool) (r : Rows) → cond b (found 0 r) absent ≡ found 0 (cond b r (rows 0 0))
+    found_cond : (b : Bool) (r : Rows) → ◌≡◌ {A = Result Rows Refusal} (cond b (Ok r) (Ok absent)) (Ok (cond b r (rows 0 0)))
     found_cond true r = refl
     found_cond false r = refl
 
     pub look_walks : n < 4294967296 → (limit : ℕ) → limit < 65536 → ((i : ℕ) → i < n → (t : Text) → subject i ≡ some t → length t ≤ limit)
-        → look limit address (index_of subject n) ≡ found 0 (walk subject address n)
+        → look limit address (index_of subject n) ≡ Ok (walk subject address n)
     unfolding look index_of
     look_walks few limit small short =
         ap (search address none) (read_records limit (sorted subject n) (uncut_of subject n few limit small short))
         ∙ (search_told none (sorted subject n) (rising_sorted subject n)
-        ∙ (found_cond (has address (sorted subject n)) (walk subject address n) ∙ ap (found 0) (walk_listed n)))
+        ∙ (found_cond (has address (sorted subject n)) (walk subject address n) ∙ ap (λ (r : Rows). Ok r) (walk_listed n)))
 
 -- "For bytes that C-16's check accepts, the answer equals that of a walk over all rows, absent subjects included": under every limit from the tables' own on.
-pub look_tables : (s : Slices) → s.row_count < 4294967296 → (bytes : Text) → (check s bytes).yes ≡ true → (limit : ℕ) → iri_limit ≤ limit → limit < 65536 → (address : Text)
-    → look limit address bytes ≡ found 0 (walk (subject s) address s.row_count)
+pub look_tables : (s : Slices) → s.row_count < 4294967296 → (bytes : Text) → check s bytes ≡ Ok true → (limit : ℕ) → iri_limit ≤ limit → limit < 65536 → (address : Text)
+    → look limit address bytes ≡ Ok (walk (subject s) address s.row_count)
 unfolding index
 look_tables s few bytes said limit h small address =
     let (u, e) = yes_only s bytes said in

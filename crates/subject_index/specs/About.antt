@@ -3,7 +3,7 @@ use Rattle.std.specs.Prelude.{List, [], ◌∷◌, ℕ, zero, suc, length}
 use Rattle.std.proofs.Math.Option.{Option, none, some}
 use Rattle.text.specs.Text.{Text}
 use Rattle.dataset.specs.Terms.{Term, iri, blank, literal, tagged, Quad}
-use Rattle.look_up.specs.Record.{Rows}
+use Rattle.look_up.specs.declared.Rows.{Rows}
 use Rattle.subject_index.specs.Index.{walk}
 
 -- The text of an IRI, none for another term.

@@ -1,14 +1,16 @@
 -- The index of tables: "one record for each IRI that is a subject, in byte order of its text".
-use Rattle.std.specs.Prelude.{List, [], ◌∷◌, ◌++◌, Bool, true, false, ℕ, zero, suc, ◌+◌, eqb}
+use Rattle.std.specs.Prelude.{List, [], ◌∷◌, ◌++◌, Bool, true, false, ℕ, zero, suc, ◌+◌, eqb, Result, Ok, Err}
 use Rattle.std.proofs.Math.Option.{Option, none, some}
 use Rattle.text.specs.Text.{Text, cond, same_text}
+use Rattle.limits.specs.declared.Refusal.{Refusal}
+use Rattle.limits.specs.declared.Refusal.TheVariants.{Tables}
 use Rattle.text.specs.Order.{smaller}
 use Rattle.table.specs.Layout.{Slices, iri_kind, row_at}
 use Rattle.table.specs.Usable.{for_long_form, text, has_kind, usable}
 use Rattle.table.specs.Written.{Written, written}
 use Rattle.table.specs.LongForm.{computing as table_computing}
-use Rattle.look_up.specs.Record.{Rows, rows, head_of, record_of}
-use Rattle.subject_index.specs.declared.Checked.{Checked}
+use Rattle.look_up.specs.declared.Rows.{Rows}
+use Rattle.look_up.specs.Record.{rows, head_of, record_of}
 
 -- ---- The records of so many rows, whose subjects are given: the text of an IRI, none for a blank node
 
@@ -61,11 +63,8 @@ unfoldable pub write : Slices → Text → Written
 write s out = written 22 (usable for_long_form s) (index s) out
 
 -- "a check that says yes exactly when the bytes are the index of the given tables"; "18 .. from the check too"
-unfoldable pub check : Slices → Text → Checked
-check s bytes =
-    let good : Checked = record { number = 0; yes = same_text (index s) bytes } in
-    let bad : Checked = record { number = 18; yes = false } in
-    cond (usable for_long_form s) good bad
+unfoldable pub check : Slices → Text → Result Bool Refusal
+check s bytes = cond (usable for_long_form s) (Ok (same_text (index s) bytes)) (Err Tables)
 
 -- All that computes here; an example that is checked by evaluation names it.
 unfoldable pub computing : ℕ

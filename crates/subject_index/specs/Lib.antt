@@ -1,5 +1,4 @@
 -- The index of subjects that lies beside a file.
 pub mod Index
 pub mod About
-pub mod Answer
 pub mod Code

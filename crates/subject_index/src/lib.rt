@@ -6,19 +6,18 @@ ghost use Rattle.text.specs.Text.{begins, same_text};
 ghost use Rattle.text.specs.Slice.{over, over_at};
 ghost use Rattle.table.specs.Layout.{row_at};
 ghost use Rattle.table.specs.Usable.{text};
-ghost use Rattle.usable.specs.Lent.{Stands, RowStands, slices, lent, drawn};
+ghost use Rattle.table.specs.Written.{answer};
+ghost use Rattle.usable.specs.Lent.{Stands, RowStands, slices_of};
 ghost use Rattle.look_up.specs.Record.{rows, head_of, record_of, head_size};
 ghost use Rattle.look_up.specs.Look.{rises};
 ghost use Rattle.subject_index.specs.Index.{index_of, subject, write, check};
-ghost use Rattle.subject_index.specs.Answer.{answer};
-ghost use Rattle.subject_index.specs.Code.{named, subject_number, Readable, Known, SubjectIn, Ready, below, Chooses};
+ghost use Rattle.subject_index.specs.Code.{named, subject_number, Readable, Known, SubjectIn, Ready, Chooses};
 
-use limits::Answer;
+use limits::Refusal;
 use look_up::Head;
-use table::{RowWord, TermKind, TermWord, wide};
-use usable::fields::{row_word, span_of, term_word};
+use table::{RowWord, Tables, TermKind, TermWord, wide};
 
-// A subject by the number of a term with its text, 0 for none; how many rows it has, and the first of them.
+// A subject by the number of a term with its text; how many rows it has, and the first of them.
 #[derive(Clone, Copy)]
 struct Chosen {
     number: usize,
@@ -26,100 +25,77 @@ struct Chosen {
     first: usize,
 }
 
-// The number of the subject of the row i where it is an IRI, else 0.
-fn subject_number(rows: &[u32], i: usize, terms: &[u32]) -> usize
-    requires { RowStands rows.now i × Stands terms.now (row_at rows.now i).subject }
-    ensures { result ≡ subject_number rows.now terms.now i }
+// The number of the subject of the row i where it is an IRI.
+#[tactic(auto, unfolding(crate::specs::Code::subject_number, table::specs::Layout::row_at, table::specs::Layout::entry_at))]
+fn subject_number(tables: &Tables, i: usize) -> Option<usize>
+    requires { RowStands tables.now.rows.now i × Stands tables.now.terms.now (row_at tables.now.rows.now i).subject }
+    ensures { result ≡ subject_number (slices_of tables.now) i }
 {
-    let n = row_word(rows, i, RowWord::SUBJECT);
-    if term_word(terms, n, TermWord::KIND) == TermKind::IRI {
-        return n;
-    }
-    0
+    let n = tables.row_word(i, RowWord::SUBJECT);
+    (tables.term_word(n, TermWord::KIND) == TermKind::IRI).then_some(n)
 }
 
 // The text of a term.
-fn text_of<'a>(terms: &[u32], store: &'a [u8], n: usize) -> &'a [u8]
-    requires { Readable (lent terms.now 0 store.now 0) n }
-    ensures { result.now ≡ text (lent terms.now 0 store.now 0) n }
+fn text_of<'a>(tables: &Tables<'a>, n: usize) -> &'a [u8]
+    requires { Readable (slices_of tables.now) n }
+    ensures { result.now ≡ text (slices_of tables.now) n }
 {
-    span_of(terms, store, n, TermWord::START)
+    tables.span_of(n, TermWord::START)
 }
 
 // Whether the text of the term n comes after that of the term before, where there is one.
-fn is_above(terms: &[u32], store: &[u8], before: usize, n: usize) -> bool
-    requires { Known (lent terms.now 0 store.now 0) before × Readable (lent terms.now 0 store.now 0) n }
-    ensures { result ≡ rises (named (lent terms.now 0 store.now 0) before) (text (lent terms.now 0 store.now 0) n) }
+fn is_above(tables: &Tables, before: Option<usize>, n: usize) -> bool
+    requires { Known (slices_of tables.now) before × Readable (slices_of tables.now) n }
+    ensures { result ≡ rises (named (slices_of tables.now) before) (text (slices_of tables.now) n) }
 {
-    if before == 0 {
-        return true;
+    match before {
+        Some(before) => text::smaller(text_of(tables, before), text_of(tables, n)),
+        None => true,
     }
-    text::smaller(text_of(terms, store, before), text_of(terms, store, n))
-}
-
-// Whether it comes before that of the best so far, where there is one.
-fn is_below(terms: &[u32], store: &[u8], n: usize, best: usize) -> bool
-    requires { Known (lent terms.now 0 store.now 0) best × Readable (lent terms.now 0 store.now 0) n }
-    ensures { result ≡ below (text (lent terms.now 0 store.now 0) n) (named (lent terms.now 0 store.now 0) best) }
-{
-    if best == 0 {
-        return true;
-    }
-    text::smaller(text_of(terms, store, n), text_of(terms, store, best))
 }
 
 // The best so far with the row i: it may have a better subject, or the same.
-fn closer(
-    rows: &[u32],
-    i: usize,
-    terms: &[u32],
-    store: &[u8],
-    before: usize,
-    best: Chosen,
-) -> Chosen
-    requires { (SubjectIn (drawn rows.now terms.now store.now) i × Known (lent terms.now 0 store.now 0) before) × (Chooses (lent terms.now 0 store.now 0) (subject (drawn rows.now terms.now store.now)) (named (lent terms.now 0 store.now 0) before) i best × (best.count ≤ i)) }
-    ensures { Chooses (lent terms.now 0 store.now 0) (subject (drawn rows.now terms.now store.now)) (named (lent terms.now 0 store.now 0) before) (i + 1) result × (result.count ≤ i + 1) }
+fn closer(tables: &Tables, i: usize, before: Option<usize>, best: Option<Chosen>) -> Option<Chosen>
+    requires { (SubjectIn (slices_of tables.now) i × Known (slices_of tables.now) before) × Chooses (slices_of tables.now) (subject (slices_of tables.now)) (named (slices_of tables.now) before) i best }
+    ensures { Chooses (slices_of tables.now) (subject (slices_of tables.now)) (named (slices_of tables.now) before) (i + 1) result }
 {
-    let n = subject_number(rows, i, terms);
-    if n == 0 {
+    let Some(number) = subject_number(tables, i) else {
+        return best;
+    };
+    if !is_above(tables, before, number) {
         return best;
     }
-    if !is_above(terms, store, before, n) {
-        return best;
+    let next = Chosen {
+        number,
+        count: 1,
+        first: i,
+    };
+    let Some(best) = best else {
+        return Some(next);
+    };
+    let text = text_of(tables, number);
+    let known = text_of(tables, best.number);
+    if text::smaller(text, known) {
+        return Some(next);
     }
-    let number = best.number;
-    if is_below(terms, store, n, number) {
-        return Chosen {
-            number: n,
-            count: 1,
-            first: i,
-        };
+    if !text::same(text, known) {
+        return Some(best);
     }
-    if !text::same(text_of(terms, store, n), text_of(terms, store, number)) {
-        return best;
-    }
-    Chosen {
-        number: number,
+    Some(Chosen {
+        number: best.number,
         count: best.count + 1,
         first: best.first,
-    }
+    })
 }
 
-// The subject with the least text above that of the term before, and its rows; number 0 where there is none.
-fn next_subject(rows: &[u32], count: usize, terms: &[u32], store: &[u8], before: usize) -> Chosen
-    requires { Ready (drawn rows.now terms.now store.now) count × Known (lent terms.now 0 store.now 0) before }
-    ensures { Chooses (lent terms.now 0 store.now 0) (subject (drawn rows.now terms.now store.now)) (named (lent terms.now 0 store.now 0) before) count result }
+// The subject with the least text above that of the term before, and its rows.
+fn next_subject(tables: &Tables, before: Option<usize>) -> Option<Chosen>
+    requires { Ready (slices_of tables.now) tables.now.row_count × Known (slices_of tables.now) before }
+    ensures { Chooses (slices_of tables.now) (subject (slices_of tables.now)) (named (slices_of tables.now) before) tables.now.row_count result }
 {
-    let mut best = Chosen {
-        number: 0,
-        count: 0,
-        first: 0,
-    };
-    let mut i: usize = 0;
-    while i < count {
-        let next = closer(rows, i, terms, store, before, best);
-        best = next;
-        i += 1;
+    let mut best = None;
+    for i in 0..wide(tables.row_count) {
+        best = closer(tables, i, before, best);
     }
     best
 }
@@ -162,83 +138,54 @@ fn has_record(front: &[u8], text: &[u8], count: usize, first: usize) -> bool
     text::begins(text, &front[Head::SIZE..])
 }
 
-// Whether the bytes are the index of so many rows.
-fn is_index(rows: &[u32], count: usize, terms: &[u32], store: &[u8], bytes: &[u8]) -> bool
-    requires { Ready (drawn rows.now terms.now store.now) count }
-    ensures { result ≡ same_text (index_of (subject (drawn rows.now terms.now store.now)) count) bytes.now }
+// Whether the bytes are the index.
+fn is_index(tables: &Tables, bytes: &[u8]) -> bool
+    requires { Ready (slices_of tables.now) tables.now.row_count }
+    ensures { result ≡ same_text (index_of (subject (slices_of tables.now)) tables.now.row_count) bytes.now }
 {
-    let mut before: usize = 0;
+    let mut before = None;
     let mut at: usize = 0;
-    loop {
-        let c = next_subject(rows, count, terms, store, before);
-        let n = c.number;
-        if n == 0 {
-            return at == bytes.len();
-        }
-        if !has_record(&bytes[at..], text_of(terms, store, n), c.count, c.first) {
+    while let Some(c) = next_subject(tables, before) {
+        let text = text_of(tables, c.number);
+        if !has_record(&bytes[at..], text, c.count, c.first) {
             return false;
         }
-        at += Head::SIZE + text_of(terms, store, n).len();
-        before = n;
+        at += Head::SIZE + text.len();
+        before = Some(c.number);
     }
-}
-
-// The check's answer: its number, 0 or 18, and after 0 whether the bytes are the index.
-#[derive(Clone, Copy)]
-pub struct Checked {
-    pub number: u8,
-    pub yes: bool,
+    at == bytes.len()
 }
 
 // Whether the bytes are the index of the tables; 18 where these are not usable.
-pub fn check_index(
-    rows: &[u32],
-    row_count: u32,
-    terms: &[u32],
-    term_count: u32,
-    store: &[u8],
-    store_count: u32,
-    bytes: &[u8],
-) -> Checked
-    ensures { result ≡ check (slices rows.now row_count terms.now term_count store.now store_count) bytes.now }
+pub fn check_index(tables: &Tables, bytes: &[u8]) -> Result<bool, Refusal>
+    ensures { result ≡ check (slices_of tables.now) bytes.now }
 {
-    if !usable::is_usable(rows, row_count, terms, term_count, store, store_count) {
-        return Checked {
-            number: Answer::TABLES,
-            yes: false,
-        };
+    if !usable::is_usable(tables) {
+        return Err(Refusal::Tables);
     }
-    let yes = is_index(rows, wide(row_count), terms, store, bytes);
-    Checked {
-        number: Answer::ACCEPTED,
-        yes: yes,
-    }
+    Ok(is_index(tables, bytes))
 }
 
-// Whether the index of so many rows has at most so many bytes.
-fn fits_index(rows: &[u32], count: usize, terms: &[u32], store: &[u8], room: usize) -> bool
-    requires { Ready (drawn rows.now terms.now store.now) count }
-    ensures { result ≡ leb (length (index_of (subject (drawn rows.now terms.now store.now)) count)) room }
+// Whether the index has at most so many bytes.
+fn fits_index(tables: &Tables, room: usize) -> bool
+    requires { Ready (slices_of tables.now) tables.now.row_count }
+    ensures { result ≡ leb (length (index_of (subject (slices_of tables.now)) tables.now.row_count)) room }
 {
-    let mut before: usize = 0;
+    let mut before = None;
     let mut used: usize = 0;
-    loop {
-        let c = next_subject(rows, count, terms, store, before);
-        let n = c.number;
-        if n == 0 {
-            return true;
-        }
+    while let Some(c) = next_subject(tables, before) {
         let left = room - used;
         if left < Head::SIZE {
             return false;
         }
-        let size = text_of(terms, store, n).len();
+        let size = text_of(tables, c.number).len();
         if left - Head::SIZE < size {
             return false;
         }
         used += Head::SIZE + size;
-        before = n;
+        before = Some(c.number);
     }
+    true
 }
 
 // Writes a record over the output, from a place on.
@@ -252,60 +199,31 @@ fn put_record(text: &[u8], count: usize, first: usize, out: &mut [u8], at: usize
     text::copy(text, &mut out[next..]);
 }
 
-// Writes the index of so many rows over the front of the output, which has room for it; its length.
-fn put_index(rows: &[u32], count: usize, terms: &[u32], store: &[u8], out: &mut [u8]) -> usize
-    requires { (Ready (drawn rows.now terms.now store.now) count × (length (index_of (subject (drawn rows.now terms.now store.now)) count) ≤ length out.old)) × (length out.old < 2 ^ 64) }
-    ensures { (result ≡ length (index_of (subject (drawn rows.now terms.now store.now)) count)) × (out.new ≡ over (index_of (subject (drawn rows.now terms.now store.now)) count) out.old) }
+// Writes the index over the front of the output, which has room for it; its length.
+fn put_index(tables: &Tables, out: &mut [u8]) -> usize
+    requires { (Ready (slices_of tables.now) tables.now.row_count × (length (index_of (subject (slices_of tables.now)) tables.now.row_count) ≤ length out.old)) × (length out.old < 2 ^ 64) }
+    ensures { (result ≡ length (index_of (subject (slices_of tables.now)) tables.now.row_count)) × (out.new ≡ over (index_of (subject (slices_of tables.now)) tables.now.row_count) out.old) }
 {
-    let mut before: usize = 0;
+    let mut before = None;
     let mut at: usize = 0;
-    loop {
-        let c = next_subject(rows, count, terms, store, before);
-        let n = c.number;
-        if n == 0 {
-            return at;
-        }
-        put_record(text_of(terms, store, n), c.count, c.first, out, at);
-        at += Head::SIZE + text_of(terms, store, n).len();
-        before = n;
+    while let Some(c) = next_subject(tables, before) {
+        let text = text_of(tables, c.number);
+        put_record(text, c.count, c.first, out, at);
+        at += Head::SIZE + text.len();
+        before = Some(c.number);
     }
+    at
 }
 
-// The builder's answer: its number, 0, 18 or 22, and after 0 the length written.
-#[derive(Clone, Copy)]
-pub struct Written {
-    pub number: u8,
-    pub position: usize,
-}
-
-// Writes the index of the tables over the front of out: so many rows, terms and bytes of the store.
-pub fn write_index(
-    rows: &[u32],
-    row_count: u32,
-    terms: &[u32],
-    term_count: u32,
-    store: &[u8],
-    store_count: u32,
-    out: &mut [u8],
-) -> Written
-    ensures { answer result out.new ≡ write (slices rows.now row_count terms.now term_count store.now store_count) out.old }
+// Writes the index of the tables over the front of out; the length written.
+pub fn write_index(tables: &Tables, out: &mut [u8]) -> Result<usize, Refusal>
+    ensures { answer result out.new ≡ write (slices_of tables.now) out.old }
 {
-    if !usable::is_usable(rows, row_count, terms, term_count, store, store_count) {
-        return Written {
-            number: Answer::TABLES,
-            position: 0,
-        };
+    if !usable::is_usable(tables) {
+        return Err(Refusal::Tables);
     }
-    let count = wide(row_count);
-    if !fits_index(rows, count, terms, store, out.len()) {
-        return Written {
-            number: Answer::INDEX_OUTPUT,
-            position: 0,
-        };
+    if !fits_index(tables, out.len()) {
+        return Err(Refusal::IndexOutput);
     }
-    let end = put_index(rows, count, terms, store, out);
-    Written {
-        number: Answer::ACCEPTED,
-        position: end,
-    }
+    Ok(put_index(tables, out))
 }

@@ -2,19 +2,25 @@
 // and the look-up in it, the comparison of two editions. Each hands on to the call that is proved, and gives its answer in types of fixed width.
 #![tactic(auto)]
 
-ghost use Rattle.std.specs.Prelude.{◌≡◌, ◌≤◌, length, replicate};
+ghost use Rattle.std.specs.Prelude.{◌≡◌, List, [], ℕ, ◌≤◌, length, replicate, IfOk};
 ghost use Rattle.text.specs.Text.{cond};
 ghost use Rattle.limits.specs.Limits.{iri_limit};
+ghost use Rattle.limits.specs.Refusal.{number};
 ghost use Rattle.table.specs.LongForm.{write};
-ghost use Rattle.term_text.specs.Shown.{lent, span_at};
+ghost use Rattle.table.specs.Written.{answer as answer_of_writer};
+ghost use Rattle.term_text.specs.Shown.{span_at};
 ghost use Rattle.usable.specs.Lent.{slices};
 ghost use Rattle.reader.specs.Reader.{lent_slices, Contract};
 ghost use Rattle.look_up.specs.Look.{look};
 ghost use Rattle.subject_index.specs.Index.{write as index_write, check};
+ghost use Rattle.comparison.specs.Answer.{answer as answer_of};
 ghost use Rattle.comparison.specs.Comparison.{compare};
-ghost use Rattle.sycamoot.specs.Answers.{known_mode, reading, written, shown, checked, looked_up, Tells};
+ghost use Rattle.sycamoot.specs.Answers.{known_mode, reading, written, shown, checked, looked_up, compared, Tells};
 
-use term_text::Span;
+use comparison::Counts;
+use limits::Refusal;
+use table::Tables;
+use term_text::Terms;
 
 // The reader's answer: its number, the position it speaks of, and the counts of rows, terms and store bytes.
 #[repr(C)]
@@ -79,6 +85,12 @@ fn narrow(n: usize) -> u32
     n as u32
 }
 
+fn number_of(refusal: Refusal) -> u32
+    ensures { result ≡ number refusal }
+{
+    u32::from(u8::from(refusal))
+}
+
 // The mode in the byte that the reader takes. It is not cut: 256 is no mode, and is not to become TriG.
 fn byte_mode(mode: u32) -> u8
     ensures { result ≡ known_mode mode }
@@ -130,25 +142,39 @@ pub extern "C" fn sycamoot_term_text(
     store_count: u32,
     term: u32,
 ) -> Text
-    ensures { result ≡ shown (span_at (lent terms.now term_count store.now store_count) term) }
+    ensures { result ≡ shown (span_at (slices [] 0 terms.now term_count store.now store_count) term) }
 {
-    let found = term_text::find_span(
+    let lent = Terms {
         terms,
-        term_count as usize,
+        count: term_count as usize,
         store,
-        store_count as usize,
-        term as usize,
-    );
-    match found {
-        Span::Part { start, size } => Text {
-            start: start as u64,
-            length: size as u64,
-            number: limits::Answer::ACCEPTED as u32,
+        used: store_count as usize,
+    };
+    match lent.find_span(term as usize) {
+        Some(span) => Text {
+            start: span.start as u64,
+            length: span.size as u64,
+            number: 0,
         },
-        Span::Unusable => Text {
+        None => Text {
             start: 0,
             length: 0,
-            number: limits::Answer::TABLES as u32,
+            number: number_of(Refusal::Tables),
+        },
+    }
+}
+
+fn told_length(answer: Result<usize, Refusal>) -> Written
+    ensures { (out : List ℕ) → written result out ≡ answer_of_writer answer out }
+{
+    match answer {
+        Ok(length) => Written {
+            position: length as u64,
+            number: 0,
+        },
+        Err(refusal) => Written {
+            position: 0,
+            number: number_of(refusal),
         },
     }
 }
@@ -166,11 +192,15 @@ pub extern "C" fn sycamoot_write(
 ) -> Written
     ensures { written result out.new ≡ write (slices rows.now row_count terms.now term_count store.now store_count) out.old }
 {
-    let w = writer::write_long_form(rows, row_count, terms, term_count, store, store_count, out);
-    Written {
-        position: w.position as u64,
-        number: w.number as u32,
-    }
+    let tables = Tables {
+        rows,
+        row_count,
+        terms,
+        term_count,
+        store,
+        store_count,
+    };
+    told_length(writer::write_long_form(&tables, out))
 }
 
 // Writes the index of the tables' subjects over the front of out.
@@ -186,28 +216,15 @@ pub extern "C" fn sycamoot_write_index(
 ) -> Written
     ensures { written result out.new ≡ index_write (slices rows.now row_count terms.now term_count store.now store_count) out.old }
 {
-    let built = subject_index::write_index(
+    let tables = Tables {
         rows,
         row_count,
         terms,
         term_count,
         store,
         store_count,
-        out,
-    );
-    Written {
-        position: built.position as u64,
-        number: built.number as u32,
-    }
-}
-
-fn one_or_zero(is: bool) -> u32
-    ensures { result ≡ cond is 1 0 }
-{
-    if is {
-        return 1;
-    }
-    0
+    };
+    told_length(subject_index::write_index(&tables, out))
 }
 
 // Whether the bytes are the index of the tables' subjects.
@@ -223,18 +240,23 @@ pub extern "C" fn sycamoot_check_index(
 ) -> Checked
     ensures { result ≡ checked (check (slices rows.now row_count terms.now term_count store.now store_count) index.now) }
 {
-    let c = subject_index::check_index(
+    let tables = Tables {
         rows,
         row_count,
         terms,
         term_count,
         store,
         store_count,
-        index,
-    );
-    Checked {
-        number: c.number as u32,
-        yes: one_or_zero(c.yes),
+    };
+    match subject_index::check_index(&tables, index) {
+        Ok(yes) => Checked {
+            number: 0,
+            yes: u32::from(yes),
+        },
+        Err(unusable) => Checked {
+            number: number_of(unusable),
+            yes: 0,
+        },
     }
 }
 
@@ -243,11 +265,38 @@ pub extern "C" fn sycamoot_check_index(
 pub extern "C" fn sycamoot_look_up(address: &[u8], index: &[u8]) -> Found
     ensures { result ≡ looked_up (look iri_limit address.now index.now) }
 {
-    let f = look_up::look_up(address, index);
-    Found {
-        number: f.number as u32,
-        rows: f.rows,
-        first: f.first,
+    match look_up::look_up(address, index) {
+        Ok(rows) => Found {
+            number: 0,
+            rows: rows.count,
+            first: rows.first,
+        },
+        Err(broken) => Found {
+            number: number_of(broken),
+            rows: 0,
+            first: 0,
+        },
+    }
+}
+
+// The comparison's answer in types of fixed width.
+fn told(answer: Result<Counts, Refusal>) -> Compared
+    requires { IfOk answer (λ c. (c.left ≤ 4294967295) × (c.right ≤ 4294967295)) }
+    ensures { (left_list right_list : List ℕ) → result ≡ compared (answer_of answer left_list right_list) }
+{
+    match answer {
+        Ok(counts) => Compared {
+            number: 0,
+            same: u32::from(counts.are_none()),
+            left: narrow(counts.left),
+            right: narrow(counts.right),
+        },
+        Err(refusal) => Compared {
+            number: number_of(refusal),
+            same: 0,
+            left: 0,
+            right: 0,
+        },
     }
 }
 
@@ -272,31 +321,27 @@ pub extern "C" fn sycamoot_compare(
 ) -> Compared
     ensures { Tells (compare (slices left_rows.now left_row_count left_terms.now left_term_count left_store.now left_store_count) (slices right_rows.now right_row_count right_terms.now right_term_count right_store.now right_store_count) pairing.now left_list.old right_list.old) result left_list.new right_list.new }
 {
-    let plain = comparison::compare(
-        left_rows,
-        left_row_count,
-        left_terms,
-        left_term_count,
-        left_store,
-        left_store_count,
-        right_rows,
-        right_row_count,
-        right_terms,
-        right_term_count,
-        right_store,
-        right_store_count,
+    told(comparison::compare(
+        &Tables {
+            rows: left_rows,
+            row_count: left_row_count,
+            terms: left_terms,
+            term_count: left_term_count,
+            store: left_store,
+            store_count: left_store_count,
+        },
+        &Tables {
+            rows: right_rows,
+            row_count: right_row_count,
+            terms: right_terms,
+            term_count: right_term_count,
+            store: right_store,
+            store_count: right_store_count,
+        },
         pairing,
         left_list,
         right_list,
-    );
-    let left = plain.left;
-    let right = plain.right;
-    Compared {
-        number: plain.number as u32,
-        same: one_or_zero(plain.same),
-        left: narrow(left),
-        right: narrow(right),
-    }
+    ))
 }
 
 // The same, with words for an index, which are zero afterwards.
@@ -321,30 +366,26 @@ pub extern "C" fn sycamoot_compare_indexed(
 ) -> Compared
     ensures { Tells (compare (slices left_rows.now left_row_count left_terms.now left_term_count left_store.now left_store_count) (slices right_rows.now right_row_count right_terms.now right_term_count right_store.now right_store_count) pairing.now left_list.old right_list.old) result left_list.new right_list.new × (index.new ≡ replicate (length index.old) 0) }
 {
-    let indexed = comparison::compare_indexed(
-        left_rows,
-        left_row_count,
-        left_terms,
-        left_term_count,
-        left_store,
-        left_store_count,
-        right_rows,
-        right_row_count,
-        right_terms,
-        right_term_count,
-        right_store,
-        right_store_count,
+    told(comparison::compare_indexed(
+        &Tables {
+            rows: left_rows,
+            row_count: left_row_count,
+            terms: left_terms,
+            term_count: left_term_count,
+            store: left_store,
+            store_count: left_store_count,
+        },
+        &Tables {
+            rows: right_rows,
+            row_count: right_row_count,
+            terms: right_terms,
+            term_count: right_term_count,
+            store: right_store,
+            store_count: right_store_count,
+        },
         pairing,
         left_list,
         right_list,
         index,
-    );
-    let left_count = indexed.left;
-    let right_count = indexed.right;
-    Compared {
-        number: indexed.number as u32,
-        same: one_or_zero(indexed.same),
-        left: narrow(left_count),
-        right: narrow(right_count),
-    }
+    ))
 }

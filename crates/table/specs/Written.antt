@@ -1,6 +1,8 @@
 -- What a writer answers: its number, the length written, and what the output then holds.
-use Rattle.std.specs.Prelude.{◌++◌, Bool, not, ℕ, ltb, length, drop}
+use Rattle.std.specs.Prelude.{◌++◌, Bool, not, ℕ, ltb, length, drop, Result, Ok, Err}
 use Rattle.text.specs.Text.{Text, cond}
+use Rattle.limits.specs.declared.Refusal.{Refusal}
+use Rattle.limits.specs.Refusal.{number}
 
 pub record Written : Type 0 where
   pub number : ℕ
@@ -15,3 +17,8 @@ written full usable form out =
     let small : Written = record { number = full; position = 0; output = out } in
     let bad : Written = record { number = 18; position = 0; output = out } in
     cond (not usable) bad (cond (ltb (length out) (length form)) small fits)
+
+-- What a call answers, with what the output then holds.
+abbrev pub answer : Result ℕ Refusal → Text → Written
+answer (Ok n) out = record { number = 0; position = n; output = out }
+answer (Err r) out = record { number = number r; position = 0; output = out }

@@ -1,7 +1,9 @@
 // How rows and terms lie in lent slices of 32-bit words.
 #![tactic(auto)]
 
-ghost use Rattle.std.specs.Prelude.{◌≡◌};
+ghost use Rattle.std.specs.Prelude.{◌≡◌, ◌+◌, ◌*◌, ◌≤◌, ◌<◌, length, get_or};
+ghost use Rattle.table.specs.Layout.{row_size, term_size, word_limit, span};
+ghost use Rattle.table.specs.Lent.{Stands, RowStands, word_of};
 
 // How many words a row and a term have.
 #[derive(Drop)]
@@ -64,4 +66,49 @@ pub fn wide(w: u32) -> usize
     ensures { result ≡ w }
 {
     w as usize
+}
+
+// Tables as they are lent: slices that may hold anything, and how many rows, terms and bytes of the store are used.
+#[derive(Clone, Copy)]
+pub struct Tables<'a> {
+    pub rows: &'a [u32],
+    pub row_count: u32,
+    pub terms: &'a [u32],
+    pub term_count: u32,
+    pub store: &'a [u8],
+    pub store_count: u32,
+}
+
+impl<'a> Tables<'a> {
+    // The word k of the term n, from 1 on.
+    pub fn term_word(&self, n: usize, k: usize) -> usize
+        requires { Stands self.now.terms.now n × (k < term_size) }
+        ensures { (result ≡ word_of self.now.terms.now n k) × (result < word_limit) }
+    {
+        wide(self.terms[Layout::TERM_WORDS * (n - 1) + k])
+    }
+
+    // The word k of the row i, from 0 on.
+    pub fn row_word(&self, i: usize, k: usize) -> usize
+        requires { RowStands self.now.rows.now i × (k < row_size) }
+        ensures { (result ≡ get_or self.now.rows.now (row_size * i + k) 0) × (result < word_limit) }
+    {
+        wide(self.rows[Layout::ROW_WORDS * i + k])
+    }
+
+    // The part of the store with a start and a size.
+    pub fn part(&self, start: usize, size: usize) -> &'a [u8]
+        requires { start + size ≤ length self.now.store.now }
+        ensures { result.now ≡ span self.now.store.now start size }
+    {
+        &self.store[start..start + size]
+    }
+
+    // The part of the store whose start is the word k of a term, and whose size the word behind it: its text, or its tag.
+    pub fn span_of(&self, n: usize, k: usize) -> &'a [u8]
+        requires { Stands self.now.terms.now n × ((k + 1 < term_size) × (word_of self.now.terms.now n k + word_of self.now.terms.now n (k + 1) ≤ length self.now.store.now)) }
+        ensures { result.now ≡ span self.now.store.now (word_of self.now.terms.now n k) (word_of self.now.terms.now n (k + 1)) }
+    {
+        self.part(self.term_word(n, k), self.term_word(n, k + 1))
+    }
 }

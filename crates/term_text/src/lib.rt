@@ -2,79 +2,68 @@
 #![tactic(auto)]
 
 ghost use Rattle.std.specs.Prelude.{◌≡◌};
+ghost use Rattle.limits.specs.Refusal.{code};
 ghost use Rattle.table.specs.TermText.{term_text};
 ghost use Rattle.term_text.specs.Shown.{lent, span_at, answer, text_of};
 
-use limits::Answer;
+use limits::Refusal;
 use table::{Layout, TermKind, TermWord, wide};
 
-// A part of the store; or the tables or the number are not usable.
+// Terms and the store as they are lent to this call. Unlike those of table::Tables, the counts may be any number.
 #[derive(Clone, Copy)]
-pub enum Span {
-    Part { start: usize, size: usize },
-    Unusable,
+pub struct Terms<'a> {
+    pub terms: &'a [u32],
+    pub count: usize,
+    pub store: &'a [u8],
+    pub used: usize,
 }
 
-// Where the text lies; any number and any tables may be given.
-pub fn find_span(terms: &[u32], count: usize, store: &[u8], used: usize, number: usize) -> Span
-    ensures { result ≡ span_at (lent terms.now count store.now used) number }
-{
-    if number < 1 {
-        return Span::Unusable;
-    }
-    if count < number {
-        return Span::Unusable;
-    }
-    if terms.len() / Layout::TERM_WORDS < count {
-        return Span::Unusable;
-    }
-    if store.len() < used {
-        return Span::Unusable;
-    }
-    let at = Layout::TERM_WORDS * (number - 1);
-    let kind = wide(terms[at + TermWord::KIND]);
-    if kind < TermKind::IRI {
-        return Span::Unusable;
-    }
-    if TermKind::TAGGED < kind {
-        return Span::Unusable;
-    }
-    let start = wide(terms[at + TermWord::START]);
-    let size = wide(terms[at + TermWord::SIZE]);
-    if used < start + size {
-        return Span::Unusable;
-    }
-    Span::Part {
-        start: start,
-        size: size,
-    }
+// A part of the store.
+#[derive(Clone, Copy)]
+pub struct Span {
+    pub start: usize,
+    pub size: usize,
 }
 
-// 0 where the text can be shown, else 18.
-pub fn answer_text(terms: &[u32], count: usize, store: &[u8], used: usize, number: usize) -> usize
-    ensures { result ≡ answer (term_text (lent terms.now count store.now used) number) }
-{
-    match find_span(terms, count, store, used, number) {
-        Span::Part { start: _, size: _ } => Answer::ACCEPTED as usize,
-        Span::Unusable => Answer::TABLES as usize,
-    }
-}
-
-// The text, as that part of the store itself; an empty part where the answer is 18.
-pub fn show_text<'a>(
-    terms: &[u32],
-    count: usize,
-    store: &'a [u8],
-    used: usize,
-    number: usize,
-) -> &'a [u8]
-    ensures { result.now ≡ text_of (term_text (lent terms.now count store.now used) number) }
-{
-    match find_span(terms, count, store, used, number) {
-        Span::Part { start, size } => {
-            let end = start + size;
-            &store[start..end]
+impl<'a> Terms<'a> {
+    // Where the text lies, if the tables and the number are usable; any may be given.
+    #[tactic(auto, unfolding(crate::specs::Shown::span_at, table::specs::TermText::shows, table::specs::Layout::entry_at))]
+    pub fn find_span(&self, number: usize) -> Option<Span>
+        ensures { result ≡ span_at (lent self.now) number }
+    {
+        if number < 1 || self.count < number {
+            return None;
         }
-        Span::Unusable => &store[..0],
+        if self.terms.len() / Layout::TERM_WORDS < self.count || self.store.len() < self.used {
+            return None;
+        }
+        let at = Layout::TERM_WORDS * (number - 1);
+        let kind = wide(self.terms[at + TermWord::KIND]);
+        if kind < TermKind::IRI || TermKind::TAGGED < kind {
+            return None;
+        }
+        let start = wide(self.terms[at + TermWord::START]);
+        let size = wide(self.terms[at + TermWord::SIZE]);
+        (start + size <= self.used).then_some(Span { start, size })
+    }
+
+    // Whether the text can be shown.
+    pub fn answer_text(&self, number: usize) -> Result<(), Refusal>
+        ensures { code result ≡ answer (term_text (lent self.now) number) }
+    {
+        match self.find_span(number) {
+            Some(_) => Ok(()),
+            None => Err(Refusal::Tables),
+        }
+    }
+
+    // The text, as that part of the store itself; an empty part where it is refused.
+    pub fn show_text(&self, number: usize) -> &'a [u8]
+        ensures { result.now ≡ text_of (term_text (lent self.now) number) }
+    {
+        match self.find_span(number) {
+            Some(span) => &self.store[span.start..span.start + span.size],
+            None => &self.store[..0],
+        }
     }
 }

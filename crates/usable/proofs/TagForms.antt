@@ -3,14 +3,14 @@ use mathlib.Core.Path.{◌≡◌, refl, ap, sym, ◌∙◌, subst}
 use mathlib.Core.Logic.{⊎_elim}
 use mathlib.Core.Bool.{Bool, true, false, not, ◌&&◌}
 use mathlib.Core.List.{List, [], ◌∷◌}
-use Prim.Native.Nat.{ℕ, zero, suc, ◌+◌, ◌≤◌, ◌<◌, min}
-use native.Mathlib.Numerals.{one-add, add-one}
+use Rattle.std.proofs.Common.{fold}
+use Prim.Native.Nat.{ℕ, suc, ◌≤◌, ◌<◌, min}
+use native.Mathlib.Numerals.{one-add}
 use native.Mathlib.Nat.{min-le_left}
 use native.Mathlib.Omega.{arith}
 use borrow.Author.Tests.{lt-ltb, le-leb, lt-leb, ne_eqb, eq-eqb, eqb-true, eqb-false}
 use lib.Dec.{T, eqb, ltb, leb, ltb→lt, eqb-suc-suc, eqb-zero-suc}
-use lib.ListN.{length, get_or, drop}
-use lib.Seq.{drop-cons}
+use lib.ListN.{length, drop}
 use Rattle.text.specs.Text.{Text, ascii, cond, same_text}
 use Rattle.text.proofs.Compare.{and_false}
 use Rattle.utf8.specs.Utf8.{Range, ◌–◌, width}
@@ -265,7 +265,7 @@ is_whole : (g : Text) → is_tag g ≡ whole terminals (64 ∷ g)
 unfolding is_tag token_at whole
 is_whole g = rw (untripled g)
 
-tag_walks : (g : Text) → is_tag g ≡ (not (same_text g prefix) && (not (same_text g base) && walks Start g))
+pub tag_walks : (g : Text) → is_tag g ≡ (not (same_text g prefix) && (not (same_text g base) && walks Start g))
 tag_walks g =
     is_whole g
     ∙ whole_next terminals 64 g (omega arith)
@@ -273,25 +273,9 @@ tag_walks g =
     ∙ keyword 5 (omega arith) prefix g (item 6 (word base) ∷ state Start) tt
     ∙ ap (λ (b : Bool). not (same_text g prefix) && b) (keyword 6 (omega arith) base g (state Start) tt ∙ ap (λ (b : Bool). not (same_text g base) && b) (whole_walks Start g))
 
-pub not_prefix : (g : Text) → same_text g prefix ≡ true → false ≡ is_tag g
-not_prefix g h = sym (tag_walks g ∙ rw h)
+-- ---- A walk is a fold of its steps
 
-module _ (g : Text) (p : same_text g prefix ≡ false) where
-  pub not_base : same_text g base ≡ true → false ≡ is_tag g
-  not_base h = sym (tag_walks g ∙ rw (p, h))
-
-  pub walked : same_text g base ≡ false → walks Start g ≡ is_tag g
-  walked h = sym (tag_walks g ∙ rw (p, h))
-
--- ---- One byte of a walk
-
-pub walks_on : (p r : Place) (s : Text) (i : ℕ) → i < length s → r ≡ next_place p (get_or s i 0) → walks p (drop i s) ≡ walks r (drop (i + 1) s)
+pub walks_by_steps : (p : Place) (s : Text) → ends (fold next_place p s) ≡ walks p s
 unfolding walks
-walks_on p r s i h e = rw (drop-cons s i 0 h, add-one i, e)
-
-pub walks_end : (p : Place) (s : Text) (i : ℕ) → length s ≤ i → walks p (drop i s) ≡ ends p
-unfolding walks
-walks_end p [] zero h = refl
-walks_end p [] (suc i) h = refl
-walks_end p (c ∷ s) zero h = absurd (omega arith)
-walks_end p (c ∷ s) (suc i) h = walks_end p s i (omega arith)
+walks_by_steps p [] = refl
+walks_by_steps p (c ∷ s) = walks_by_steps (next_place p c) s

@@ -1,13 +1,10 @@
 -- Tables as a routine is lent them, and what it asks of them.
-use Rattle.std.specs.Prelude.{◌≡◌, List, [], Bool, ◌&&◌, ◌||◌, ℕ, pred, ◌+◌, ◌*◌, ◌≤◌, ◌<◌, eqb, length, get_or}
+use Rattle.std.specs.Prelude.{◌≡◌, List, [], Bool, ◌&&◌, ◌||◌, ℕ, ◌+◌, ◌≤◌, ◌<◌, eqb, length}
 use Rattle.text.specs.Text.{Text, is_none}
 use Rattle.utf8.specs.Utf8.{first_bad}
-use Rattle.table.specs.Layout.{Slices, row_size, term_size, iri_kind, blank_kind, literal_kind, tagged_kind, row_at}
-use Rattle.table.specs.Usable.{Takes, the, text, inside, has_kind, good_iri, good_datatype, good_tag, resource, good_row}
-
-abbrev pub slices : List ℕ → ℕ → List ℕ → ℕ → Text → ℕ → Slices
-slices rows row_count terms term_count store store_count =
-    record { rows = rows; row_count = row_count; terms = terms; term_count = term_count; store = store; store_count = store_count }
+use Rattle.table.specs.Layout.{Slices, iri_kind, blank_kind, literal_kind, tagged_kind, row_at}
+use Rattle.table.specs.Usable.{Takes, the, text, inside, has_kind, good_iri, good_datatype, good_tag, resource}
+pub use Rattle.table.specs.Lent.{slices, slices_of, Stands, RowStands, word_of}
 
 -- Tables whose counts do not matter.
 abbrev pub drawn : List ℕ → List ℕ → Text → Slices
@@ -16,17 +13,6 @@ drawn rows terms store = slices rows 0 terms 0 store 0
 -- Terms and store without rows.
 abbrev pub lent : List ℕ → ℕ → Text → ℕ → Slices
 lent terms term_count store store_count = slices [] 0 terms term_count store store_count
-
--- The term n, from 1 on, and the row i, from 0 on, stand in the words.
-abbrev pub Stands : List ℕ → ℕ → Type 0
-Stands terms n = (1 ≤ n) × (term_size * n ≤ length terms)
-
-abbrev pub RowStands : List ℕ → ℕ → Type 0
-RowStands rows i = row_size * (i + 1) ≤ length rows
-
--- The word k of the term n.
-abbrev pub word_of : List ℕ → ℕ → ℕ → ℕ
-word_of terms n k = get_or terms (term_size * pred n + k) 0
 
 -- The two halves of a term's test.
 abbrev pub readable : Slices → ℕ → Bool
@@ -44,9 +30,6 @@ SpanIn s n = (the s n).start + (the s n).size ≤ length s.store
 -- "graph 0 is the default graph"
 abbrev pub names_graph : Slices → ℕ → Bool
 names_graph s n = eqb n 0 || resource s n
-
-abbrev pub row_test : List ℕ → List ℕ → ℕ → ℕ → Bool
-row_test rows terms term_count i = good_row (lent terms term_count [] 0) (row_at rows i)
 
 -- ---- Terms and rows that can be read
 

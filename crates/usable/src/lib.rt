@@ -1,53 +1,30 @@
 // Which tables the writer takes, whatever the lent slices hold.
 #![tactic(auto)]
 
-pub mod entries;
-pub mod fields;
-pub mod rows;
-pub mod tags;
+mod entries;
+mod rows;
+mod tags;
 
 ghost use Rattle.std.specs.Prelude.{◌≡◌};
 ghost use Rattle.table.specs.Usable.{for_long_form, counts_fit, usable};
-ghost use Rattle.usable.specs.Lent.{slices};
+ghost use Rattle.usable.specs.Lent.{slices_of};
 
-use table::{Layout, wide};
+use table::{Layout, Tables, wide};
 
 // Not: "a count goes past its slice".
-fn fit_counts(
-    rows: &[u32],
-    row_count: u32,
-    terms: &[u32],
-    term_count: u32,
-    store: &[u8],
-    store_count: u32,
-) -> bool
-    ensures { result ≡ counts_fit (slices rows.now row_count terms.now term_count store.now store_count) }
+#[tactic(auto, unfolding(table::specs::Usable::counts_fit))]
+fn fit_counts(tables: &Tables) -> bool
+    ensures { result ≡ counts_fit (slices_of tables.now) }
 {
-    if rows.len() < Layout::ROW_WORDS * wide(row_count) {
-        return false;
-    }
-    if terms.len() < Layout::TERM_WORDS * wide(term_count) {
-        return false;
-    }
-    wide(store_count) <= store.len()
+    Layout::ROW_WORDS * wide(tables.row_count) <= tables.rows.len()
+        && Layout::TERM_WORDS * wide(tables.term_count) <= tables.terms.len()
+        && wide(tables.store_count) <= tables.store.len()
 }
 
-// Whether the writer takes the tables: so many rows, terms and bytes of the store.
-pub fn is_usable(
-    rows: &[u32],
-    row_count: u32,
-    terms: &[u32],
-    term_count: u32,
-    store: &[u8],
-    store_count: u32,
-) -> bool
-    ensures { result ≡ usable for_long_form (slices rows.now row_count terms.now term_count store.now store_count) }
+// Whether the writer takes the tables.
+#[tactic(auto, unfolding(table::specs::Usable::usable))]
+pub fn is_usable(tables: &Tables) -> bool
+    ensures { result ≡ usable for_long_form (slices_of tables.now) }
 {
-    if !fit_counts(rows, row_count, terms, term_count, store, store_count) {
-        return false;
-    }
-    if !entries::all_good(terms, wide(term_count), store, wide(store_count)) {
-        return false;
-    }
-    rows::all_good(rows, wide(row_count), terms, wide(term_count))
+    fit_counts(tables) && entries::all_good(tables) && rows::all_good(tables)
 }

@@ -1,87 +1,64 @@
 // What rows must be.
-ghost use Rattle.std.specs.Prelude.{◌≡◌, ◌&&◌, [], ◌+◌, ◌*◌, ◌≤◌, ◌<◌, length};
-ghost use Rattle.table.specs.Layout.{row_size, term_size, iri_kind};
-ghost use Rattle.table.specs.Usable.{each, has_kind, present, resource};
-ghost use Rattle.usable.specs.Lent.{RowStands, lent, names_graph, row_test};
+ghost use Rattle.std.specs.Prelude.{◌≡◌, ◌&&◌, ◌*◌, ◌≤◌, length};
+ghost use Rattle.table.specs.Layout.{row_size, term_size, iri_kind, row_at};
+ghost use Rattle.table.specs.Usable.{each, has_kind, present, resource, good_row};
+ghost use Rattle.usable.specs.Lent.{RowStands, slices_of, names_graph};
 
-use crate::fields::{row_word, term_word};
-use table::{RowWord, TermKind, TermWord};
+use table::{RowWord, Tables, TermKind, TermWord, wide};
 
 // Not: "a row names a missing term".
-fn is_present(count: usize, n: usize) -> bool
-    ensures { result ≡ present (lent [] count [] 0) n }
+fn is_present(tables: &Tables, n: usize) -> bool
+    ensures { result ≡ present (slices_of tables.now) n }
 {
-    if n < 1 {
-        return false;
-    }
-    n <= count
+    1 <= n && n <= wide(tables.term_count)
 }
 
 // Whether a graph or a subject may have the term.
-fn is_resource(terms: &[u32], count: usize, n: usize) -> bool
-    requires { term_size * count ≤ length terms.now }
-    ensures { result ≡ resource (lent terms.now count [] 0) n }
+#[tactic(auto, unfolding(table::specs::Layout::entry_at))]
+fn is_resource(tables: &Tables, n: usize) -> bool
+    requires { term_size * tables.now.term_count ≤ length tables.now.terms.now }
+    ensures { result ≡ resource (slices_of tables.now) n }
 {
-    if !is_present(count, n) {
-        return false;
-    }
-    let kind = term_word(terms, n, TermWord::KIND);
-    if kind == TermKind::IRI {
-        return true;
-    }
-    kind == TermKind::BLANK
+    is_present(tables, n)
+        && matches!(
+            tables.term_word(n, TermWord::KIND),
+            TermKind::IRI | TermKind::BLANK
+        )
 }
 
 // Whether a predicate may have the term.
-fn is_predicate(terms: &[u32], count: usize, n: usize) -> bool
-    requires { term_size * count ≤ length terms.now }
-    ensures { result ≡ present (lent terms.now count [] 0) n && has_kind (lent terms.now count [] 0) iri_kind n }
+#[tactic(auto, unfolding(table::specs::Layout::entry_at))]
+fn is_predicate(tables: &Tables, n: usize) -> bool
+    requires { term_size * tables.now.term_count ≤ length tables.now.terms.now }
+    ensures { result ≡ present (slices_of tables.now) n && has_kind (slices_of tables.now) iri_kind n }
 {
-    if !is_present(count, n) {
-        return false;
-    }
-    term_word(terms, n, TermWord::KIND) == TermKind::IRI
+    is_present(tables, n) && tables.term_word(n, TermWord::KIND) == TermKind::IRI
 }
 
 // Whether a row may have the graph: "graph 0 is the default graph".
-fn is_graph(terms: &[u32], count: usize, n: usize) -> bool
-    requires { term_size * count ≤ length terms.now }
-    ensures { result ≡ names_graph (lent terms.now count [] 0) n }
+fn is_graph(tables: &Tables, n: usize) -> bool
+    requires { term_size * tables.now.term_count ≤ length tables.now.terms.now }
+    ensures { result ≡ names_graph (slices_of tables.now) n }
 {
-    if n == 0 {
-        return true;
-    }
-    is_resource(terms, count, n)
+    n == 0 || is_resource(tables, n)
 }
 
 // Whether the row i is good: none of its terms is missing or stands where it must not.
-fn is_good(rows: &[u32], i: usize, terms: &[u32], count: usize) -> bool
-    requires { RowStands rows.now i × (term_size * count ≤ length terms.now) }
-    ensures { result ≡ row_test rows.now terms.now count i }
+#[tactic(auto, unfolding(table::specs::Usable::good_row, table::specs::Layout::row_at))]
+fn is_good(tables: &Tables, i: usize) -> bool
+    requires { RowStands tables.now.rows.now i × (term_size * tables.now.term_count ≤ length tables.now.terms.now) }
+    ensures { result ≡ good_row (slices_of tables.now) (row_at tables.now.rows.now i) }
 {
-    if !is_graph(terms, count, row_word(rows, i, RowWord::GRAPH)) {
-        return false;
-    }
-    if !is_resource(terms, count, row_word(rows, i, RowWord::SUBJECT)) {
-        return false;
-    }
-    if !is_predicate(terms, count, row_word(rows, i, RowWord::PREDICATE)) {
-        return false;
-    }
-    is_present(count, row_word(rows, i, RowWord::OBJECT))
+    is_graph(tables, tables.row_word(i, RowWord::GRAPH))
+        && is_resource(tables, tables.row_word(i, RowWord::SUBJECT))
+        && is_predicate(tables, tables.row_word(i, RowWord::PREDICATE))
+        && is_present(tables, tables.row_word(i, RowWord::OBJECT))
 }
 
 // Whether every row is good.
-pub fn all_good(rows: &[u32], row_count: usize, terms: &[u32], count: usize) -> bool
-    requires { (row_size * row_count ≤ length rows.now) × (term_size * count ≤ length terms.now) }
-    ensures { result ≡ each (row_test rows.now terms.now count) 0 row_count }
+pub fn all_good(tables: &Tables) -> bool
+    requires { (row_size * tables.now.row_count ≤ length tables.now.rows.now) × (term_size * tables.now.term_count ≤ length tables.now.terms.now) }
+    ensures { result ≡ each (λ i. good_row (slices_of tables.now) (row_at tables.now.rows.now i)) 0 tables.now.row_count }
 {
-    let mut i: usize = 0;
-    while i < row_count {
-        if !is_good(rows, i, terms, count) {
-            return false;
-        }
-        i += 1;
-    }
-    true
+    (0..wide(tables.row_count)).all(|i| is_good(tables, i))
 }

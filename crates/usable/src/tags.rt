@@ -1,6 +1,6 @@
 // Language tags.
 ghost use Rattle.std.specs.Prelude.{◌≡◌};
-ghost use Rattle.usable.specs.Places.{dashed, next_place, ends, walks};
+ghost use Rattle.usable.specs.Places.{next_place, ends, walks};
 ghost use Rattle.table.specs.Usable.{is_tag};
 
 use characters::bytes::{is_letter, is_letter_or_digit};
@@ -15,82 +15,37 @@ pub enum Place {
     Off,
 }
 
-fn at_dash(c: u8) -> Place
-    ensures { result ≡ dashed c }
-{
-    if c == b'-' {
-        return Place::Dash;
-    }
-    Place::Off
-}
-
 // [a-zA-Z]+ ('-' [a-zA-Z0-9]+)*: the place after one more byte.
+#[tactic(auto, unfolding(crate::specs::Places::next_place, crate::specs::Places::dashed))]
 fn next(place: Place, c: u8) -> Place
     ensures { result ≡ next_place place c }
 {
     match place {
-        Place::Start => {
-            if is_letter(c) {
-                return Place::Letters;
-            }
-            Place::Off
-        }
-        Place::Letters => {
-            if is_letter(c) {
-                return Place::Letters;
-            }
-            at_dash(c)
-        }
-        Place::Dash => {
-            if is_letter_or_digit(c) {
-                return Place::Subtag;
-            }
-            Place::Off
-        }
-        Place::Subtag => {
-            if is_letter_or_digit(c) {
-                return Place::Subtag;
-            }
-            at_dash(c)
-        }
-        Place::Off => Place::Off,
+        Place::Start | Place::Letters if is_letter(c) => Place::Letters,
+        Place::Dash | Place::Subtag if is_letter_or_digit(c) => Place::Subtag,
+        Place::Letters | Place::Subtag if c == b'-' => Place::Dash,
+        _ => Place::Off,
     }
 }
 
+#[tactic(auto, unfolding(crate::specs::Places::ends))]
 fn is_end(place: Place) -> bool
     ensures { result ≡ ends place }
 {
-    match place {
-        Place::Start => false,
-        Place::Letters => true,
-        Place::Dash => false,
-        Place::Subtag => true,
-        Place::Off => false,
-    }
+    matches!(place, Place::Letters | Place::Subtag)
 }
 
 // Whether the text has the form of a LANGTAG without its @.
 fn has_tag_form(s: &[u8]) -> bool
     ensures { result ≡ walks Place.Start s.now }
 {
-    let mut place = Place::Start;
-    let mut i: usize = 0;
-    while i < s.len() {
-        place = next(place, s[i]);
-        i += 1;
-    }
-    is_end(place)
+    is_end(s.iter().fold(Place::Start, |place, c| next(place, *c)))
 }
 
 // "a tag is not LANGTAG without its @ or is exactly base or prefix"
+#[tactic(auto, using(crate::proofs::TagForms::tag_walks))]
 pub fn is_tag(s: &[u8]) -> bool
     ensures { result ≡ is_tag s.now }
 {
-    if text::same(s, b"prefix") {
-        return false;
-    }
-    if text::same(s, b"base") {
-        return false;
-    }
-    has_tag_form(s)
+    !text::same(s, b"prefix") && !text::same(s, b"base") && has_tag_form(s)
 }

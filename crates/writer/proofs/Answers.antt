@@ -1,7 +1,7 @@
 -- The answer is that of the definition, by what was found.
 use mathlib.Core.Path.{◌≡◌, refl, ◌∙◌}
 use mathlib.Core.Bool.{true, false}
-use Prim.Native.Nat.{ℕ, zero, suc, ◌^◌, ◌<◌}
+use Prim.Native.Nat.{ℕ, ◌^◌, ◌<◌}
 use native.Mathlib.Nat.{zero-add}
 use native.Mathlib.Omega.{arith}
 use borrow.Author.Tests.{leb-true}
@@ -11,29 +11,15 @@ use Rattle.text.specs.Text.{Text}
 use Rattle.text.specs.Slice.{over_at}
 use Rattle.table.proofs.Written as told
 use Rattle.table.proofs.Written.{answered}
-use Rattle.table.specs.Layout.{Slices, row_at}
+use Rattle.table.specs.Layout.{Slices}
 use Rattle.table.specs.Usable.{for_long_form, usable}
-use Rattle.table.specs.LongForm.{term_form, triple_form, line, lines_from, long_form, write}
+use Rattle.table.specs.LongForm.{lines_from, long_form, write}
 use Rattle.writer.specs.Writing.{Countable, Wrote}
-use Rattle.usable.specs.Lent.{drawn}
 
 module _ (s : Slices) where
-  abbrev tables : Slices
-  tables = drawn s.rows s.terms s.store
-
-  -- The counts do not matter to lines.
-  line_drawn : (i : ℕ) → line s (row_at s.rows i) ≡ line tables (row_at s.rows i)
-  unfolding line triple_form term_form
-  line_drawn i = refl
-
-  lines_drawn : (i n : ℕ) → lines_from s i n ≡ lines_from tables i n
-  unfolding lines_from
-  lines_drawn i zero = refl
-  lines_drawn i (suc n) = rw (line_drawn i, lines_drawn (suc i) n)
-
-  form : long_form s ≡ lines_from tables 0 s.row_count
+  form : long_form s ≡ lines_from s 0 s.row_count
   unfolding long_form
-  form = lines_drawn 0 s.row_count
+  form = refl
 
   module _ (x : Text) where
     pub not_usable : usable for_long_form s ≡ false → answered 18 0 x ≡ write s x
@@ -41,16 +27,16 @@ module _ (s : Slices) where
     not_usable e = told.not_usable 17 (usable for_long_form s) (long_form s) x e
 
     module _ (e : usable for_long_form s ≡ true) where
-      pub too_long : leb (length (lines_from tables 0 s.row_count)) (length x) ≡ false → answered 17 0 x ≡ write s x
+      pub too_long : leb (length (lines_from s 0 s.row_count)) (length x) ≡ false → answered 17 0 x ≡ write s x
       unfolding write
-      too_long f = rw form (told.too_long 17 (usable for_long_form s) (lines_from tables 0 s.row_count) x e f)
+      too_long f = rw form (told.too_long 17 (usable for_long_form s) (lines_from s 0 s.row_count) x e f)
 
-      module _ (f : leb (length (lines_from tables 0 s.row_count)) (length x) ≡ true) where
-        pub lines_room : length x < 2 ^ 64 → Countable 0 (lines_from tables 0 s.row_count)
-        lines_room l = record { fits = omega (arith, leb-true (length (lines_from tables 0 s.row_count)) (length x) f) }
+      module _ (f : leb (length (lines_from s 0 s.row_count)) (length x) ≡ true) where
+        pub lines_room : length x < 2 ^ 64 → Countable 0 (lines_from s 0 s.row_count)
+        lines_room l = record { fits = omega (arith, leb-true (length (lines_from s 0 s.row_count)) (length x) f) }
 
-        pub written_whole : {y : Text} {r : ℕ} → Wrote 0 (lines_from tables 0 s.row_count) x y r → answered 0 r y ≡ write s x
+        pub written_whole : {y : Text} {r : ℕ} → Wrote 0 (lines_from s 0 s.row_count) x y r → answered 0 r y ≡ write s x
         unfolding write over_at
         written_whole {y} {r} w =
-            let t = lines_from tables 0 s.row_count in
+            let t = lines_from s 0 s.row_count in
             rw form (told.whole 17 (usable for_long_form s) t x e f r y (w.end ∙ zero-add (length t)) w.out)

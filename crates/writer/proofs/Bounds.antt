@@ -3,7 +3,7 @@ use mathlib.Core.List.{[], ◌∷◌}
 use Prim.Native.Nat.{ℕ, zero, suc, ◌+◌, ◌*◌, ◌/◌, ◌%◌, ◌≤◌}
 use native.Mathlib.Nat.{min-le_left}
 use native.Mathlib.Omega.{arith}
-use lib.Dec.{eqb, ltb}
+use lib.Dec.{ltb}
 use lib.ListN.{length, drop, length-append, length-take}
 use Rattle.text.specs.Text.{Text, ascii, same_text}
 use Rattle.utf8.proofs.Tests.{by}
@@ -12,7 +12,8 @@ use Rattle.dataset.specs.Terms.{xsd_string}
 use Rattle.table.specs.Layout.{span}
 use Rattle.table.specs.LongForm.{digits, iri_byte, string_byte, escaped, iri_form, string_form, type_form}
 use Rattle.writer.specs.Writing.{escape_of}
-use Rattle.writer.proofs.Escapes.{iri_escaped, iri_plain, string_told}
+use Rattle.std.specs.Prelude.{Option, Some, None}
+use Rattle.writer.proofs.Escapes.{iri_escaped, iri_plain, escape_form, string_told}
 use Rattle.writer.proofs.Pieces.{type_none, type_some}
 
 pub span_bound : (store : Text) (start size : ℕ) → length (span store start size) ≤ size
@@ -28,8 +29,12 @@ iri_bound : (c : ℕ) → length (iri_byte c) ≤ 6
 iri_bound c =
     by (forbidden c) (λ e. rw (iri_escaped c e) (omega arith)) (λ e. rw (iri_plain c e) (omega arith))
 
+escape_bound : (c : ℕ) (e : Option ℕ) → length (escape_form c e) ≤ 6
+escape_bound c None = omega arith
+escape_bound c (Some e) = omega arith
+
 string_bound : (c : ℕ) → length (string_byte c) ≤ 6
-string_bound c = rw (string_told c) (by (eqb (escape_of c) 0) (λ e. rw e (omega arith)) (λ e. rw e (omega arith)))
+string_bound c = rw (string_told c) (escape_bound c (escape_of c))
 
 pub iri_form_bound : (s : Text) → length (iri_form s) ≤ 6 * length s + 2
 iri_form_bound s =

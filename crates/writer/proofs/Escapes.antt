@@ -4,21 +4,24 @@ use mathlib.Core.Bool.{Bool, true, false, not}
 use mathlib.Core.List.{[], ◌∷◌, ◌++◌, append_assoc, append-nil}
 use Prim.Native.Nat.{ℕ, ◌+◌, ◌≤◌, ◌<◌}
 use native.Mathlib.Numerals.{add-one}
-use borrow.Author.Tests.{ne_eqb}
-use lib.Dec.{T, eqb, ltb}
+use lib.Dec.{T, ltb}
 use lib.ListN.{length, get_or, take, drop, take-append-drop}
 use lib.Seq.{take-suc, take_all}
+use Rattle.std.specs.Prelude.{Option, Some, None}
 use Rattle.text.specs.Text.{Text, cond, is}
 use Rattle.utf8.proofs.Tests.{by, below_at}
 use Rattle.token.specs.Regular.{in_ranges}
 use Rattle.iri.specs.Iri.{forbidden}
 use Rattle.characters.specs.Bytes.{iri}
 use Rattle.table.specs.LongForm.{iri_byte, string_byte, escaped}
-use Rattle.writer.specs.Writing.{Countable, Wrote, code_form, escape_of, byte_form}
-use Rattle.writer.specs.declared.bytes.Rule.TheVariants.{Plain}
+use Rattle.writer.specs.Writing.{Countable, Wrote, code_form, escape_of}
 use Rattle.writer.proofs.Chains.{both, room_before, room_after, wrote_nothing}
 
 -- ---- Which bytes are escaped
+
+abbrev pub escape_form : ℕ → Option ℕ → Text
+escape_form c None = c ∷ []
+escape_form c (Some e) = 92 ∷ e ∷ []
 
 abbrev same : Bool → Bool → Bool
 same true b = b
@@ -46,7 +49,7 @@ module _ (c : ℕ) where
   iri_plain e = rw e
 
   -- A byte of a literal, by what stands behind its backslash.
-  pub string_told : string_byte c ≡ cond (eqb (escape_of c) 0) (c ∷ []) (92 ∷ escape_of c ∷ [])
+  pub string_told : string_byte c ≡ escape_form c (escape_of c)
   unfolding string_byte escape_of
   string_told =
       by (is "\"" c) (λ e. rw e)
@@ -54,12 +57,6 @@ module _ (c : ℕ) where
       rw e
       (by (is "\\" c) (λ e. rw e)
       (λ e. rw e (by (is "\n" c) (λ e. rw e) (λ e. rw e (by (is "\r" c) (λ e. rw e) (λ e. rw e)))))))
-
-  pub string_plain : escape_of c ≡ 0 → string_byte c ≡ c ∷ []
-  string_plain e = string_told ∙ rw e
-
-  pub string_escaped : (escape_of c ≡ 0 → ⊥) → string_byte c ≡ 92 ∷ escape_of c ∷ []
-  string_escaped e = string_told ∙ rw (ne_eqb (escape_of c) 0 e)
 
 -- ---- A text, a byte at a time
 
@@ -96,7 +93,7 @@ module _ (f : ℕ → Text) where
         pub wrote_next : {z : Text} {m : ℕ} → Wrote end (f (get_or s i 0)) y z m → Wrote at (escaped f (take (i + 1) s)) x z m
         wrote_next {z} {m} w = subst (λ (t : Text). Wrote at t x z m) (sym next) (both v w)
 
-pub escaped_plain : (s : Text) → escaped (byte_form Plain) s ≡ s
-unfolding escaped byte_form
+pub escaped_plain : (s : Text) → escaped (λ c. c ∷ []) s ≡ s
+unfolding escaped
 escaped_plain [] = refl
 escaped_plain (c ∷ s) = ap (λ (t : Text). c ∷ t) (escaped_plain s)

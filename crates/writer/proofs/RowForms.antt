@@ -12,7 +12,6 @@ use Rattle.text.specs.Text.{Text, ascii}
 use Rattle.table.specs.Layout.{Row, Slices, row_at}
 use Rattle.table.specs.LongForm.{term_form, triple_form, line, lines_from}
 use Rattle.writer.specs.Writing.{Countable, Wrote}
-use Rattle.usable.specs.Lent.{bare}
 use Rattle.writer.specs.Drawn.{part_form}
 use Rattle.writer.proofs.Chains.{both, room_before, room_after, wrote_nothing}
 
@@ -25,24 +24,19 @@ braced : (g t : Text) → (g ++ ascii " { " ++ t ++ ascii " }") ++ ascii "\n" �
 braced g t = simp append_assoc
 
 module _ (s : Slices) where
-  pub term_bare : (n : ℕ) → term_form s n ≡ term_form (bare s) n
-  unfolding term_form
-  term_bare n = refl
-
   module _ (r : Row) where
-    pub triple_parts : triple_form s r ≡ part_form (bare s) r.subject ++ (part_form (bare s) r.predicate ++ (term_form (bare s) r.object ++ ascii " ."))
+    pub triple_parts : triple_form s r ≡ part_form s r.subject ++ (part_form s r.predicate ++ (term_form s r.object ++ ascii " ."))
     unfolding triple_form
     triple_parts =
         three (term_form s r.subject) (term_form s r.predicate) (term_form s r.object)
-        ∙ rw (term_bare r.subject, term_bare r.predicate, term_bare r.object)
 
     pub line_default : r.graph ≡ 0 → line s r ≡ triple_form s r ++ ascii "\n"
     unfolding line
     line_default e = rw (eq-eqb r.graph 0 e)
 
-    pub line_graph : (r.graph ≡ 0 → ⊥) → line s r ≡ part_form (bare s) r.graph ++ (ascii "{ " ++ (triple_form s r ++ ascii " }\n"))
+    pub line_graph : (r.graph ≡ 0 → ⊥) → line s r ≡ part_form s r.graph ++ (ascii "{ " ++ (triple_form s r ++ ascii " }\n"))
     unfolding line
-    line_graph h = rw (ne_eqb r.graph 0 h) (braced (term_form s r.graph) (triple_form s r) ∙ rw (term_bare r.graph))
+    line_graph h = rw (ne_eqb r.graph 0 h) (braced (term_form s r.graph) (triple_form s r))
 
   -- ---- Lines one after the other
 

@@ -5,8 +5,8 @@ use Rattle.table.specs.Layout.{Slices, iri_kind, blank_kind, literal_kind, row_a
 use Rattle.table.specs.Usable.{the, text, tag, has_kind}
 use Rattle.table.specs.LongForm.{decimal, string_form, type_form, term_form, line}
 use Rattle.writer.specs.Writing.{Countable}
-use Rattle.usable.specs.Lent.{lent, Stands, RowStands, SpanIn}
-pub use Rattle.usable.specs.Lent.{drawn, bare, NoResource}
+use Rattle.usable.specs.Lent.{Stands, RowStands, SpanIn}
+pub use Rattle.usable.specs.Lent.{NoResource}
 
 abbrev pub tag_form : Text → Text
 tag_form t = ascii "@" ++ t
@@ -35,10 +35,10 @@ part_form s n = term_form s n ++ ascii " "
 -- A row that can be written.
 pub record WritableRow (s : Slices) (i : ℕ) : Type 0 where
   pub stands : RowStands s.rows i
-  pub graph : ((row_at s.rows i).graph ≡ 0 → ⊥) → Writable (bare s) (row_at s.rows i).graph
-  pub subject : Writable (bare s) (row_at s.rows i).subject
-  pub predicate : Writable (bare s) (row_at s.rows i).predicate
-  pub object : Writable (bare s) (row_at s.rows i).object
+  pub graph : ((row_at s.rows i).graph ≡ 0 → ⊥) → Writable s (row_at s.rows i).graph
+  pub subject : Writable s (row_at s.rows i).subject
+  pub predicate : Writable s (row_at s.rows i).predicate
+  pub object : Writable s (row_at s.rows i).object
 
 -- The first rows can be written; each of their lines is so short that its length is a number that the code can hold.
 abbrev pub Ready : Slices → ℕ → Type 0

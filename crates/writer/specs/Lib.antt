@@ -1,4 +1,3 @@
 -- What the writer's routines do to the output.
 pub mod Writing
 pub mod Drawn
-pub mod Answer

@@ -1,10 +1,10 @@
 -- Writing a text from a place of the output on.
-use Rattle.std.specs.Prelude.{◌≡◌, [], ◌∷◌, ◌++◌, ℕ, ◌+◌, ◌/◌, ◌%◌, ◌^◌, ◌<◌, length}
+use Rattle.std.specs.Prelude.{◌≡◌, [], ◌∷◌, ◌++◌, ℕ, ◌+◌, ◌/◌, ◌%◌, ◌^◌, ◌<◌, length, Option, Some, None}
 use Rattle.text.specs.Text.{Text, ascii, cond, is}
 use Rattle.text.specs.Slice.{over_at}
 use Rattle.table.specs.LongForm.{hex_digit, iri_byte, string_byte}
 use Rattle.writer.specs.declared.bytes.Rule.{Rule}
-use Rattle.writer.specs.declared.bytes.Rule.TheVariants.{Plain, Iri, Literal}
+use Rattle.writer.specs.declared.bytes.Rule.TheVariants.{Iri, Literal}
 
 -- The place behind the text is a number that the code can hold.
 pub record Countable (at : ℕ) (s : Text) : Type 0 where
@@ -19,11 +19,10 @@ pub record Wrote (at : ℕ) (s x y : Text) (r : ℕ) : Type 0 where
 abbrev pub code_form : ℕ → Text
 code_form c = ascii "\\u00" ++ hex_digit (c / 16) ∷ hex_digit (c % 16) ∷ []
 
--- What stands behind the backslash; 0 where there is none.
-unfoldable pub escape_of : ℕ → ℕ
-escape_of c = cond (is "\"" c) 34 (cond (is "\\" c) 92 (cond (is "\n" c) 110 (cond (is "\r" c) 114 0)))
+-- What stands behind the backslash, where there is one.
+unfoldable pub escape_of : ℕ → Option ℕ
+escape_of c = cond (is "\"" c) (Some 34) (cond (is "\\" c) (Some 92) (cond (is "\n" c) (Some 110) (cond (is "\r" c) (Some 114) None)))
 
 unfoldable pub byte_form : Rule → ℕ → Text
-byte_form Plain c = c ∷ []
 byte_form Iri c = iri_byte c
 byte_form Literal c = string_byte c

@@ -6,10 +6,9 @@ ghost use Rattle.writer.specs.Writing.{Countable, Wrote, code_form, escape_of, b
 
 use characters::bytes::is_iri;
 
-// How a text is escaped: not at all; "the characters IRIREF forbids as \u and four capital hex digits"; "only " \ LF CR escaped".
+// How a text is escaped: "the characters IRIREF forbids as \u and four capital hex digits"; "only " \ LF CR escaped".
 #[derive(Clone, Copy)]
-pub enum Rule {
-    Plain,
+enum Rule {
     Iri,
     Literal,
 }
@@ -25,31 +24,24 @@ pub fn put(out: &mut [u8], at: usize, c: u8) -> usize
     at + 1
 }
 
-// Two bytes, and three.
-pub fn put_two(out: &mut [u8], at: usize, c: u8, d: u8) -> usize
-    requires { Countable at (c ∷ d ∷ []) }
-    ensures { Wrote at (c ∷ d ∷ []) out.old out.new result }
+// Writes the text as it is.
+pub fn put_all(s: &[u8], out: &mut [u8], at: usize) -> usize
+    requires { Countable at s.now }
+    ensures { Wrote at s.now out.old out.new result }
 {
-    let next = put(out, at, c);
-    put(out, next, d)
-}
-
-pub fn put_three(out: &mut [u8], at: usize, c: u8, d: u8, e: u8) -> usize
-    requires { Countable at (c ∷ d ∷ e ∷ []) }
-    ensures { Wrote at (c ∷ d ∷ e ∷ []) out.old out.new result }
-{
-    let next = put_two(out, at, c, d);
-    put(out, next, e)
+    let mut end = at;
+    for c in s {
+        end = put(out, end, *c);
+    }
+    end
 }
 
 // Whether IRIREF forbids the byte: it has bytes below 128 of its set, and all from there on.
+#[tactic(auto, using(crate::proofs::Escapes::forbidden_told))]
 fn is_forbidden(c: u8) -> bool
     ensures { result ≡ forbidden c }
 {
-    if is_iri(c) {
-        return false;
-    }
-    c < 128
+    !is_iri(c) && c < 128
 }
 
 // A hex digit, capital.
@@ -57,10 +49,7 @@ fn hex(d: u8) -> u8
     requires { d < 16 }
     ensures { result ≡ hex_digit d }
 {
-    if d < 10 {
-        return 48 + d;
-    }
-    55 + d
+    if d < 10 { b'0' + d } else { b'A' - 10 + d }
 }
 
 // \u00 and two digits.
@@ -68,9 +57,11 @@ fn put_code(out: &mut [u8], at: usize, c: u8) -> usize
     requires { Countable at (code_form c) }
     ensures { Wrote at (code_form c) out.old out.new result }
 {
-    let zeros = put_two(out, at, b'\\', b'u');
-    let digits = put_two(out, zeros, b'0', b'0');
-    put_two(out, digits, hex(c / 16), hex(c % 16))
+    put_all(
+        &[b'\\', b'u', b'0', b'0', hex(c / 16), hex(c % 16)],
+        out,
+        at,
+    )
 }
 
 // A byte of an IRI, and of a literal, with its escape.
@@ -84,16 +75,17 @@ fn put_iri_byte(out: &mut [u8], at: usize, c: u8) -> usize
     put(out, at, c)
 }
 
-// What stands behind the backslash for a byte of a literal; 0 where it is written as it is.
-fn escape_of(c: u8) -> u8
+// What stands behind the backslash for a byte of a literal that is not written as it is.
+#[tactic(auto, unfolding(crate::specs::Writing::escape_of))]
+fn escape_of(c: u8) -> Option<u8>
     ensures { result ≡ escape_of c }
 {
     match c {
-        b'"' => b'"',
-        b'\\' => b'\\',
-        b'\n' => b'n',
-        b'\r' => b'r',
-        _ => 0,
+        b'"' => Some(b'"'),
+        b'\\' => Some(b'\\'),
+        b'\n' => Some(b'n'),
+        b'\r' => Some(b'r'),
+        _ => None,
     }
 }
 
@@ -101,35 +93,32 @@ fn put_string_byte(out: &mut [u8], at: usize, c: u8) -> usize
     requires { Countable at (string_byte c) }
     ensures { Wrote at (string_byte c) out.old out.new result }
 {
-    let e = escape_of(c);
-    if e == 0 {
-        return put(out, at, c);
+    match escape_of(c) {
+        Some(e) => put_all(&[b'\\', e], out, at),
+        None => put(out, at, c),
     }
-    put_two(out, at, b'\\', e)
 }
 
 // A byte by the rule.
+#[tactic(auto, unfolding(crate::specs::Writing::byte_form))]
 fn put_byte(rule: Rule, out: &mut [u8], at: usize, c: u8) -> usize
     requires { Countable at (byte_form rule c) }
     ensures { Wrote at (byte_form rule c) out.old out.new result }
 {
     match rule {
-        Rule::Plain => put(out, at, c),
         Rule::Iri => put_iri_byte(out, at, c),
         Rule::Literal => put_string_byte(out, at, c),
     }
 }
 
 // Writes the text, escaped by the rule; the place behind it.
-pub fn put_escaped(rule: Rule, s: &[u8], out: &mut [u8], at: usize) -> usize
+fn put_escaped(rule: Rule, s: &[u8], out: &mut [u8], at: usize) -> usize
     requires { Countable at (escaped (byte_form rule) s.now) }
     ensures { Wrote at (escaped (byte_form rule) s.now) out.old out.new result }
 {
     let mut end = at;
-    let mut i: usize = 0;
-    while i < s.len() {
-        end = put_byte(rule, out, end, s[i]);
-        i += 1;
+    for c in s {
+        end = put_byte(rule, out, end, *c);
     }
     end
 }
@@ -159,7 +148,7 @@ fn digit(d: usize) -> u8
     requires { d < 10 }
     ensures { result ≡ 48 + d }
 {
-    48 + d as u8
+    b'0' + d as u8
 }
 
 // Writes n in decimal digits, of which there are at most so many.

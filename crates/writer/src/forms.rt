@@ -3,13 +3,12 @@ ghost use Rattle.std.specs.Prelude.{◌≡◌};
 ghost use Rattle.text.specs.Text.{same_text};
 ghost use Rattle.dataset.specs.Terms.{xsd_string};
 ghost use Rattle.table.specs.LongForm.{type_form, term_form};
-ghost use Rattle.usable.specs.Lent.{lent};
+ghost use Rattle.usable.specs.Lent.{slices_of};
 ghost use Rattle.writer.specs.Writing.{Countable, Wrote};
 ghost use Rattle.writer.specs.Drawn.{Writable, NoResource, blank_form, tag_form, literal_form};
 
-use crate::bytes::{Rule, put, put_digits, put_escaped, put_iri, put_string, put_three, put_two};
-use table::{TermKind, TermWord};
-use usable::fields::{span_of, term_word};
+use crate::bytes::{put, put_all, put_digits, put_iri, put_string};
+use table::{Tables, TermKind, TermWord};
 
 // Whether the text is the datatype that is not written.
 fn is_xsd_string(s: &[u8]) -> bool
@@ -26,7 +25,7 @@ fn put_type(datatype: &[u8], out: &mut [u8], at: usize) -> usize
     if is_xsd_string(datatype) {
         return at;
     }
-    let next = put_two(out, at, b'^', b'^');
+    let next = put_all(b"^^", out, at);
     put_iri(datatype, out, next)
 }
 
@@ -36,7 +35,7 @@ fn put_tag(tag: &[u8], out: &mut [u8], at: usize) -> usize
     ensures { Wrote at (tag_form tag.now) out.old out.new result }
 {
     let next = put(out, at, b'@');
-    put_escaped(Rule::Plain, tag, out, next)
+    put_all(tag, out, next)
 }
 
 // "Blanks as _:b and the blank number"
@@ -44,34 +43,31 @@ fn put_blank(number: usize, out: &mut [u8], at: usize) -> usize
     requires { Countable at (blank_form number) }
     ensures { Wrote at (blank_form number) out.old out.new result }
 {
-    let next = put_three(out, at, b'_', b':', b'b');
+    let next = put_all(b"_:b", out, at);
     put_digits(10, number, out, next)
 }
 
 // Writes a literal: its text, and its datatype or its tag.
-fn put_literal(terms: &[u32], store: &[u8], n: usize, out: &mut [u8], at: usize) -> usize
-    requires { Writable (lent terms.now 0 store.now 0) n × (NoResource (lent terms.now 0 store.now 0) n × Countable at (literal_form (lent terms.now 0 store.now 0) n)) }
-    ensures { Wrote at (literal_form (lent terms.now 0 store.now 0) n) out.old out.new result }
+fn put_literal(tables: &Tables, n: usize, out: &mut [u8], at: usize) -> usize
+    requires { Writable (slices_of tables.now) n × (NoResource (slices_of tables.now) n × Countable at (literal_form (slices_of tables.now) n)) }
+    ensures { Wrote at (literal_form (slices_of tables.now) n) out.old out.new result }
 {
-    let end = put_string(span_of(terms, store, n, TermWord::START), out, at);
-    if term_word(terms, n, TermWord::KIND) == TermKind::LITERAL {
-        let d = term_word(terms, n, TermWord::FOURTH);
-        return put_type(span_of(terms, store, d, TermWord::START), out, end);
+    let end = put_string(tables.span_of(n, TermWord::START), out, at);
+    if tables.term_word(n, TermWord::KIND) == TermKind::LITERAL {
+        let d = tables.term_word(n, TermWord::FOURTH);
+        return put_type(tables.span_of(d, TermWord::START), out, end);
     }
-    put_tag(span_of(terms, store, n, TermWord::FOURTH), out, end)
+    put_tag(tables.span_of(n, TermWord::FOURTH), out, end)
 }
 
 // Writes the term n; the place behind it.
-pub fn put_term(terms: &[u32], store: &[u8], n: usize, out: &mut [u8], at: usize) -> usize
-    requires { Writable (lent terms.now 0 store.now 0) n × Countable at (term_form (lent terms.now 0 store.now 0) n) }
-    ensures { Wrote at (term_form (lent terms.now 0 store.now 0) n) out.old out.new result }
+pub fn put_term(tables: &Tables, n: usize, out: &mut [u8], at: usize) -> usize
+    requires { Writable (slices_of tables.now) n × Countable at (term_form (slices_of tables.now) n) }
+    ensures { Wrote at (term_form (slices_of tables.now) n) out.old out.new result }
 {
-    let kind = term_word(terms, n, TermWord::KIND);
-    if kind == TermKind::IRI {
-        return put_iri(span_of(terms, store, n, TermWord::START), out, at);
+    match tables.term_word(n, TermWord::KIND) {
+        TermKind::IRI => put_iri(tables.span_of(n, TermWord::START), out, at),
+        TermKind::BLANK => put_blank(tables.term_word(n, TermWord::FOURTH), out, at),
+        _ => put_literal(tables, n, out, at),
     }
-    if kind == TermKind::BLANK {
-        return put_blank(term_word(terms, n, TermWord::FOURTH), out, at);
-    }
-    put_literal(terms, store, n, out, at)
 }

@@ -1,53 +1,29 @@
 // The writer: the long form of tables, and the answers 17 and 18.
 #![tactic(auto)]
 
-pub mod bytes;
-pub mod forms;
-pub mod lines;
+mod bytes;
+mod forms;
+mod lines;
 
 ghost use Rattle.std.specs.Prelude.{◌≡◌};
 ghost use Rattle.table.specs.LongForm.{write};
-ghost use Rattle.usable.specs.Lent.{slices};
-ghost use Rattle.writer.specs.Answer.{answer};
+ghost use Rattle.table.specs.Written.{answer};
+ghost use Rattle.usable.specs.Lent.{slices_of};
 
-use limits::Answer;
-use table::wide;
+use limits::Refusal;
+use table::Tables;
 
-// The answer's number, 0, 17 or 18, and after 0 the length written.
-#[derive(Clone, Copy)]
-pub struct Written {
-    pub number: u8,
-    pub position: usize,
-}
-
-// Writes the long form of the tables over the front of out: so many rows, terms and bytes of the store.
-pub fn write_long_form(
-    rows: &[u32],
-    row_count: u32,
-    terms: &[u32],
-    term_count: u32,
-    store: &[u8],
-    store_count: u32,
-    out: &mut [u8],
-) -> Written
-    ensures { answer result out.new ≡ write (slices rows.now row_count terms.now term_count store.now store_count) out.old }
+// Writes the long form of the tables over the front of out; the length written.
+pub fn write_long_form(tables: &Tables, out: &mut [u8]) -> Result<usize, Refusal>
+    ensures { answer result out.new ≡ write (slices_of tables.now) out.old }
 {
-    if !usable::is_usable(rows, row_count, terms, term_count, store, store_count) {
-        return Written {
-            number: Answer::TABLES,
-            position: 0,
-        };
+    if !usable::is_usable(tables) {
+        return Err(Refusal::Tables);
     }
-    let count = wide(row_count);
-    if !lines::fit_lines(rows, count, terms, store, out.len()) {
-        return Written {
-            number: Answer::OUTPUT,
-            position: 0,
-        };
+    // So a line is short: its length is a number that the code can hold.
+    prove!(tables.store_count <= u32::MAX);
+    if !lines::fit_lines(tables, out.len()) {
+        return Err(Refusal::Output);
     }
-    let end = lines::put_lines(rows, count, terms, store, out);
-    Written {
-        number: Answer::ACCEPTED,
-        position: end,
-    }
+    Ok(lines::put_lines(tables, out))
 }

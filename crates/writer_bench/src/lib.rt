@@ -5,6 +5,8 @@ ghost use Rattle.std.specs.Prelude.{◌≡◌};
 ghost use Rattle.table.specs.LongForm.{write};
 ghost use Rattle.usable.specs.Lent.{slices};
 
+use table::Tables;
+
 // The length written.
 #[unsafe(no_mangle)]
 pub extern "C" fn bench_write(
@@ -18,6 +20,13 @@ pub extern "C" fn bench_write(
 ) -> usize
     ensures { result ≡ (write (slices rows.now row_count terms.now term_count store.now store_count) out.old).position }
 {
-    let w = writer::write_long_form(rows, row_count, terms, term_count, store, store_count, out);
-    w.position
+    let tables = Tables {
+        rows,
+        row_count,
+        terms,
+        term_count,
+        store,
+        store_count,
+    };
+    writer::write_long_form(&tables, out).unwrap_or(0)
 }

@@ -1,12 +1,7 @@
--- The invariant: the numbers that were passed are linked, by the keys that stood there.
-use mathlib.Core.Path.{◌≡◌}
-use Prim.Native.Nat.{◌+◌, ◌-◌, ◌≤◌}
-use lib.ListN.{length, get_or}
-use Rattle.chains.specs.Chains.{Linked}
+-- The invariant: the keys of the numbers that were passed are written.
+use Prim.Native.Nat.{◌+◌}
+use Rattle.chains.specs.Chains.{Keyed}
 use Rattle.chains.proofs.link.Given as goal
 
 abbrev pub invariant-loop-j : goal.invariant-loop-j
-invariant-loop-j l = (l.j ≤ l.n) × ((length l.chain ≡ length l.initial.chain) × Linked l.chain l.count l.n (λ k. get_or l.initial.chain (l.count + l.n + k) 0) l.j)
-
-abbrev pub decreases-loop-j : goal.decreases-loop-j
-decreases-loop-j l = l.n - l.j
+invariant-loop-j g l = Keyed l.initial.chain l.chain (l.count + l.n) (goal.F-post g l.key_of) l.j

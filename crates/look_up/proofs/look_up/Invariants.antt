@@ -1,14 +1,14 @@
--- The invariant: from the place reached on, behind the text before it, the look-up goes on as from the front.
-use Prim.Native.Nat.{◌≤◌, ◌-◌}
-use lib.Dec.{eqb}
-use lib.ListN.{length, take, drop}
+-- The invariant: what is left, behind the text before it, gives what the whole gives.
+use mathlib.Core.Path.{◌≡◌}
+use lib.ListN.{length}
 use Rattle.limits.specs.Limits.{iri_limit}
 use Rattle.look_up.specs.Code.{prior}
-use Rattle.look_up.proofs.Stops.{From}
+use Rattle.look_up.specs.Look.{look}
+use Rattle.look_up.proofs.Stops.{left}
 use Rattle.look_up.proofs.look_up.Given as goal
 
-abbrev pub invariant-loop-at : goal.invariant-loop-at
-invariant-loop-at l = (l.before ≤ l.at) × ((l.at ≤ length l.index) × From iri_limit l.address l.index (prior (eqb l.at 0) (take (l.at - l.before) (drop l.before l.index))) l.at)
+abbrev pub invariant-loop-before : goal.invariant-loop-before
+invariant-loop-before l = look iri_limit l.address l.index ≡ left iri_limit l.address (prior l.before) l.rest
 
-abbrev pub decreases-loop-at : goal.decreases-loop-at
-decreases-loop-at l = length l.index - l.at
+abbrev pub decreases-loop-before : goal.decreases-loop-before
+decreases-loop-before l = length l.rest

@@ -1,32 +1,36 @@
-use Rattle.std.proofs.Common.{OnOk, arith, subst}
+use Rattle.std.proofs.Common.{◌≡◌, OnOk, Ok, Err, sym, ap, ◌∙◌, subst, length, length-take-le}
 use Rattle.std.specs.Io.KnownBytes.{Appends}
-use Rattle.usable.specs.Lent.{slices}
-use Rattle.writer.specs.Answer.{answer}
+use Rattle.table.specs.Written.{answer}
+use Rattle.table.specs.LongForm.{write}
+use Rattle.usable.specs.Lent.{slices_of}
+use Rattle.printing.specs.Printed.{refusal}
 use Rattle.printing.proofs.Tables.{refusal_printed, form_printed, form_within}
 use Rattle.printing.proofs.write_rows.Goals as goal
 
-pub returns-then-w-ne0 : goal.returns-then-w-ne0
-returns-then-w-ne0 g c =
-    let a = c.args in
-    let s = slices a.rows.now a.row_count a.terms.now a.term_count a.store.now a.store_count in
-    let w = answer c.write_long_form-w.result c.write_long_form-w.new.out in
+pub slice_bounds-write_all-end : goal.slice_bounds-write_all-end
+slice_bounds-write_all-end g c =
+    let out = c.write_long_form.new.out in
+    let e = ap (λ r. answer r out) (sym c.in-Ok.is) ∙ c.write_long_form.ensures in
+    form_within (slices_of c.args.tables.now) c.args.lines.now out c.in-Ok.n e
+
+pub slice_bounds-write_all-end-in-Ok : goal.slice_bounds-write_all-end-in-Ok
+slice_bounds-write_all-end-in-Ok g c =
+    let out = c.write_long_form.new.out in
+    let e = ap (λ r. answer r out) (sym c.in-Ok.is) ∙ c.write_long_form.ensures in
+    sym (length-take-le c.in-Ok.n out (form_within (slices_of c.args.tables.now) c.args.lines.now out c.in-Ok.n e))
+
+pub returns-in-Ok : goal.returns-in-Ok
+returns-in-Ok g c =
+    let out = c.write_long_form.new.out in
+    let e = ap (λ r. answer r out) (sym c.in-Ok.is) ∙ c.write_long_form.ensures in
+    subst (λ t. OnOk c.write_all.result (Appends (g.W.Write.contents c.args.out.now) (g.W.Write.contents c.write_all.new.self) t))
+    (form_printed (slices_of c.args.tables.now) c.args.lines.now out c.in-Ok.n e)
+    c.write_all.ensures.bytes
+
+pub returns-in-Err : goal.returns-in-Err
+returns-in-Err g c =
+    let out = c.write_long_form.new.out in
+    let e = ap (λ r. answer r out) (sym c.in-Err.is) ∙ c.write_long_form.ensures in
     subst (λ t. OnOk c.refused.result (Appends (g.W.Write.contents c.args.out.now) (g.W.Write.contents c.refused.new.out) t))
-    (refusal_printed s a.lines.now w c.write_long_form-w.ensures c.if-w-ne0.true)
+    (ap (λ n. refusal n 0) c.from.ensures ∙ refusal_printed (slices_of c.args.tables.now) c.args.lines.now out c.in-Err.refusal e)
     c.refused.ensures
-
-pub returns-in_ok-write_all : goal.returns-in_ok-write_all
-returns-in_ok-write_all g c =
-    let a = c.args in
-    let s = slices a.rows.now a.row_count a.terms.now a.term_count a.store.now a.store_count in
-    let w = answer c.write_long_form-w.result c.write_long_form-w.new.out in
-    subst (Appends (g.W.Write.contents c.args.out.now) (g.W.Write.contents c.write_all.new.self))
-    (form_printed s a.lines.now w c.write_long_form-w.ensures c.if-w-ne0.false)
-    c.in_ok-write_all.ensures.bytes
-
-pub returns-else-k-lines : goal.returns-else-k-lines
-returns-else-k-lines g c =
-    let a = c.args in
-    let s = slices a.rows.now a.row_count a.terms.now a.term_count a.store.now a.store_count in
-    let w = answer c.write_long_form-w.result c.write_long_form-w.new.out in
-    let k = form_within s a.lines.now w c.write_long_form-w.ensures c.if-w-ne0.false in
-    absurd (omega arith)

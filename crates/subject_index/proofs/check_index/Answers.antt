@@ -1,17 +1,13 @@
 use mathlib.Core.Path.{sym, ◌∙◌}
-use Rattle.usable.specs.Lent.{slices}
+use Rattle.usable.specs.Lent.{slices_of}
 use Rattle.subject_index.proofs.Checking.{ready, check_bad, check_good}
-use mathlib.Core.Path.{refl}
 use Rattle.subject_index.proofs.check_index.Goals as goal
 
 pub returns-then-not-is_usable : goal.returns-then-not-is_usable
-returns-then-not-is_usable c = let s = slices c.args.rows.now c.args.row_count c.args.terms.now c.args.term_count c.args.store.now c.args.store_count in
-    check_bad s c.args.row_count refl c.args.bytes.now (sym c.is_usable.ensures ∙ c.if-not-is_usable.true)
+returns-then-not-is_usable c = check_bad (slices_of c.args.tables.now) c.args.bytes.now (sym c.is_usable.ensures ∙ c.if-not-is_usable.true)
 
-pub is_index-yes-requires : goal.is_index-yes-requires
-is_index-yes-requires c = let s = slices c.args.rows.now c.args.row_count c.args.terms.now c.args.term_count c.args.store.now c.args.store_count in
-    ready s _ c.wide.ensures (sym c.is_usable.ensures ∙ c.if-not-is_usable.false)
+pub is_index-requires : goal.is_index-requires
+is_index-requires c = ready (slices_of c.args.tables.now) (sym c.is_usable.ensures ∙ c.if-not-is_usable.false)
 
 pub returns : goal.returns
-returns c = let s = slices c.args.rows.now c.args.row_count c.args.terms.now c.args.term_count c.args.store.now c.args.store_count in
-    check_good s _ c.wide.ensures c.args.bytes.now _ (sym c.is_usable.ensures ∙ c.if-not-is_usable.false) c.is_index-yes.ensures
+returns c = check_good (slices_of c.args.tables.now) c.args.bytes.now _ (sym c.is_usable.ensures ∙ c.if-not-is_usable.false) c.is_index.ensures

@@ -1,53 +1,67 @@
-use mathlib.Core.Path.{sym, ◌∙◌}
-use native.Mathlib.Omega.{arith}
-use Rattle.usable.specs.Lent.{lent, drawn}
+use Rattle.std.proofs.Common.{◌≡◌, None, sym, ◌∙◌, subst, rules}
+use Rattle.usable.specs.Lent.{slices_of}
 use Rattle.subject_index.specs.Index.{subject}
-use Rattle.subject_index.specs.Code.{named}
-use Rattle.subject_index.proofs.Choosing.{subject_named, number_known, no_subject, not_above, is_nearer, some_best, not_nearer, again}
+use Rattle.subject_index.specs.Code.{named, Chooses}
+use Rattle.subject_index.proofs.Choosing.{subject_none, subject_some, number_known, no_subject, not_above, first_one, is_nearer, not_nearer, again}
 use Rattle.subject_index.proofs.closer.Goals as goal
 
-pub subject_number-n-requires : goal.subject_number-n-requires
-subject_number-n-requires c = (c.requires.0.0.stands, c.requires.0.0.subject.stands)
-
-pub returns-then-n-eq0 : goal.returns-then-n-eq0
-returns-then-n-eq0 c = let s = lent c.args.terms.now 0 c.args.store.now 0 in
-    let row = subject_named c.args.rows.now c.args.terms.now c.args.i c.args.store.now c.requires.0.0 _ c.subject_number-n.ensures in
-    (no_subject s (subject (drawn c.args.rows.now c.args.terms.now c.args.store.now)) (named s c.args.before) c.args.i _ c.args.best c.requires.1.0 row c.if-n-eq0.true, omega (arith, c.requires.1.1))
+pub returns-in_default : goal.returns-in_default
+returns-in_default c =
+    let s = slices_of c.args.tables.now in
+    let z : c.subject_number.result ≡ None = search rules in
+    no_subject s (subject s) (named s c.args.before) c.args.i c.args.best c.requires.1 (subject_none s c.args.i c.requires.0.0 (sym c.subject_number.ensures ∙ z))
 
 pub is_above-requires : goal.is_above-requires
-is_above-requires c = (c.requires.0.1, number_known c.args.rows.now c.args.terms.now c.args.i c.args.store.now c.requires.0.0 _ c.subject_number-n.ensures c.if-n-eq0.false)
+is_above-requires c =
+    let s = slices_of c.args.tables.now in
+    (c.requires.0.1, number_known s c.args.i c.requires.0.0 c.in-Some.number (sym c.subject_number.ensures ∙ c.in-Some.is))
 
 pub returns-then-not-is_above : goal.returns-then-not-is_above
-returns-then-not-is_above c = let s = lent c.args.terms.now 0 c.args.store.now 0 in
-    let row = subject_named c.args.rows.now c.args.terms.now c.args.i c.args.store.now c.requires.0.0 _ c.subject_number-n.ensures in
-    (not_above s (subject (drawn c.args.rows.now c.args.terms.now c.args.store.now)) (named s c.args.before) c.args.i _ c.args.best c.requires.1.0 row c.if-n-eq0.false (sym c.is_above.ensures ∙ c.if-not-is_above.true), omega (arith, c.requires.1.1))
+returns-then-not-is_above c =
+    let s = slices_of c.args.tables.now in
+    let e = subject_some s c.args.i c.requires.0.0 c.in-Some.number (sym c.subject_number.ensures ∙ c.in-Some.is) in
+    not_above s (subject s) (named s c.args.before) c.args.i c.in-Some.number e c.args.best c.requires.1 (sym c.is_above.ensures ∙ c.if-not-is_above.true)
 
-pub is_below-requires : goal.is_below-requires
-is_below-requires c = (c.requires.1.0.known, number_known c.args.rows.now c.args.terms.now c.args.i c.args.store.now c.requires.0.0 _ c.subject_number-n.ensures c.if-n-eq0.false)
+pub returns-in_default-best : goal.returns-in_default-best
+returns-in_default-best c =
+    let s = slices_of c.args.tables.now in
+    let got = sym c.subject_number.ensures ∙ c.in-Some.is in
+    let e = subject_some s c.args.i c.requires.0.0 c.in-Some.number got in
+    let z : c.args.best ≡ None = search rules in
+    first_one s (subject s) (named s c.args.before) c.args.i c.in-Some.number e (sym c.is_above.ensures ∙ c.if-not-is_above.false)
+    (subst (Chooses s (subject s) (named s c.args.before) c.args.i) z c.requires.1) (number_known s c.args.i c.requires.0.0 c.in-Some.number got)
 
-pub returns-then-is_below : goal.returns-then-is_below
-returns-then-is_below c = let s = lent c.args.terms.now 0 c.args.store.now 0 in
-    let row = subject_named c.args.rows.now c.args.terms.now c.args.i c.args.store.now c.requires.0.0 _ c.subject_number-n.ensures in
-    let known = number_known c.args.rows.now c.args.terms.now c.args.i c.args.store.now c.requires.0.0 _ c.subject_number-n.ensures in
-    (is_nearer s (subject (drawn c.args.rows.now c.args.terms.now c.args.store.now)) (named s c.args.before) c.args.i _ c.args.best c.requires.1.0 row c.if-n-eq0.false (sym c.is_above.ensures ∙ c.if-not-is_above.false) known (sym c.is_below.ensures ∙ c.if-is_below.true), omega arith)
+pub text_of-text-requires : goal.text_of-text-requires
+text_of-text-requires c = number_known (slices_of c.args.tables.now) c.args.i c.requires.0.0 c.in-Some.number (sym c.subject_number.ensures ∙ c.in-Some.is)
 
-pub text_of-requires : goal.text_of-requires
-text_of-requires c = number_known c.args.rows.now c.args.terms.now c.args.i c.args.store.now c.requires.0.0 _ c.subject_number-n.ensures c.if-n-eq0.false
+pub text_of-known-requires : goal.text_of-known-requires
+text_of-known-requires c =
+    let s = slices_of c.args.tables.now in
+    (subst (Chooses s (subject s) (named s c.args.before) c.args.i) c.in-Some-best.is c.requires.1).known
 
-pub text_of-requires-2 : goal.text_of-requires-2
-text_of-requires-2 c = let s = lent c.args.terms.now 0 c.args.store.now 0 in
-    let row = subject_named c.args.rows.now c.args.terms.now c.args.i c.args.store.now c.requires.0.0 _ c.subject_number-n.ensures in
-    c.requires.1.0.known (some_best s (subject (drawn c.args.rows.now c.args.terms.now c.args.store.now)) (named s c.args.before) c.args.i _ c.args.best c.requires.1.0 row c.if-n-eq0.false (sym c.is_above.ensures ∙ c.if-not-is_above.false) (sym c.is_below.ensures ∙ c.if-is_below.false))
+pub returns-then-smaller : goal.returns-then-smaller
+returns-then-smaller c =
+    let s = slices_of c.args.tables.now in
+    let got = sym c.subject_number.ensures ∙ c.in-Some.is in
+    let e = subject_some s c.args.i c.requires.0.0 c.in-Some.number got in
+    is_nearer s (subject s) (named s c.args.before) c.args.i c.in-Some.number e (sym c.is_above.ensures ∙ c.if-not-is_above.false)
+    c.in-Some-best.best (subst (Chooses s (subject s) (named s c.args.before) c.args.i) c.in-Some-best.is c.requires.1) (number_known s c.args.i c.requires.0.0 c.in-Some.number got)
+    (rw (c.text_of-text.ensures, c.text_of-known.ensures) at (sym c.smaller.ensures ∙ c.if-smaller.true))
 
 pub returns-then-not-same : goal.returns-then-not-same
-returns-then-not-same c = let s = lent c.args.terms.now 0 c.args.store.now 0 in
-    let row = subject_named c.args.rows.now c.args.terms.now c.args.i c.args.store.now c.requires.0.0 _ c.subject_number-n.ensures in
-    (not_nearer s (subject (drawn c.args.rows.now c.args.terms.now c.args.store.now)) (named s c.args.before) c.args.i _ c.args.best c.requires.1.0 row c.if-n-eq0.false (sym c.is_above.ensures ∙ c.if-not-is_above.false) (sym c.is_below.ensures ∙ c.if-is_below.false) (sym (c.same.ensures ∙ rw (c.text_of.ensures, c.text_of-2.ensures)) ∙ c.if-not-same.true), omega (arith, c.requires.1.1))
-
-pub overflow_add-result : goal.overflow_add-result
-overflow_add-result c = omega (arith, c.requires.1.1)
+returns-then-not-same c =
+    let s = slices_of c.args.tables.now in
+    let e = subject_some s c.args.i c.requires.0.0 c.in-Some.number (sym c.subject_number.ensures ∙ c.in-Some.is) in
+    not_nearer s (subject s) (named s c.args.before) c.args.i c.in-Some.number e (sym c.is_above.ensures ∙ c.if-not-is_above.false)
+    c.in-Some-best.best (subst (Chooses s (subject s) (named s c.args.before) c.args.i) c.in-Some-best.is c.requires.1)
+    (rw (c.text_of-text.ensures, c.text_of-known.ensures) at (sym c.smaller.ensures ∙ c.if-smaller.false))
+    (rw (c.text_of-text.ensures, c.text_of-known.ensures) at (sym c.same.ensures ∙ c.if-not-same.true))
 
 pub returns : goal.returns
-returns c = let s = lent c.args.terms.now 0 c.args.store.now 0 in
-    let row = subject_named c.args.rows.now c.args.terms.now c.args.i c.args.store.now c.requires.0.0 _ c.subject_number-n.ensures in
-    (again s (subject (drawn c.args.rows.now c.args.terms.now c.args.store.now)) (named s c.args.before) c.args.i _ c.args.best c.requires.1.0 row c.if-n-eq0.false (sym c.is_above.ensures ∙ c.if-not-is_above.false) (sym c.is_below.ensures ∙ c.if-is_below.false) (sym (c.same.ensures ∙ rw (c.text_of.ensures, c.text_of-2.ensures)) ∙ c.if-not-same.false), omega (arith, c.requires.1.1))
+returns c =
+    let s = slices_of c.args.tables.now in
+    let e = subject_some s c.args.i c.requires.0.0 c.in-Some.number (sym c.subject_number.ensures ∙ c.in-Some.is) in
+    again s (subject s) (named s c.args.before) c.args.i c.in-Some.number e (sym c.is_above.ensures ∙ c.if-not-is_above.false)
+    c.in-Some-best.best (subst (Chooses s (subject s) (named s c.args.before) c.args.i) c.in-Some-best.is c.requires.1)
+    (rw (c.text_of-text.ensures, c.text_of-known.ensures) at (sym c.smaller.ensures ∙ c.if-smaller.false))
+    (rw (c.text_of-text.ensures, c.text_of-known.ensures) at (sym c.same.ensures ∙ c.if-not-same.false))

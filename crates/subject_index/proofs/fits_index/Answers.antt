@@ -1,45 +1,54 @@
+use Rattle.std.proofs.Common.{◌≡◌, None, subst, rules}
 use native.Mathlib.Omega.{arith}
-use Rattle.usable.specs.Lent.{lent, drawn}
+use Rattle.usable.specs.Lent.{slices_of}
 use Rattle.subject_index.specs.Index.{subject}
-use Rattle.subject_index.specs.Code.{named}
-use Rattle.subject_index.proofs.Choosing.{known_none}
+use Rattle.subject_index.specs.Code.{named, Chooses}
 use Rattle.subject_index.proofs.Building.{length_start, fits_end, fits_head, fits_not, length_more}
 use Rattle.subject_index.proofs.fits_index.Goals as goal
 
-pub loop-count-init : goal.loop-count-init
-loop-count-init c = let s = lent c.args.terms.now 0 c.args.store.now 0 in
-    let f = subject (drawn c.args.rows.now c.args.terms.now c.args.store.now) in
-    (omega arith, (known_none s, length_start s f c.args.count))
-
-pub next_subject-c-requires : goal.next_subject-c-requires
-next_subject-c-requires c = (c.requires, c.loop-count.invariant.1.0)
-
-pub returns-then-n-eq0 : goal.returns-then-n-eq0
-returns-then-n-eq0 c = let s = lent c.args.terms.now 0 c.args.store.now 0 in
-    let f = subject (drawn c.args.rows.now c.args.terms.now c.args.store.now) in
-    let p = named s c.loop-count.before in
-    fits_end s f c.args.count p c.next_subject-c.result c.next_subject-c.ensures c.loop-count.used c.loop-count.invariant.1.1 c.args.room c.loop-count.invariant.0 c.if-n-eq0.true
-
-pub overflow_sub-left : goal.overflow_sub-left
-overflow_sub-left c = c.loop-count.invariant.0
+pub loop-c-init : goal.loop-c-init
+loop-c-init c =
+    let s = slices_of c.args.tables.now in
+    let f = subject s in
+    (omega arith, (tt, length_start s f c.args.tables.now.row_count))
 
 pub returns-then-left-lt-SIZE : goal.returns-then-left-lt-SIZE
-returns-then-left-lt-SIZE c = let s = lent c.args.terms.now 0 c.args.store.now 0 in
-    let f = subject (drawn c.args.rows.now c.args.terms.now c.args.store.now) in
-    let p = named s c.loop-count.before in
-    fits_head s f c.args.count p c.next_subject-c.result c.next_subject-c.ensures c.loop-count.used c.loop-count.invariant.1.1 c.if-n-eq0.false c.args.room (omega arith)
+returns-then-left-lt-SIZE c =
+    let s = slices_of c.args.tables.now in
+    let f = subject s in
+    let p = named s c.loop-c.before in
+    let C = subst (Chooses s f p c.args.tables.now.row_count) c.in-Some.is c.next_subject.ensures in
+    fits_head s f c.args.tables.now.row_count p c.in-Some.c C c.loop-c.used c.loop-c.invariant.1.1 c.args.room (omega arith)
 
 pub text_of-size-requires : goal.text_of-size-requires
-text_of-size-requires c = c.next_subject-c.ensures.known c.if-n-eq0.false
+text_of-size-requires c =
+    let s = slices_of c.args.tables.now in
+    let f = subject s in
+    let p = named s c.loop-c.before in
+    let C = subst (Chooses s f p c.args.tables.now.row_count) c.in-Some.is c.next_subject.ensures in
+    C.known
 
 pub returns-then-left-size : goal.returns-then-left-size
-returns-then-left-size c = let s = lent c.args.terms.now 0 c.args.store.now 0 in
-    let f = subject (drawn c.args.rows.now c.args.terms.now c.args.store.now) in
-    let p = named s c.loop-count.before in
-    fits_not s f c.args.count p c.next_subject-c.result c.next_subject-c.ensures c.loop-count.used c.loop-count.invariant.1.1 c.if-n-eq0.false _ c.text_of-size.ensures c.args.room (omega arith)
+returns-then-left-size c =
+    let s = slices_of c.args.tables.now in
+    let f = subject s in
+    let p = named s c.loop-c.before in
+    let C = subst (Chooses s f p c.args.tables.now.row_count) c.in-Some.is c.next_subject.ensures in
+    fits_not s f c.args.tables.now.row_count p c.in-Some.c C c.loop-c.used c.loop-c.invariant.1.1 _ c.text_of-size.ensures c.args.room (omega arith)
 
-pub loop-count-preserved : goal.loop-count-preserved
-loop-count-preserved c = let s = lent c.args.terms.now 0 c.args.store.now 0 in
-    let f = subject (drawn c.args.rows.now c.args.terms.now c.args.store.now) in
-    let p = named s c.loop-count.before in
-    (omega arith, (c.next_subject-c.ensures.known, length_more s f c.args.count p c.next_subject-c.result c.next_subject-c.ensures c.loop-count.used c.loop-count.invariant.1.1 c.if-n-eq0.false _ c.text_of-size.ensures))
+pub loop-c-preserved : goal.loop-c-preserved
+loop-c-preserved c =
+    let s = slices_of c.args.tables.now in
+    let f = subject s in
+    let p = named s c.loop-c.before in
+    let C = subst (Chooses s f p c.args.tables.now.row_count) c.in-Some.is c.next_subject.ensures in
+    (omega arith, (C.known, length_more s f c.args.tables.now.row_count p c.in-Some.c C c.loop-c.used c.loop-c.invariant.1.1 _ c.text_of-size.ensures))
+
+pub returns : goal.returns
+returns c =
+    let s = slices_of c.args.tables.now in
+    let f = subject s in
+    let p = named s c.loop-c.before in
+    let z : c.next_subject.result ≡ None = search rules in
+    let C = subst (Chooses s f p c.args.tables.now.row_count) z c.next_subject.ensures in
+    fits_end s f c.args.tables.now.row_count p C c.loop-c.used c.loop-c.invariant.1.1 c.args.room c.loop-c.invariant.0

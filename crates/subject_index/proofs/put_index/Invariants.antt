@@ -3,14 +3,14 @@ use mathlib.Core.Path.{◌≡◌}
 use Prim.Native.Nat.{◌+◌, ◌-◌}
 use lib.ListN.{length}
 use Rattle.text.specs.Slice.{over, over_at}
-use Rattle.usable.specs.Lent.{lent, drawn}
+use Rattle.usable.specs.Lent.{slices_of}
 use Rattle.subject_index.specs.Index.{index_of, subject}
 use Rattle.subject_index.specs.Code.{named, Known}
 use Rattle.subject_index.proofs.Checking.{left}
 use Rattle.subject_index.proofs.put_index.Given as goal
 
 abbrev pub invariant-loop-c : goal.invariant-loop-c
-invariant-loop-c l = (length l.out ≡ length l.initial.out) × (Known (lent l.terms 0 l.store 0) l.before × ((length (index_of (subject (drawn l.rows l.terms l.store)) l.count) ≡ l.at + length (left (subject (drawn l.rows l.terms l.store)) l.count (named (lent l.terms 0 l.store 0) l.before))) × (over (index_of (subject (drawn l.rows l.terms l.store)) l.count) l.initial.out ≡ over_at l.at (left (subject (drawn l.rows l.terms l.store)) l.count (named (lent l.terms 0 l.store 0) l.before)) l.out)))
+invariant-loop-c l = (length l.out ≡ length l.initial.out) × (Known (slices_of l.tables) l.before × ((length (index_of (subject (slices_of l.tables)) l.tables.row_count) ≡ l.at + length (left (subject (slices_of l.tables)) l.tables.row_count (named (slices_of l.tables) l.before))) × (over (index_of (subject (slices_of l.tables)) l.tables.row_count) l.initial.out ≡ over_at l.at (left (subject (slices_of l.tables)) l.tables.row_count (named (slices_of l.tables) l.before)) l.out)))
 
 abbrev pub decreases-loop-c : goal.decreases-loop-c
 decreases-loop-c l = length l.out - l.at

@@ -1,18 +1,19 @@
+use mathlib.Core.Path.{ap, ◌∙◌}
 use Prim.Native.Nat.{◌+◌}
 use native.Mathlib.Nat.{mod-lt}
 use native.Mathlib.Omega.{arith}
 use Rattle.table.specs.Layout.{word_limit}
-use Rattle.comparison.proofs.RowKeys.{left_key, own_key, right_key}
+use Rattle.chains.specs.Chains.{behind}
+use Rattle.comparison.proofs.RowKeys.{left_key, right_key}
 use Rattle.comparison.proofs.keys.number_key.Goals as goal
-
-pub partner-found-requires : goal.partner-found-requires
-partner-found-requires c = c.requires.0
-
-pub returns-then-found-ne0 : goal.returns-then-found-ne0
-returns-then-found-ne0 c = (left_key c.args.left c.args.pairing.now c.args.m c.partner-found.result c.if-left.true c.partner-found.ensures.0 c.if-found-ne0.true, mod-lt c.partner-found.result {m = word_limit} (omega arith))
-
-pub returns-then-left : goal.returns-then-left
-returns-then-left c = (own_key c.args.left c.args.pairing.now c.args.m c.partner-found.result c.if-left.true c.partner-found.ensures.0 c.if-found-ne0.false, mod-lt (c.args.m + 1) {m = word_limit} (omega arith))
+use Rattle.comparison.proofs.keys.number_key.Goals.{in-Left, in-Right}
 
 pub returns : goal.returns
-returns c = (right_key c.args.left c.args.pairing.now c.args.m c.if-left.false, mod-lt (c.args.m + 1) {m = word_limit} (omega arith))
+returns c =
+    let p = c.args.pairing.now.words.now in (
+      elim c.match-edition.branch [
+        | in-Left w ↦ left_key c.args.edition p c.args.m c.match-edition.paired c.unwrap_or.result c.unwrap_or.ensures w.in-Left.is (ap behind w.paired-is ∙ w.partner-paired.ensures.0)
+        | in-Right w ↦ right_key c.args.edition p c.args.m c.match-edition.paired c.unwrap_or.result c.unwrap_or.ensures w.in-Right.is w.paired-is
+      ],
+      mod-lt (c.unwrap_or.result + 1) {m = word_limit} (omega arith),
+    )

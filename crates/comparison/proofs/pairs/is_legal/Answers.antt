@@ -1,57 +1,52 @@
-use mathlib.Core.Path.{refl, sym, ◌∙◌}
-use mathlib.Core.List.{[]}
+use mathlib.Core.Path.{◌≡◌, refl, sym, ◌∙◌}
+use Prim.Native.Nat.{◌*◌}
 use native.Mathlib.Omega.{arith}
-use Rattle.usable.specs.Lent.{lent}
-use Rattle.comparison.proofs.Partners.{side_in, terms_in, legal_odd, left_twice, right_twice, left_missing, right_left}
+use lib.ListN.{length}
+use Rattle.usable.specs.Lent.{slices_of}
+use Rattle.comparison.specs.Comparison.{pairs}
+use Rattle.comparison.proofs.Partners.{legal_odd, left_twice, right_twice, left_missing, right_left}
 use Rattle.comparison.proofs.pairs.is_legal.Goals as goal
 
-pub returns-then-count-pairing : goal.returns-then-count-pairing
-returns-then-count-pairing c = (legal_odd (lent c.args.left_terms.now c.args.left_count [] 0) (lent c.args.right_terms.now c.args.right_count [] 0) c.args.pairing.now c.if-count-pairing.true, refl)
-
-pub link_words-requires : goal.link_words-requires
-link_words-requires c = side_in c.args.pairing.now 0 (omega arith)
-
-pub is_once-requires : goal.is_once-requires
-is_once-requires c = (omega arith, c.link_words.ensures.1)
-
-pub shape_of-index-then-not-is_once : goal.shape_of-index-then-not-is_once
-shape_of-index-then-not-is_once c = c.link_words.ensures.0
+pub returns-then-pairing-ne0 : goal.returns-then-pairing-ne0
+returns-then-pairing-ne0 c = (legal_odd (slices_of c.args.left.now) (slices_of c.args.right.now) c.args.pairing.now (λ e. omega arith), refl)
 
 pub returns-then-not-is_once : goal.returns-then-not-is_once
-returns-then-not-is_once c = (left_twice (lent c.args.left_terms.now c.args.left_count [] 0) (lent c.args.right_terms.now c.args.right_count [] 0) c.args.pairing.now c.if-count-pairing.false (sym c.is_once.ensures ∙ c.if-not-is_once.true), c.link_words.ensures.0)
-
-pub link_words-requires-2 : goal.link_words-requires-2
-link_words-requires-2 c = side_in c.args.pairing.now 1 (omega arith)
-
-pub is_once-requires-2 : goal.is_once-requires-2
-is_once-requires-2 c = (omega arith, c.link_words-2.ensures.1)
-
-pub shape_of-index-then-not-is_once-2 : goal.shape_of-index-then-not-is_once-2
-shape_of-index-then-not-is_once-2 c = c.link_words-2.ensures.0 ∙ c.link_words.ensures.0
+returns-then-not-is_once c =
+    let p = c.args.pairing.now in
+    let l = slices_of c.args.left.now in
+    let r = slices_of c.args.right.now in
+    let even : 2 * pairs p ≡ length p = omega arith in
+    let a = rw (c.numbers-lefts.ensures.0, c.numbers-lefts.ensures.1.0, c.numbers-lefts.ensures.1.1.0, c.numbers-lefts.ensures.1.1.1) at (sym c.is_once.ensures.0 ∙ c.if-not-is_once.true) in
+    (left_twice l r p even a, c.is_once.ensures.1)
 
 pub returns-then-not-is_once-2 : goal.returns-then-not-is_once-2
-returns-then-not-is_once-2 c = (right_twice (lent c.args.left_terms.now c.args.left_count [] 0) (lent c.args.right_terms.now c.args.right_count [] 0) c.args.pairing.now c.if-count-pairing.false (sym c.is_once.ensures ∙ c.if-not-is_once.false) (sym c.is_once-2.ensures ∙ c.if-not-is_once-2.true), c.link_words-2.ensures.0 ∙ c.link_words.ensures.0)
-
-pub link_words-requires-3 : goal.link_words-requires-3
-link_words-requires-3 c = terms_in c.args.left_terms.now c.args.left_count c.requires.0
-
-pub is_known-requires : goal.is_known-requires
-is_known-requires c = (omega arith, (c.requires.0, c.link_words-3.ensures.1))
-
-pub shape_of-index-then-not-is_known : goal.shape_of-index-then-not-is_known
-shape_of-index-then-not-is_known c = c.link_words-3.ensures.0 ∙ (c.link_words-2.ensures.0 ∙ c.link_words.ensures.0)
+returns-then-not-is_once-2 c =
+    let p = c.args.pairing.now in
+    let l = slices_of c.args.left.now in
+    let r = slices_of c.args.right.now in
+    let even : 2 * pairs p ≡ length p = omega arith in
+    let a = rw (c.numbers-lefts.ensures.0, c.numbers-lefts.ensures.1.0, c.numbers-lefts.ensures.1.1.0, c.numbers-lefts.ensures.1.1.1) at (sym c.is_once.ensures.0 ∙ c.if-not-is_once.false) in
+    let b = rw (c.numbers-rights.ensures.0, c.numbers-rights.ensures.1.0, c.numbers-rights.ensures.1.1.0, c.numbers-rights.ensures.1.1.1) at (sym c.is_once-2.ensures.0 ∙ c.if-not-is_once-2.true) in
+    (right_twice l r p even a b, c.is_once-2.ensures.1 ∙ c.is_once.ensures.1)
 
 pub returns-then-not-is_known : goal.returns-then-not-is_known
-returns-then-not-is_known c = (left_missing (lent c.args.left_terms.now c.args.left_count [] 0) (lent c.args.right_terms.now c.args.right_count [] 0) c.args.pairing.now c.if-count-pairing.false (sym c.is_once.ensures ∙ c.if-not-is_once.false) (sym c.is_once-2.ensures ∙ c.if-not-is_once-2.false) (sym c.is_known.ensures ∙ c.if-not-is_known.true), c.link_words-3.ensures.0 ∙ (c.link_words-2.ensures.0 ∙ c.link_words.ensures.0))
-
-pub link_words-requires-4 : goal.link_words-requires-4
-link_words-requires-4 c = terms_in c.args.right_terms.now c.args.right_count c.requires.1
-
-pub is_known-requires-2 : goal.is_known-requires-2
-is_known-requires-2 c = (omega arith, (c.requires.1, c.link_words-4.ensures.1))
-
-pub shape_of-index : goal.shape_of-index
-shape_of-index c = c.link_words-4.ensures.0 ∙ (c.link_words-3.ensures.0 ∙ (c.link_words-2.ensures.0 ∙ c.link_words.ensures.0))
+returns-then-not-is_known c =
+    let p = c.args.pairing.now in
+    let l = slices_of c.args.left.now in
+    let r = slices_of c.args.right.now in
+    let even : 2 * pairs p ≡ length p = omega arith in
+    let a = rw (c.numbers-lefts.ensures.0, c.numbers-lefts.ensures.1.0, c.numbers-lefts.ensures.1.1.0, c.numbers-lefts.ensures.1.1.1) at (sym c.is_once.ensures.0 ∙ c.if-not-is_once.false) in
+    let b = rw (c.numbers-rights.ensures.0, c.numbers-rights.ensures.1.0, c.numbers-rights.ensures.1.1.0, c.numbers-rights.ensures.1.1.1) at (sym c.is_once-2.ensures.0 ∙ c.if-not-is_once-2.false) in
+    let k = rw (c.numbers-lefts.ensures.0, c.numbers-lefts.ensures.1.0, c.numbers-lefts.ensures.1.1.0, c.numbers-lefts.ensures.1.1.1) at (sym c.is_known.ensures.0 ∙ c.if-not-is_known.true) in
+    (left_missing l r p even a b k, c.is_known.ensures.1 ∙ (c.is_once-2.ensures.1 ∙ c.is_once.ensures.1))
 
 pub returns : goal.returns
-returns c = (c.is_known-2.ensures ∙ right_left (lent c.args.left_terms.now c.args.left_count [] 0) (lent c.args.right_terms.now c.args.right_count [] 0) c.args.pairing.now c.if-count-pairing.false (sym c.is_once.ensures ∙ c.if-not-is_once.false) (sym c.is_once-2.ensures ∙ c.if-not-is_once-2.false) (sym c.is_known.ensures ∙ c.if-not-is_known.false), c.link_words-4.ensures.0 ∙ (c.link_words-3.ensures.0 ∙ (c.link_words-2.ensures.0 ∙ c.link_words.ensures.0)))
+returns c =
+    let p = c.args.pairing.now in
+    let l = slices_of c.args.left.now in
+    let r = slices_of c.args.right.now in
+    let even : 2 * pairs p ≡ length p = omega arith in
+    let a = rw (c.numbers-lefts.ensures.0, c.numbers-lefts.ensures.1.0, c.numbers-lefts.ensures.1.1.0, c.numbers-lefts.ensures.1.1.1) at (sym c.is_once.ensures.0 ∙ c.if-not-is_once.false) in
+    let b = rw (c.numbers-rights.ensures.0, c.numbers-rights.ensures.1.0, c.numbers-rights.ensures.1.1.0, c.numbers-rights.ensures.1.1.1) at (sym c.is_once-2.ensures.0 ∙ c.if-not-is_once-2.false) in
+    let k = rw (c.numbers-lefts.ensures.0, c.numbers-lefts.ensures.1.0, c.numbers-lefts.ensures.1.1.0, c.numbers-lefts.ensures.1.1.1) at (sym c.is_known.ensures.0 ∙ c.if-not-is_known.false) in
+    ((rw (c.numbers-rights.ensures.0, c.numbers-rights.ensures.1.0, c.numbers-rights.ensures.1.1.0, c.numbers-rights.ensures.1.1.1) at c.is_known-2.ensures.0) ∙ right_left l r p even a b k, c.is_known-2.ensures.1 ∙ (c.is_known.ensures.1 ∙ (c.is_once-2.ensures.1 ∙ c.is_once.ensures.1)))

@@ -1,13 +1,12 @@
-use Rattle.usable.proofs.TagForms.{walks_on, walks_end}
-use native.Mathlib.Omega.{arith}
-use mathlib.Core.Path.{refl, sym, ◌∙◌}
+use Rattle.std.proofs.Common.{ap, ◌∙◌, rules}
+use Rattle.std.proofs.lemmas.Iterator.{YieldsList-from_slice}
+use Rattle.std.proofs.lemmas.Iterator.Consumers.{fold_from_yields_List}
+use Rattle.usable.specs.Places.{next_place, ends}
+use Rattle.usable.proofs.TagForms.{walks_by_steps}
 use Rattle.usable.proofs.tags.has_tag_form.Goals as goal
 
-pub loop-i-init : goal.loop-i-init
-loop-i-init c = (omega arith, refl)
-
-pub loop-i-preserved : goal.loop-i-preserved
-loop-i-preserved c = (omega arith, c.loop-i.invariant.1 ∙ walks_on _ _ c.args.s.now _ c.loop-i-test.true c.next-place.ensures)
-
 pub returns : goal.returns
-returns c = c.is_end.ensures ∙ sym (c.loop-i.invariant.1 ∙ walks_end _ c.args.s.now _ c.loop-i-test.false)
+returns c =
+    c.is_end.ensures
+    ∙ ap ends (fold_from_yields_List _ next_place _ _ c.fold.ensures.ran (YieldsList-from_slice c.args.s.now (search rules)) (λ a x b q k. search rules))
+    ∙ walks_by_steps _ c.args.s.now

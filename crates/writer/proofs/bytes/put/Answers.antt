@@ -1,7 +1,4 @@
 use Rattle.writer.proofs.Chains.{wrote_byte, wrote_past}
-use mathlib.Core.List.{[], ◌∷◌}
-use Rattle.writer.specs.Writing.{Wrote}
-use Prim.Native.Nat.{◌+◌}
 use Rattle.writer.proofs.bytes.put.Goals as goal
 use Rattle.writer.proofs.bytes.put.Goals.{then-at-out, else-at-out}
 

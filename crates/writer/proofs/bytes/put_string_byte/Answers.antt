@@ -1,19 +1,15 @@
-use Rattle.writer.proofs.Escapes.{string_plain, string_escaped}
-use mathlib.Core.Path.{sym, ◌∙◌}
+use mathlib.Core.Path.{sym, ap, ◌∙◌}
+use Rattle.writer.proofs.Escapes.{escape_form, string_told}
 use Rattle.writer.proofs.bytes.put_string_byte.Goals as goal
 
+pub put_all-requires : goal.put_all-requires
+put_all-requires c = rw (string_told c.args.c ∙ ap (escape_form c.args.c) (sym c.escape_of.ensures ∙ c.in-Some.is)) at c.requires
+
 pub put-requires : goal.put-requires
-put-requires c = let form = string_plain c.args.c (sym c.escape_of-e.ensures ∙ c.if-e-eq0.true) in
-    rw form at c.requires
+put-requires c = rw (string_told c.args.c ∙ ap (escape_form c.args.c) (sym c.escape_of.ensures ∙ c.in-None.is)) at c.requires
 
-pub returns-then-e-eq0 : goal.returns-then-e-eq0
-returns-then-e-eq0 c = let form = string_plain c.args.c (sym c.escape_of-e.ensures ∙ c.if-e-eq0.true) in
-    rw form c.put.ensures
+pub returns-in-Some : goal.returns-in-Some
+returns-in-Some c = rw (string_told c.args.c ∙ ap (escape_form c.args.c) (sym c.escape_of.ensures ∙ c.in-Some.is)) c.put_all.ensures
 
-pub put_two-requires : goal.put_two-requires
-put_two-requires c = let form = string_escaped c.args.c (λ e. c.if-e-eq0.false (c.escape_of-e.ensures ∙ e)) in
-    rw (form, ← c.escape_of-e.ensures) at c.requires
-
-pub returns : goal.returns
-returns c = let form = string_escaped c.args.c (λ e. c.if-e-eq0.false (c.escape_of-e.ensures ∙ e)) in
-    rw (form, ← c.escape_of-e.ensures) c.put_two.ensures
+pub returns-in-None : goal.returns-in-None
+returns-in-None c = rw (string_told c.args.c ∙ ap (escape_form c.args.c) (sym c.escape_of.ensures ∙ c.in-None.is)) c.put.ensures

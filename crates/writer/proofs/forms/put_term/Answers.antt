@@ -1,13 +1,11 @@
+use native.Mathlib.Omega.{arith}
+use mathlib.Core.Path.{◌≡◌, sym, ◌∙◌}
+use borrow.Author.Rules.{rules}
 use Rattle.table.specs.Layout.{entry_at}
-use Rattle.usable.specs.Lent.{lent}
+use Rattle.usable.specs.Lent.{slices_of}
 use Rattle.usable.proofs.Words.{kind_word, fourth_word}
 use Rattle.writer.proofs.Pieces.{term_iri, term_blank, term_literal}
-use native.Mathlib.Omega.{arith}
-use mathlib.Core.Path.{sym, ◌∙◌}
 use Rattle.writer.proofs.forms.put_term.Goals as goal
-
-pub term_word-kind-requires : goal.term_word-kind-requires
-term_word-kind-requires c = (c.requires.0.stands, omega arith)
 
 pub span_of-requires : goal.span_of-requires
 unfolding entry_at
@@ -15,43 +13,41 @@ span_of-requires c = (c.requires.0.stands, (omega arith, c.requires.0.text_in))
 
 pub put_iri-requires : goal.put_iri-requires
 unfolding entry_at
-put_iri-requires c = let tables = lent c.args.terms.now 0 c.args.store.now 0 in
-    let kind = kind_word c.args.terms.now c.args.n c.term_word-kind.result c.term_word-kind.ensures.0 in
-    let form = term_iri tables c.args.n (sym kind ∙ c.if-kind-eq-IRI.true) in
+put_iri-requires c =
+    let kind = kind_word c.args.tables.now.terms.now c.args.n c.term_word.result c.term_word.ensures.0 in
+    let form = term_iri (slices_of c.args.tables.now) c.args.n (sym kind ∙ c.in-1.is) in
     rw c.span_of.ensures (rw form at c.requires.1)
 
-pub returns-then-kind-eq-IRI : goal.returns-then-kind-eq-IRI
+pub returns-in-1 : goal.returns-in-1
 unfolding entry_at
-returns-then-kind-eq-IRI c = let tables = lent c.args.terms.now 0 c.args.store.now 0 in
-    let kind = kind_word c.args.terms.now c.args.n c.term_word-kind.result c.term_word-kind.ensures.0 in
-    let form = term_iri tables c.args.n (sym kind ∙ c.if-kind-eq-IRI.true) in
+returns-in-1 c =
+    let kind = kind_word c.args.tables.now.terms.now c.args.n c.term_word.result c.term_word.ensures.0 in
+    let form = term_iri (slices_of c.args.tables.now) c.args.n (sym kind ∙ c.in-1.is) in
     rw form (rw c.span_of.ensures at c.put_iri.ensures)
 
-pub term_word-requires : goal.term_word-requires
-term_word-requires c = (c.requires.0.stands, omega arith)
-
 pub put_blank-requires : goal.put_blank-requires
-put_blank-requires c = let datatype = fourth_word c.args.terms.now c.args.n c.term_word.result c.term_word.ensures.0 in
-    let tables = lent c.args.terms.now 0 c.args.store.now 0 in
-    let kind = kind_word c.args.terms.now c.args.n c.term_word-kind.result c.term_word-kind.ensures.0 in
-    let form = term_blank tables c.args.n (λ e. c.if-kind-eq-IRI.false (kind ∙ e)) (sym kind ∙ c.if-kind-eq-BLANK.true) in
-    rw datatype (rw form at c.requires.1)
+put_blank-requires c =
+    let kind = kind_word c.args.tables.now.terms.now c.args.n c.term_word.result c.term_word.ensures.0 in
+    let number = fourth_word c.args.tables.now.terms.now c.args.n c.term_word-in-2.result c.term_word-in-2.ensures.0 in
+    let form = term_blank (slices_of c.args.tables.now) c.args.n (λ e. omega (arith, kind, e, c.in-2.is)) (sym kind ∙ c.in-2.is) in
+    rw number (rw form at c.requires.1)
 
-pub returns-then-kind-eq-BLANK : goal.returns-then-kind-eq-BLANK
-returns-then-kind-eq-BLANK c = let tables = lent c.args.terms.now 0 c.args.store.now 0 in
-    let kind = kind_word c.args.terms.now c.args.n c.term_word-kind.result c.term_word-kind.ensures.0 in
-    let form = term_blank tables c.args.n (λ e. c.if-kind-eq-IRI.false (kind ∙ e)) (sym kind ∙ c.if-kind-eq-BLANK.true) in
-    let datatype = fourth_word c.args.terms.now c.args.n c.term_word.result c.term_word.ensures.0 in
-    rw form (rw datatype at c.put_blank.ensures)
+pub returns-in-2 : goal.returns-in-2
+returns-in-2 c =
+    let kind = kind_word c.args.tables.now.terms.now c.args.n c.term_word.result c.term_word.ensures.0 in
+    let number = fourth_word c.args.tables.now.terms.now c.args.n c.term_word-in-2.result c.term_word-in-2.ensures.0 in
+    let form = term_blank (slices_of c.args.tables.now) c.args.n (λ e. omega (arith, kind, e, c.in-2.is)) (sym kind ∙ c.in-2.is) in
+    rw form (rw number at c.put_blank.ensures)
 
 pub put_literal-requires : goal.put_literal-requires
-put_literal-requires c = let kind = kind_word c.args.terms.now c.args.n c.term_word-kind.result c.term_word-kind.ensures.0 in
-    let tables = lent c.args.terms.now 0 c.args.store.now 0 in
-    let form = term_literal tables c.args.n (λ e. c.if-kind-eq-IRI.false (kind ∙ e)) (λ e. c.if-kind-eq-BLANK.false (kind ∙ e)) in
-    (c.requires.0, (((λ e. c.if-kind-eq-IRI.false (kind ∙ e)), (λ e. c.if-kind-eq-BLANK.false (kind ∙ e))), rw form at c.requires.1))
+put_literal-requires c =
+    let kind = kind_word c.args.tables.now.terms.now c.args.n c.term_word.result c.term_word.ensures.0 in
+    let others : (c.term_word.result ≡ 1 → ⊥) × (c.term_word.result ≡ 2 → ⊥) = search rules in
+    let form = term_literal (slices_of c.args.tables.now) c.args.n (λ e. others.0 (kind ∙ e)) (λ e. others.1 (kind ∙ e)) in
+    (c.requires.0, (((λ e. others.0 (kind ∙ e)), (λ e. others.1 (kind ∙ e))), rw form at c.requires.1))
 
-pub returns : goal.returns
-returns c = let tables = lent c.args.terms.now 0 c.args.store.now 0 in
-    let kind = kind_word c.args.terms.now c.args.n c.term_word-kind.result c.term_word-kind.ensures.0 in
-    let form = term_literal tables c.args.n (λ e. c.if-kind-eq-IRI.false (kind ∙ e)) (λ e. c.if-kind-eq-BLANK.false (kind ∙ e)) in
-    rw form c.put_literal.ensures
+pub returns-in_default : goal.returns-in_default
+returns-in_default c =
+    let kind = kind_word c.args.tables.now.terms.now c.args.n c.term_word.result c.term_word.ensures.0 in
+    let others : (c.term_word.result ≡ 1 → ⊥) × (c.term_word.result ≡ 2 → ⊥) = search rules in
+    rw (term_literal (slices_of c.args.tables.now) c.args.n (λ e. others.0 (kind ∙ e)) (λ e. others.1 (kind ∙ e))) c.put_literal.ensures

@@ -7,14 +7,14 @@ pub returns-then-is_xsd_string : goal.returns-then-is_xsd_string
 returns-then-is_xsd_string c = let form = type_none c.args.datatype.now (sym c.is_xsd_string.ensures ∙ c.if-is_xsd_string.true) in
     rw form (wrote_nothing c.args.at c.args.out.now)
 
-pub put_two-next-requires : goal.put_two-next-requires
-put_two-next-requires c = let form = type_some c.args.datatype.now (sym c.is_xsd_string.ensures ∙ c.if-is_xsd_string.false) in
+pub put_all-next-requires : goal.put_all-next-requires
+put_all-next-requires c = let form = type_some c.args.datatype.now (sym c.is_xsd_string.ensures ∙ c.if-is_xsd_string.false) in
     room_before _ _ (rw form at c.requires)
 
 pub put_iri-requires : goal.put_iri-requires
 put_iri-requires c = let form = type_some c.args.datatype.now (sym c.is_xsd_string.ensures ∙ c.if-is_xsd_string.false) in
-    room_after c.put_two-next.ensures (rw form at c.requires)
+    room_after c.put_all-next.ensures (rw form at c.requires)
 
 pub returns : goal.returns
 returns c = let form = type_some c.args.datatype.now (sym c.is_xsd_string.ensures ∙ c.if-is_xsd_string.false) in
-    rw form (both c.put_two-next.ensures c.put_iri.ensures)
+    rw form (both c.put_all-next.ensures c.put_iri.ensures)

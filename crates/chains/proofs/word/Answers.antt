@@ -1,9 +1,0 @@
-use mathlib.Core.Path.{refl}
-use native.Mathlib.Omega.{arith}
-use Rattle.chains.proofs.word.Goals as goal
-
-pub overflow_cast-result : goal.overflow_cast-result
-overflow_cast-result c = omega (arith, c.type_inv.words c.args.k)
-
-pub returns : goal.returns
-returns c = (refl, omega (arith, c.type_inv.words c.args.k))
