@@ -1,4 +1,3 @@
-use native.Mathlib.Omega.{arith}
 use Rattle.comparison.proofs.Listing.{put_none, put_full, put_one}
 use Rattle.comparison.proofs.sides.put_row.Goals as goal
 
@@ -7,9 +6,6 @@ returns-then-not-listed c = put_none c.args.listed c.args.i c.args.at c.args.out
 
 pub returns-then-out-at : goal.returns-then-out-at
 returns-then-out-at c = put_full c.args.listed c.args.i c.args.at c.args.out.now c.if-not-listed.false c.if-out-at.true
-
-pub overflow_cast-out : goal.overflow_cast-out
-overflow_cast-out c = omega arith
 
 pub returns : goal.returns
 returns c = put_one c.args.listed c.args.i c.args.at c.args.out.now c.if-not-listed.false

@@ -7,12 +7,6 @@ use Rattle.usable.proofs.Words.{kind_word, fourth_word}
 use Rattle.comparison.proofs.ByKind.{fourth_kind, more_type, more_tag}
 use Rattle.comparison.proofs.values.more_of.Goals as goal
 
-pub term_word-requires : goal.term_word-requires
-term_word-requires c = (c.requires.0.stands, omega arith)
-
-pub term_word-d-requires : goal.term_word-d-requires
-term_word-d-requires c = (c.requires.0.stands, omega arith)
-
 pub span_of-requires : goal.span_of-requires
 unfolding entry_at
 span_of-requires c = (rw (fourth_word c.args.tables.now.terms.now c.args.n c.term_word-d.result c.term_word-d.ensures.0) (c.requires.0.type_stands (sym (kind_word c.args.tables.now.terms.now c.args.n c.term_word.result c.term_word.ensures.0) ∙ c.if-term_word-eq-LITERAL.true)), (omega arith, rw (fourth_word c.args.tables.now.terms.now c.args.n c.term_word-d.result c.term_word-d.ensures.0) (c.requires.0.type_in (sym (kind_word c.args.tables.now.terms.now c.args.n c.term_word.result c.term_word.ensures.0) ∙ c.if-term_word-eq-LITERAL.true))))

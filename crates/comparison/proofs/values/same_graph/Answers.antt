@@ -12,8 +12,5 @@ returns-then-n-eq0 c = default_graph (nodes c.args.mine.now.edition c.args.other
 pub returns-else-m-ne0 : goal.returns-else-m-ne0
 returns-else-m-ne0 c = let z : c.args.m ≡ 0 = omega arith in rw (eq-eqb c.args.m 0 z) (one_graph (nodes c.args.mine.now.edition c.args.other.now.edition c.args.pairing.now.words.now) (bare (tables_of c.args.mine.now)) (bare (tables_of c.args.other.now)) c.args.n c.args.m c.if-n-eq0.false z)
 
-pub same_value-requires : goal.same_value-requires
-same_value-requires c = (c.requires.0, (c.requires.1.0 c.if-n-eq0.false, c.requires.1.1 c.if-m-ne0.true))
-
 pub returns-then-m-ne0 : goal.returns-then-m-ne0
 returns-then-m-ne0 c = c.same_value.ensures ∙ two_graphs (nodes c.args.mine.now.edition c.args.other.now.edition c.args.pairing.now.words.now) (bare (tables_of c.args.mine.now)) (bare (tables_of c.args.other.now)) c.args.n c.args.m c.if-n-eq0.false c.if-m-ne0.true

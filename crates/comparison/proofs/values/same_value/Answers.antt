@@ -1,5 +1,4 @@
 use mathlib.Core.Path.{sym, ap₂, ◌∙◌}
-use native.Mathlib.Omega.{arith}
 use borrow.Author.Tests.{eq-eqb}
 use Rattle.text.specs.Text.{same_text}
 use Rattle.usable.specs.Lent.{bare}
@@ -8,32 +7,11 @@ use Rattle.comparison.specs.Code.{nodes, tables_of}
 use Rattle.comparison.proofs.ByKind.{other_kind, both_blank, both_iri, other_text, rest}
 use Rattle.comparison.proofs.values.same_value.Goals as goal
 
-pub term_word-kind-requires : goal.term_word-kind-requires
-term_word-kind-requires c = (c.requires.1.0.stands, omega arith)
-
-pub term_word-requires : goal.term_word-requires
-term_word-requires c = (c.requires.1.1.stands, omega arith)
-
 pub returns-then-term_word-kind : goal.returns-then-term_word-kind
 returns-then-term_word-kind c = other_kind (nodes c.args.mine.now.edition c.args.other.now.edition c.args.pairing.now.words.now) (bare (tables_of c.args.mine.now)) c.args.n (bare (tables_of c.args.other.now)) c.args.m c.requires.1.0 c.requires.1.1 (λ q. c.if-term_word-kind.true ((kind_word c.args.other.now.tables.terms.now c.args.m c.term_word.result c.term_word.ensures.0) ∙ (q ∙ sym (kind_word c.args.mine.now.tables.terms.now c.args.n c.term_word-kind.result c.term_word-kind.ensures.0))))
 
-pub term_word-requires-then-kind-eq-BLANK : goal.term_word-requires-then-kind-eq-BLANK
-term_word-requires-then-kind-eq-BLANK c = (c.requires.1.0.stands, omega arith)
-
-pub term_word-requires-then-kind-eq-BLANK-2 : goal.term_word-requires-then-kind-eq-BLANK-2
-term_word-requires-then-kind-eq-BLANK-2 c = (c.requires.1.1.stands, omega arith)
-
-pub same_node-requires : goal.same_node-requires
-same_node-requires c = (c.requires.0, (c.term_word-then-kind-eq-BLANK.ensures.1, c.term_word-then-kind-eq-BLANK-2.ensures.1))
-
 pub returns-then-kind-eq-BLANK : goal.returns-then-kind-eq-BLANK
 returns-then-kind-eq-BLANK c = c.same_node.ensures ∙ (ap₂ (nodes c.args.mine.now.edition c.args.other.now.edition c.args.pairing.now.words.now) (fourth_word c.args.mine.now.tables.terms.now c.args.n c.term_word-then-kind-eq-BLANK.result c.term_word-then-kind-eq-BLANK.ensures.0) (fourth_word c.args.other.now.tables.terms.now c.args.m c.term_word-then-kind-eq-BLANK-2.result c.term_word-then-kind-eq-BLANK-2.ensures.0) ∙ both_blank (nodes c.args.mine.now.edition c.args.other.now.edition c.args.pairing.now.words.now) (bare (tables_of c.args.mine.now)) c.args.n (bare (tables_of c.args.other.now)) c.args.m c.requires.1.0 c.requires.1.1 ((sym (kind_word c.args.other.now.tables.terms.now c.args.m c.term_word.result c.term_word.ensures.0) ∙ (c.if-term_word-kind.false ∙ (kind_word c.args.mine.now.tables.terms.now c.args.n c.term_word-kind.result c.term_word-kind.ensures.0)))) (sym (kind_word c.args.mine.now.tables.terms.now c.args.n c.term_word-kind.result c.term_word-kind.ensures.0) ∙ c.if-kind-eq-BLANK.true))
-
-pub text_of-requires : goal.text_of-requires
-text_of-requires c = c.requires.1.0
-
-pub text_of-requires-2 : goal.text_of-requires-2
-text_of-requires-2 c = c.requires.1.1
 
 pub returns-then-not-same : goal.returns-then-not-same
 returns-then-not-same c = other_text (nodes c.args.mine.now.edition c.args.other.now.edition c.args.pairing.now.words.now) (bare (tables_of c.args.mine.now)) c.args.n (bare (tables_of c.args.other.now)) c.args.m c.requires.1.0 c.requires.1.1 ((sym (kind_word c.args.other.now.tables.terms.now c.args.m c.term_word.result c.term_word.ensures.0) ∙ (c.if-term_word-kind.false ∙ (kind_word c.args.mine.now.tables.terms.now c.args.n c.term_word-kind.result c.term_word-kind.ensures.0)))) ((λ q. c.if-kind-eq-BLANK.false ((kind_word c.args.mine.now.tables.terms.now c.args.n c.term_word-kind.result c.term_word-kind.ensures.0) ∙ q))) ((sym (c.same.ensures ∙ ap₂ same_text c.text_of.ensures c.text_of-2.ensures)) ∙ c.if-not-same.true)
