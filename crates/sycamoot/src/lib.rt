@@ -125,7 +125,7 @@ pub extern "C" fn sycamoot_read(
         },
         Err(refused) => Answer {
             position: refused.position as u64,
-            number: u32::from(u8::from(refused.refusal)),
+            number: number_of(refused.refusal),
             rows: 0,
             terms: 0,
             store: 0,
