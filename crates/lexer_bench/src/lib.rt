@@ -4,7 +4,6 @@
 ghost use Rattle.std.specs.Prelude.{◌≡◌, ◌≤◌, length};
 ghost use Rattle.lexer_bench.specs.Front.{valid_size};
 
-
 // How many tokens a text has up to its end, or to the first place where none can be read.
 #[unsafe(no_mangle)]
 pub extern "C" fn bench_tokens(s: &[u8]) -> usize

@@ -21,5 +21,5 @@ module _ {a b d : Held} (s : Same a b) (t : Same b d) where
     w (same_name a.work b.work b.work.now s.work ∙ same_name b.work d.work d.work.now t.work),
     r (same_name a.rows b.rows b.rows.now s.rows ∙ same_name b.rows d.rows d.rows.now t.rows),
     u (same_name a.terms b.terms b.terms.now s.terms ∙ same_name b.terms d.terms d.terms.now t.terms),
-    v (same_name a.store b.store b.store.now s.store ∙ same_name b.store d.store d.store.now t.store)
+    v (same_name a.store b.store b.store.now s.store ∙ same_name b.store d.store d.store.now t.store),
   ) refl
