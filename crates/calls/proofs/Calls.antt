@@ -14,8 +14,9 @@ use Rattle.dataset.specs.Statements.{statements}
 use Rattle.table.specs.Layout.{Slices}
 use Rattle.table.specs.Usable.{for_long_form, usable}
 use Rattle.table.proofs.Written.{fits_zero}
-use Rattle.look_up.specs.Look.{found, look}
-use Rattle.subject_index.specs.declared.Checked.{Checked}
+use Rattle.std.specs.Prelude.{Ok}
+use Rattle.look_up.specs.declared.Rows.{Rows}
+use Rattle.look_up.specs.Look.{look}
 use Rattle.subject_index.specs.Index.{index, check}
 use Rattle.subject_index.specs.Index.{write as write_index}
 use Rattle.subject_index.specs.About.{iri_text, subject_of, about}
@@ -98,23 +99,23 @@ module _ (doc : Text) (mode : ℕ) (base : Text) (old new : LentSlices) (r : Rea
 
   -- "18 for unusable tables": never for what the reader leaves. The builder writes the index of it where the output holds that, and what it wrote the check accepts.
   pub indexed : r.number ≡ accepted → (out : Text) → length (index (handed new r)) ≤ length out
-      → ((write_index (handed new r) out).number ≡ accepted) × ((check (handed new r) (take (write_index (handed new r) out).position (write_index (handed new r) out).output)).yes ≡ true)
+      → ((write_index (handed new r) out).number ≡ accepted) × (check (handed new r) (take (write_index (handed new r) out).position (write_index (handed new r) out).output) ≡ Ok true)
   unfolding write_index
   indexed e out l =
       let s = handed new r in
       let u = (read_again e).usable in
       let z = fits_zero 22 (usable for_long_form s) (index s) out u l in
-      (z, ap (λ (c : Checked). c.yes) (written_yes s out z))
+      (z, written_yes s out z)
 
   -- C-17: for bytes that the check accepts, the look-up says how many of the document's statements have the address as their subject, and which is the first.
-  pub looked_up : (e : r.number ≡ accepted) (bytes : Text) → (check (handed new r) bytes).yes ≡ true → (address : Text)
-      → look iri_limit address bytes ≡ found 0 (about (statements (mode_of mode) (handed_statements e).derivation base) address)
+  pub looked_up : (e : r.number ≡ accepted) (bytes : Text) → check (handed new r) bytes ≡ Ok true → (address : Text)
+      → look iri_limit address bytes ≡ Ok (about (statements (mode_of mode) (handed_statements e).derivation base) address)
   looked_up e bytes said address =
       let s = handed new r in
       let h = handed_statements e in
       let few = rows_small doc mode base old new r c in
       look_tables s (omega arith) bytes said iri_limit (omega arith) (omega arith) address
-      ∙ ap (found 0) (walk_held s address ∙ (ap (λ (qs : List Quad). about qs address) h.same ∙ about_renamed h.rename (statements (mode_of mode) h.derivation base) address))
+      ∙ ap (λ (w : Rows). Ok w) (walk_held s address ∙ (ap (λ (qs : List Quad). about qs address) h.same ∙ about_renamed h.rename (statements (mode_of mode) h.derivation base) address))
 
   -- "a grammar refusal stands at the first token with which the tokens so far begin no grammatical text", and only there
   pub refused_there : (i : ℕ) → FailsFirst doc mode base (lengths old) i → (r.number ≡ grammar_refusal) × (r.position ≡ place_of (length doc) (lexemes doc) i)

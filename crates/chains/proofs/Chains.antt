@@ -13,7 +13,7 @@ use lib.Seq.{get_or-set_same, get_or-set_other, length-take-le}
 use Rattle.text.proofs.Compare.{by, contrary}
 use Rattle.std.proofs.Common.{Option, Some, None, ◌++◌, replicate, take, drop}
 use Rattle.std.proofs.lemmas.List.{get_or_append_left, get_or-append_right, get_or-replicate, get_or-drop, length-append, length-replicate, length-drop}
-use Rattle.chains.specs.Chains.{behind, latest, heads, near, key_at, Linked, Chained, First, Before, KeyOf, Cleared, Keyed, linked_one}
+use Rattle.chains.specs.Chains.{behind, latest, heads, near, key_at, Linked, Chained, First, Before, KeyOf, Falling, Cleared, Keyed, linked_one}
 
 -- A number below n + 1 that is not n.
 less : (j n : ℕ) → j < n + 1 → (j ≡ n → ⊥) → j < n
@@ -252,6 +252,11 @@ pub chained_same : (words : List ℕ) (n : ℕ) (f g : ℕ → ℕ) → ((j : �
 unfolding Chained
 chained_same words n f g e c = λ z. linked_same words (heads (length words) n) n n f g (omega arith) e (c z)
 
+-- Chains fall.
+pub falling : (words : List ℕ) (n : ℕ) (f : ℕ → ℕ) → Chained words n f → Falling words n
+unfolding Chained
+falling words n f c j h some = omega (arith, (c some).links j h, latest_low (near (heads (length words) n) f (f j)) j)
+
 -- ---- What the routines answer, where there are c heads
 
 module _ (words : List ℕ) (n c : ℕ) (e : c ≡ heads (length words) n) where
@@ -281,6 +286,9 @@ module _ (words : List ℕ) (n c : ℕ) (e : c ≡ heads (length words) n) where
 
   pub before_some : (j : ℕ) (r : Option ℕ) → j < n → (c ≡ 0 → ⊥) → behind r ≡ get_or words (c + j) 0 → Before words n j r
   before_some j r a z g f h = g ∙ ((linked z f h).links j a ∙ ap (λ (k : ℕ). latest (near k f (f j)) j) e)
+
+  pub before_falls : (j : ℕ) (r : Option ℕ) → j < n → (c ≡ 0 → ⊥) → behind r ≡ get_or words (c + j) 0 → Falling words n → behind r ≤ j
+  before_falls j r a z g h = omega (arith, h j a (heads_some z), g, ap (λ (b : ℕ). get_or words (b + j) 0) e)
 
   pub key_none : (j : ℕ) → c ≡ 0 → KeyOf words n j None
   key_none j z f h = let q : heads (length words) n ≡ 0 = sym e ∙ z in rw q

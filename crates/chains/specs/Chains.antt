@@ -60,6 +60,10 @@ KeyOf words n j r = (f : ℕ → ℕ) → Chained words n f → r ≡ cond (eqb 
 abbrev pub MayHave : List ℕ → ℕ → ℕ → ℕ → Bool → Type 0
 MayHave words n j x r = (f : ℕ → ℕ) → Chained words n f → r ≡ (eqb (heads (length words) n) 0 || eqb (f j) x)
 
+-- Each number is linked to a smaller one.
+abbrev pub Falling : List ℕ → ℕ → Type 0
+Falling words n = (j : ℕ) → j < n → (heads (length words) n ≡ 0 → ⊥) → get_or words (heads (length words) n + j) 0 ≤ j
+
 -- The keys of the numbers below n may be asked for, and words hold them.
 abbrev pub MayLink : (ℕ → Type 0) → (ℕ → ℕ → Type 0) → ℕ → Type 0
 MayLink pre post n = (j : ℕ) → j < n → pre j × ((k : ℕ) → post j k → k < 4294967296)

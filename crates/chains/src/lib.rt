@@ -3,8 +3,9 @@
 // suffice have no heads: then all numbers are one chain, and what is found there is the same.
 #![tactic(auto)]
 
-ghost use Rattle.std.specs.Prelude.{◌≡◌, ℕ, ◌+◌, ◌*◌, ◌≤◌, ◌<◌, length, get_or};
-ghost use Rattle.chains.specs.Chains.{behind, heads, latest, key_at, word_at, has_word, Chained, OnChain, First, Before, KeyOf, MayHave, WordsIn, linked_one, MayLink};
+ghost use Rattle.std.specs.Prelude.{◌≡◌, ℕ, ◌+◌, ◌*◌, ◌≤◌, ◌<◌, length, get_or, Some};
+ghost use Rattle.chains.specs.Chains.{behind, heads, latest, key_at, word_at, has_word, Chained, OnChain, First, Before, KeyOf, MayHave, WordsIn, linked_one, MayLink, Falling};
+ghost use Rattle.std.specs.Iterator.{at_most};
 
 // Numbers below a count, each with a word: the words stand so far apart from a place on.
 #[derive(Clone, Copy)]
@@ -67,7 +68,8 @@ impl<'a> Links<'a> {
     // The next smaller number in the chain of the number j.
     pub fn before(&self, j: usize) -> Option<usize>
         requires { j < self.now.count }
-        ensures { Before self.now.words.now self.now.count j result }
+        ensures next { Before self.now.words.now self.now.count j result }
+        ensures falls { Falling self.now.words.now self.now.count → behind result ≤ j }
     {
         if self.head_count == 0 {
             return j.checked_sub(1);
@@ -94,19 +96,51 @@ impl<'a> Links<'a> {
         self.key_of(j).is_none_or(|own| own == key)
     }
 
+    // The numbers of a chain, from a place on.
+    pub fn along(&self, from: Option<usize>) -> Chain<'a>
+        requires { (behind from ≤ self.now.count) × Falling self.now.words.now self.now.count }
+        ensures { (result.links ≡ self.now) × (result.at ≡ from) }
+    {
+        Chain {
+            links: *self,
+            at: from,
+        }
+    }
+
     // The greatest number whose word is x, from a place in the chain of x on. The numbers are linked by these words.
     pub fn find(&self, column: &Column<'_>, from: Option<usize>, x: usize) -> Option<usize>
         requires { (self.now.count ≡ column.now.count) × (Chained self.now.words.now self.now.count (word_at column.now.words.now column.now.from column.now.step) × ((behind from ≤ self.now.count) × OnChain self.now.words.now self.now.count (word_at column.now.words.now column.now.from column.now.step) x (behind from))) }
         ensures { behind result ≡ latest (has_word column.now.words.now column.now.from column.now.step x) (behind from) }
     {
-        let mut at = from;
-        while let Some(j) = at {
+        for j in self.along(from) {
             if column.word(j) == x {
                 return Some(j);
             }
-            at = self.before(j);
         }
         None
+    }
+}
+
+// The numbers of a chain, from the greatest down.
+#[derive(Clone, Copy)]
+pub struct Chain<'a> {
+    pub links: Links<'a>,
+    pub at: Option<usize>,
+    ghost low: { behind at ≤ links.count },
+    ghost falling: { Falling links.words.now links.count },
+}
+
+impl<'a> Iterator for Chain<'a> {
+    type Item = usize;
+
+    ghost next_gives = { λ s r t. (t.links ≡ s.links) × ((r ≡ s.at) × ((j : ℕ) → s.at ≡ Some j → Before s.links.words.now s.links.count j t.at)) };
+
+    ghost remaining = { λ s. at_most (behind s.at) };
+
+    fn next(&mut self) -> Option<usize> {
+        let j = self.at?;
+        self.at = self.links.before(j);
+        Some(j)
     }
 }
 

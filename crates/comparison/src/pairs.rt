@@ -102,12 +102,10 @@ fn has_node(tables: &Tables<'_>, links: &Links<'_>, n: usize) -> bool
     requires { (term_size * tables.now.term_count ≤ length tables.now.terms.now) × ((links.now.count ≡ tables.now.term_count) × Chained links.now.words.now tables.now.term_count (word_at tables.now.terms.now 3 term_size)) }
     ensures { result ≡ has_node (slices_of tables.now) n }
 {
-    let mut at = links.first(n);
-    while let Some(k) = at {
+    for k in links.along(links.first(n)) {
         if is_node(tables, n, k + 1) {
             return true;
         }
-        at = links.before(k);
     }
     false
 }

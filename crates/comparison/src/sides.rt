@@ -39,12 +39,10 @@ fn is_found<'a>(
     requires { (Matched pairing.now.words.now × (SoundRow (tables_of mine.now) i × SoundRows (tables_of other.now) other.now.links.count)) × (Sought pairing.now.words.now mine.now i other.now key × ((behind from ≤ other.now.links.count) × On pairing.now.words.now other.now key (behind from))) }
     ensures { result ≡ any (finds pairing.now.words.now mine.now i other.now) (behind from) }
 {
-    let mut at = from;
-    while let Some(j) = at {
+    for j in other.links.along(from) {
         if is_match(pairing, mine, i, other, j, key) {
             return true;
         }
-        at = other.links.before(j);
     }
     false
 }

@@ -4,10 +4,10 @@
 ghost use Rattle.std.specs.Prelude.{◌≡◌};
 ghost use Rattle.completions.specs.FailsFirst.{grammar_refusal};
 
-use limits::Answer;
+use limits::Refusal;
 
 pub fn grammar_refusal() -> u8
     ensures { result ≡ grammar_refusal }
 {
-    Answer::GRAMMAR
+    u8::from(Refusal::Grammar)
 }

@@ -261,8 +261,12 @@ fn is_letter(c: u8) -> bool
 fn is_scheme_byte(c: u8) -> bool
     ensures { result ≡ scheme_byte c }
 {
+    // Most are letters: one match of all took 6 instructions a byte more.
+    if is_letter(c) {
+        return true;
+    }
     match c {
-        b'A'..=b'Z' | b'a'..=b'z' | b'0'..=b'9' | b'+' | b'-' | b'.' => true,
+        b'0'..=b'9' | b'+' | b'-' | b'.' => true,
         _ => false,
     }
 }

@@ -1,18 +1,18 @@
 -- The first byte: which routine goes on, and in which state.
-use mathlib.Core.Path.{◌≡◌, refl, subst, sym, ap, ap₂, ◌∙◌}
+use mathlib.Core.Path.{◌≡◌, subst, sym, ap, ◌∙◌}
 use mathlib.Core.Logic.{◌⊎◌, inl, inr}
 use mathlib.Core.Bool.{Bool, true, false, not, ◌&&◌, ◌||◌}
 use mathlib.Core.List.{List, [], ◌∷◌}
-use Prim.Native.Nat.{ℕ, ◌-◌, ◌≤◌, ◌<◌}
+use Prim.Native.Nat.{ℕ, ◌≤◌, ◌<◌}
 use native.Mathlib.Omega.{arith}
 use borrow.Author.Tests.{eq-eqb, ne_eqb, le-leb}
 use lib.Dec.{T, eqb, ltb, ltb→lt}
-use lib.ListN.{length, get_or, drop}
+use lib.ListN.{length, get_or}
 use Rattle.std.specs.Prelude.{Option, Some, None, is_some}
 use Rattle.text.specs.Text.{Text, cond}
-use Rattle.utf8.specs.Utf8.{Range, ◌–◌, width}
+use Rattle.utf8.specs.Utf8.{Range, ◌–◌}
 use Rattle.utf8.proofs.Tests.{by, below, below_at, and_true}
-use Rattle.token.specs.Regular.{in_ranges, step, size}
+use Rattle.token.specs.Regular.{in_ranges, step}
 use Rattle.automaton.specs.Levels.{intervals}
 use Rattle.automaton.specs.States.{start, dead, after_sign, in_integer, after_dot, after_at, after_underscore, after_colon, after_caret, after_carets, open_states}
 use Rattle.automaton.specs.Run.{tok, At, TokenAt}

@@ -34,7 +34,7 @@ fn comment_end(s: &[u8], at: usize) -> usize
     text::next_of_four(s, at, b'\n', b'\r', b'\n', b'\r')
 }
 
-// How many bytes of blanks and comments stand at the front.
+// How many bytes of blanks and comments stand at the front. A `while`, since a comment is passed in one step.
 pub fn skip_blanks(s: &[u8]) -> usize
     ensures { BlanksAt s.now result }
 {

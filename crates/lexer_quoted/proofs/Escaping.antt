@@ -17,7 +17,7 @@ use Rattle.text.specs.Text.{Text, cond}
 use Rattle.utf8.proofs.Tests.{by, split, and_true}
 use Rattle.token.specs.Regular.{in_ranges, step}
 use Rattle.automaton.specs.States.{State, dead}
-use Rattle.automaton.specs.Run.{tok, At, TokenAt}
+use Rattle.automaton.specs.Run.{At, TokenAt}
 use Rattle.automaton.proofs.Same.{same_state, same_state_eq}
 use Rattle.automaton.proofs.Steps.{only, always, sends, high_sends, Sent, Ends, pass, done, at_end}
 use Rattle.characters.specs.Bytes.{hex, echar}

@@ -8,7 +8,6 @@ use borrow.Author.Tests.{eq-eqb, ne_eqb, leb-true, leb-false, le-leb, lt-leb, no
 use lib.Dec.{eqb, leb}
 use lib.ListN.{length, get_or, drop}
 use Rattle.std.specs.Prelude.{Option, Some, None}
-use Rattle.automaton.specs.declared.Token.{Token}
 use Rattle.text.specs.Text.{Text}
 use Rattle.text.specs.Runs.{next_at}
 use Rattle.text.proofs.Runs.{next_walk, next_stop}

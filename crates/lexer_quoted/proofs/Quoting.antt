@@ -9,7 +9,6 @@ use borrow.Author.Tests.{eq-eqb, ne_eqb, eqb-false}
 use lib.Dec.{T, eqb, eqb→eq}
 use lib.ListN.{length, get_or, drop}
 use Rattle.std.specs.Prelude.{Option, Some, None}
-use Rattle.automaton.specs.declared.Token.{Token}
 use Rattle.text.specs.Text.{Text}
 use Rattle.text.specs.Runs.{four, next_at}
 use Rattle.text.proofs.Compare.{or_left, or_right}

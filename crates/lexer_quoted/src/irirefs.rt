@@ -73,7 +73,7 @@ fn next_stop(s: &[u8], at: usize) -> usize
     next_stop_near(s, i)
 }
 
-// IRIREF ::= '<' ([^#x00-#x20<>"{}|^`\] | UCHAR)* '>'
+// IRIREF ::= '<' ([^#x00-#x20<>"{}|^`\] | UCHAR)* '>'. A `while`, since an escape and a run are passed in one step each.
 pub fn iriref(s: &[u8]) -> Option<Token>
     requires { (0 < length s.now) × (get_or s.now 0 0 ≡ 60) }
     ensures { TokenAt s.now result }

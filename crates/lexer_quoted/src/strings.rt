@@ -10,6 +10,7 @@ use token::Kind;
 
 // STRING_LITERAL_QUOTE ::= '"' ([^#x22#x5C#xA#xD] | ECHAR | UCHAR)* '"'
 // STRING_LITERAL_SINGLE_QUOTE ::= "'" ([^#x27#x5C#xA#xD] | ECHAR | UCHAR)* "'"
+// A `while`, since an escape and a run of other bytes are passed in one step each.
 fn short_string(s: &[u8], quote: u8, kind: usize) -> Option<Token>
     requires { (0 < length s.now) × (get_or s.now 0 0 ≡ quote) × Short quote kind × (tripled s.now ≡ false) }
     ensures { TokenAt s.now result }
@@ -38,7 +39,7 @@ fn short_string(s: &[u8], quote: u8, kind: usize) -> Option<Token>
 
 // STRING_LITERAL_LONG_QUOTE ::= '"""' (('"' | '""')? ([^"\] | ECHAR | UCHAR))* '"""'
 // STRING_LITERAL_LONG_SINGLE_QUOTE ::= "'''" (("'" | "''")? ([^'\] | ECHAR | UCHAR))* "'''"
-// The first three quotes in a row end it; run is how many stand before i.
+// The first three quotes in a row end it; run is how many stand before i. A `while`, as above.
 fn long_string(s: &[u8], quote: u8, kind: usize) -> Option<Token>
     requires { (3 ≤ length s.now) × (get_or s.now 0 0 ≡ quote) × Long quote kind × (tripled s.now ≡ true) }
     ensures { TokenAt s.now result }

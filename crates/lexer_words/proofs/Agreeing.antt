@@ -11,7 +11,7 @@ use borrow.Author.Tests.{eqb-true}
 use lib.Dec.{T, eqb, ltb, ltb→lt}
 use lib.ListN.{length, get_or, drop, drop_of_length-le}
 use lib.Seq.{drop-cons}
-use Rattle.std.specs.Prelude.{Option, Some, None}
+use Rattle.std.specs.Prelude.{Option, None}
 use Rattle.automaton.specs.declared.Token.{Token}
 use Rattle.text.specs.Text.{Text, cond}
 use Rattle.utf8.proofs.Tests.{by, split, and_true, or_true}

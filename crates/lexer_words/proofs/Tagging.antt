@@ -6,7 +6,7 @@ use native.Mathlib.Omega.{arith}
 use borrow.Author.Tests.{eq-eqb, ne_eqb}
 use lib.Dec.{T, eqb}
 use lib.ListN.{length, get_or}
-use Rattle.std.specs.Prelude.{Option, Some, None}
+use Rattle.std.specs.Prelude.{Some, None}
 use Rattle.text.specs.Text.{Text, ascii}
 use Rattle.utf8.proofs.Tests.{or_false, nor}
 use Rattle.token.specs.Regular.{in_ranges, step}

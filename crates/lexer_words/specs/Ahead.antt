@@ -1,5 +1,5 @@
 -- What is known of the text ahead: how far no prefixed name begins, but for one that begins with its colon.
-use Rattle.std.specs.Prelude.{◌≡◌, Option, Some, None, Bool, true, false, not, ◌||◌, List, [], ◌∷◌, ◌++◌, ℕ, zero, suc, ◌-◌, ◌≤◌, ◌<◌, T, eqb, length, drop}
+use Rattle.std.specs.Prelude.{◌≡◌, Option, Some, None, Bool, true, false, not, ◌||◌, List, [], ◌∷◌, ◌++◌, ℕ, ◌-◌, ◌≤◌, ◌<◌, T, eqb, length, drop}
 use Rattle.std.proofs.Math.Option.{none}
 use Rattle.text.specs.Text.{Text, is}
 use Rattle.utf8.specs.Utf8.{width, decode, first_bad}

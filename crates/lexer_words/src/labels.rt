@@ -11,7 +11,7 @@ use characters::runs::run;
 use token::Kind;
 
 // BLANK_NODE_LABEL ::= '_:' (PN_CHARS_U | [0-9]) ((PN_CHARS | '.')* PN_CHARS)?, after its first character.
-// Dots at its end are given back.
+// Dots at its end are given back. A `while`, since a character has up to four bytes.
 fn label_rest(s: &[u8], at: usize) -> Token
     requires { At s.now in_label at (Some (tok (kind_code BLANK_NODE_LABEL) at)) }
     ensures { TokenAt s.now (Some result) }

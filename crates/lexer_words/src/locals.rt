@@ -61,7 +61,7 @@ fn local_next(s: &[u8], at: usize) -> Option<usize>
 }
 
 // PN_LOCAL ::= (PN_CHARS_U | ':' | [0-9] | PLX) ((PN_CHARS | '.' | ':' | PLX)* (PN_CHARS | ':' | PLX))?, after its first character.
-// Dots at its end are given back.
+// Dots at its end are given back. A `while`, since a character has up to four bytes.
 fn local_rest(s: &[u8], at: usize) -> Token
     requires { At s.now in_local at (Some (tok (kind_code PNAME_LN) at)) }
     ensures { TokenAt s.now (Some result) }

@@ -17,7 +17,7 @@ use characters::names::{BASE, INNER, char_at};
 use characters::runs::run;
 use token::Kind;
 
-// The end of the run of PN_CHARS and dots there.
+// The end of the run of PN_CHARS and dots there. A `while`, since a character has up to four bytes.
 fn name_run(s: &[u8], at: usize) -> usize
     requires { at ≤ length s.now }
     ensures { RunAt s.now at result }

@@ -12,7 +12,7 @@ use characters::classes::{Letter, LetterOrDigit};
 use characters::runs::run;
 use token::Kind;
 
-// LANGTAG ::= '@' [a-zA-Z]+ ('-' [a-zA-Z0-9]+)*, after its first letters
+// LANGTAG ::= '@' [a-zA-Z]+ ('-' [a-zA-Z0-9]+)*, after its first letters. A `while`, since a subtag is passed in one step.
 fn subtags(s: &[u8], at: usize, kind: usize) -> Token
     requires { TagAt s.now at kind }
     ensures { TokenAt s.now (Some result) }

@@ -3,10 +3,10 @@
 
 ghost use Rattle.std.specs.Prelude.{◌≡◌, leb};
 
-use limits::Answer;
+use limits::Refusal;
 
 pub fn is_answer(number: u8) -> bool
     ensures { result ≡ leb number 18 }
 {
-    number <= Answer::TABLES
+    number <= u8::from(Refusal::Tables)
 }

@@ -6,7 +6,7 @@ use Prim.Native.Nat.{ℕ, zero, suc, ◌+◌, ◌-◌, ◌≤◌, ◌<◌}
 use native.Mathlib.Omega.{arith}
 use lib.ListN.{length, take, drop, length-drop}
 use lib.Seq.{length-take-le}
-use borrow.Author.Tests.{eq-eqb, ne_eqb, le-leb, lt-leb, lt-ltb, le-ltb}
+use borrow.Author.Tests.{eq-eqb, ne_eqb, lt-ltb, le-ltb}
 use Rattle.text.specs.Text.{Text, same_text}
 use Rattle.text.proofs.Compare.{by}
 use Rattle.spelling.specs.Form.{undo}
@@ -19,7 +19,6 @@ use Rattle.machine.specs.Frame.{Place, top, subject_before, object_of, element_o
 use Rattle.machine.specs.Step.{Room}
 use Rattle.state.specs.declared.Spot.{Spot}
 use Rattle.state.specs.declared.Node.{Node}
-use Rattle.state.specs.Represents.{counted as at_most}
 use Rattle.state.specs.Writes.{place_of, cells_of, node_iri}
 use Rattle.std.specs.Prelude.{Option as Maybe, Some, None, unwrap_or, is_some, IfSome}
 use Rattle.std.specs.Option.{option_eq}
@@ -39,15 +38,6 @@ pub rows_some : (x y : ℕ) → (x ≡ 0 → ⊥) → 1 ≡ place_rows (place_of
 rows_some zero y h = absurd (h refl)
 rows_some (suc x) zero h = refl
 rows_some (suc x) (suc y) h = refl
-
-pub iri_element : (x y : ℕ) → (x ≡ 0 → ⊥) → y ≡ 0 → 1 ≡ place_iri (place_of x y)
-iri_element zero y h e = absurd (h refl)
-iri_element (suc x) y h e = rw e
-
-pub iri_object : (x y : ℕ) → (x ≡ 0 → ⊥) → (y ≡ 0 → ⊥) → 0 ≡ place_iri (place_of x y)
-iri_object zero y h g = absurd (h refl)
-iri_object (suc x) zero h g = absurd (g refl)
-iri_object (suc x) (suc y) h g = refl
 
 place_rows_few : (p : Place) → place_rows p ≤ 1
 place_rows_few top = omega arith
@@ -281,12 +271,6 @@ unfolding count_place
 all_parts ts s n work back text tag c b d r p q e f g h k = k ∙ rw (h, g, e, f)
 
 -- ---- Room
-
-pub few : (n : ℕ) → n ≤ 4294967294 → n ≡ at_most n
-few n h = rw (le-leb n 4294967294 h)
-
-pub many : (n : ℕ) → 4294967294 < n → 4294967294 ≡ at_most n
-many n h = rw (lt-leb n 4294967294 h)
 
 module _ (room : Room) (n : ℕ) (c : Tally) (a b d : ℕ) where
   pub no_rows : a ≡ room.rows → a < n → 14 ≡ refusal_of room n c

@@ -4,4 +4,3 @@ pub mod Steps
 pub mod Frames
 pub mod Turning
 pub mod Numbers
-pub mod Errors

@@ -5,17 +5,13 @@ use mathlib.Core.List.{[]}
 use mathlib.Core.Option.{Option as Bad, none, some}
 use Prim.Native.Nat.{ℕ, ◌+◌, ◌-◌, ◌≤◌, ◌<◌}
 use native.Mathlib.Omega.{arith}
-use lib.Dec.{eqb}
 use lib.ListN.{length, take, drop, length-drop, drop_of_length-le}
 use lib.Seq.{length-take-le}
-use borrow.Author.Tests.{eqb-true, eqb-false}
 use Rattle.std.specs.Prelude.{Option, Some, None}
 use Rattle.text.specs.Text.{Text}
-use Rattle.text.proofs.Compare.{by}
 use Rattle.utf8.specs.Utf8.{decode, decode_from, bad_from, first_bad}
 use Rattle.utf8.proofs.Decoding.{tail_eq}
 use Rattle.token.specs.Kind.{unreadable_kind}
-use Rattle.token.specs.Regular.{Match, nothing, hit}
 use Rattle.token.specs.Terminals.{token_at}
 use Rattle.token.specs.Tokens.{between, trig_cuts, lexemes_from}
 use Rattle.token.proofs.KindCodes.{code_back}

@@ -15,6 +15,7 @@ pub struct TokenReader<'a> {
 }
 
 // The token at a place: its kind (of token::Kind, or END or UNREADABLE), the place of its first byte, and the place behind it.
+// Numbers for the last two, since docs/PROMISES.md names them, and `NextFrom` says where each of the three begins and ends.
 #[derive(Clone, Copy)]
 pub struct TokenAt {
     pub kind: usize,

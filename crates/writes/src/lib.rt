@@ -287,11 +287,18 @@ fn first_cell(
     requires { Ready (new_cell (place_of spot.x spot.y) spot.opened no_cell spot.at) work.old (lent_tables rows.old terms.old store.old) st.old × SpotFits spot }
     ensures { NumberWrites (new_cell (place_of spot.x spot.y) spot.opened no_cell spot.at) result work.old work.new (lent_tables rows.old terms.old store.old) (lent_tables rows.new terms.new store.new) st.old st.new }
 {
-    let x = spot.x;
-    let y = spot.y;
-    let opened = spot.opened;
     let cell = fresh(terms, st);
-    hold(work, rows, terms, store, st, x, y, cell, opened);
+    hold(
+        work,
+        rows,
+        terms,
+        store,
+        st,
+        spot.x,
+        spot.y,
+        cell,
+        spot.opened,
+    );
     cell
 }
 
@@ -307,11 +314,9 @@ fn later_cell(
     requires { Ready (new_cell (place_of spot.x spot.y) spot.opened (cells 0 spot.last) spot.at) work.old (lent_tables rows.old terms.old store.old) st.old × SpotFits spot }
     ensures { NumberWrites (new_cell (place_of spot.x spot.y) spot.opened (cells 0 spot.last) spot.at) result work.old work.new (lent_tables rows.old terms.old store.old) (lent_tables rows.new terms.new store.new) st.old st.new }
 {
-    let last = spot.last;
-    let at = spot.at;
     let cell = fresh(terms, st);
     let rest = share_supplied(work, terms, store, st, Supplied::Rest);
-    put_row(rows, st, last, rest, cell, at);
+    put_row(rows, st, spot.last, rest, cell, spot.at);
     cell
 }
 
@@ -327,8 +332,7 @@ fn new_cell(
     requires { Ready (new_cell (place_of spot.x spot.y) spot.opened (cells_of spot.last) spot.at) work.old (lent_tables rows.old terms.old store.old) st.old × SpotFits spot }
     ensures { NumberWrites (new_cell (place_of spot.x spot.y) spot.opened (cells_of spot.last) spot.at) result work.old work.new (lent_tables rows.old terms.old store.old) (lent_tables rows.new terms.new store.new) st.old st.new }
 {
-    let last = spot.last;
-    if last == 0 {
+    if spot.last == 0 {
         return first_cell(work, rows, terms, store, st, spot);
     }
     later_cell(work, rows, terms, store, st, spot)
@@ -346,8 +350,7 @@ fn holder(
     requires { (spot.list ≡ true → Ready (new_cell (place_of spot.x spot.y) spot.opened (cells_of spot.last) spot.at) work.old (lent_tables rows.old terms.old store.old) st.old) × SpotFits spot }
     ensures { Below spot result work.old work.new (lent_tables rows.old terms.old store.old) (lent_tables rows.new terms.new store.new) st.old st.new }
 {
-    let list = spot.list;
-    if list {
+    if spot.list {
         return new_cell(work, rows, terms, store, st, spot);
     }
     spot.x
@@ -357,8 +360,7 @@ fn holder(
 fn predicate(spot: Spot) -> usize
     ensures { result ≡ cond spot.list 0 spot.y }
 {
-    let list = spot.list;
-    if list {
+    if spot.list {
         return 0;
     }
     spot.y
@@ -457,8 +459,7 @@ pub fn write_opened(
     requires { Ready (opened_at spot) work.old (lent_tables rows.old terms.old store.old) st.old × SpotFits spot }
     ensures { Wrote (opened_at spot) work.old work.new (lent_tables rows.old terms.old store.old) (lent_tables rows.new terms.new store.new) st.old st.new × (Stays st.old st.new × (length st.new ≡ length st.old)) }
 {
-    let list = spot.list;
-    if list {
+    if spot.list {
         new_cell(work, rows, terms, store, st, spot);
         st[Words::NODE] = 0;
         return;
@@ -478,11 +479,18 @@ fn end_empty(
     requires { Ready (end_list (place_of spot.x spot.y) spot.opened no_cell spot.at) work.old (lent_tables rows.old terms.old store.old) st.old × SpotFits spot }
     ensures { NumberWrites (end_list (place_of spot.x spot.y) spot.opened no_cell spot.at) result work.old work.new (lent_tables rows.old terms.old store.old) (lent_tables rows.new terms.new store.new) st.old st.new }
 {
-    let x = spot.x;
-    let y = spot.y;
-    let opened = spot.opened;
     let nil = share_supplied(work, terms, store, st, Supplied::Nil);
-    hold(work, rows, terms, store, st, x, y, nil, opened);
+    hold(
+        work,
+        rows,
+        terms,
+        store,
+        st,
+        spot.x,
+        spot.y,
+        nil,
+        spot.opened,
+    );
     nil
 }
 
@@ -498,11 +506,9 @@ fn end_cells(
     requires { Ready (end_list (place_of spot.x spot.y) spot.opened (cells 0 spot.last) spot.at) work.old (lent_tables rows.old terms.old store.old) st.old × SpotFits spot }
     ensures { Writes (end_list (place_of spot.x spot.y) spot.opened (cells 0 spot.last) spot.at) 0 work.old work.new (lent_tables rows.old terms.old store.old) (lent_tables rows.new terms.new store.new) st.old st.new }
 {
-    let last = spot.last;
-    let at = spot.at;
     let rest = share_supplied(work, terms, store, st, Supplied::Rest);
     let nil = share_supplied(work, terms, store, st, Supplied::Nil);
-    put_row(rows, st, last, rest, nil, at);
+    put_row(rows, st, spot.last, rest, nil, spot.at);
 }
 
 // Writes the end of a list.
@@ -517,8 +523,7 @@ pub fn write_closed(
     requires { Ready (closed spot) work.old (lent_tables rows.old terms.old store.old) st.old × SpotFits spot }
     ensures { Wrote (closed spot) work.old work.new (lent_tables rows.old terms.old store.old) (lent_tables rows.new terms.new store.new) st.old st.new × (Stays st.old st.new × (length st.new ≡ length st.old)) }
 {
-    let last = spot.last;
-    if last == 0 {
+    if spot.last == 0 {
         st[Words::NODE] = end_empty(work, rows, terms, store, st, spot);
         return;
     }

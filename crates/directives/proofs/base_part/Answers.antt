@@ -1,5 +1,5 @@
 use mathlib.Core.Path.{refl}
-use Rattle.simulation.proofs.Errors.{handed_on, numbered}
+use Rattle.limits.proofs.Errors.{handed_on, numbered}
 use Rattle.directives.proofs.Calling.{changed_call}
 use Rattle.directives.proofs.Parts.{base_none, base_refused, base_ends, base_dot}
 use Rattle.directives.proofs.base_part.Goals as goal

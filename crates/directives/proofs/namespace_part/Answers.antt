@@ -1,5 +1,5 @@
 use mathlib.Core.Path.{refl}
-use Rattle.simulation.proofs.Errors.{handed_on, numbered}
+use Rattle.limits.proofs.Errors.{handed_on, numbered}
 use Rattle.directives.proofs.Calling.{changed_call}
 use Rattle.directives.proofs.Parts.{namespace_none, namespace_refused, namespace_ends, namespace_dot}
 use Rattle.directives.proofs.namespace_part.Goals as goal

@@ -4,7 +4,7 @@ use mathlib.Core.Path.{refl, sym, ap, subst, ◌∙◌}
 use mathlib.Core.Logic.{inl, inr, ⊎_elim}
 use mathlib.Core.List.{[], ◌∷◌}
 use Prim.Native.Nat.{ℕ}
-use Rattle.std.specs.Prelude.{Option, Some}
+use Rattle.std.specs.Prelude.{Some}
 use Rattle.automaton.specs.Run.{TokenAt}
 use Rattle.automaton.specs.declared.Token.{Token}
 use Rattle.token.specs.Regular.{in_ranges}

@@ -1,4 +1,4 @@
-use Rattle.simulation.proofs.Errors.{handed_on, numbered}
+use Rattle.limits.proofs.Errors.{handed_on, numbered}
 use mathlib.Core.Path.{refl, sym, ◌∙◌}
 use native.Mathlib.Omega.{arith}
 use Rattle.token.specs.Kind.{kind_code, comma, close_bracket}

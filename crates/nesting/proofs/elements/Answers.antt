@@ -1,5 +1,5 @@
 use mathlib.Core.Path.{refl}
-use Rattle.simulation.proofs.Errors.{handed_on, numbered}
+use Rattle.limits.proofs.Errors.{handed_on, numbered}
 use native.Mathlib.Omega.{arith}
 use Rattle.simulation.specs.Simulation.{held}
 use Rattle.nesting.proofs.OfElements.{elements_start, elements_small, elements_call, elements_close_call, elements_close, elements_stop, elements_again, elements_less}

@@ -1,5 +1,5 @@
 use mathlib.Core.Path.{refl}
-use Rattle.simulation.proofs.Errors.{handed_on, numbered}
+use Rattle.limits.proofs.Errors.{handed_on, numbered}
 use native.Mathlib.Omega.{arith}
 use Rattle.token.specs.Kind.{kind_code, comma}
 use Rattle.simulation.specs.Simulation.{held}

@@ -1,4 +1,4 @@
-use Rattle.simulation.proofs.Errors.{handed_on, numbered}
+use Rattle.limits.proofs.Errors.{handed_on, numbered}
 use mathlib.Core.Path.{refl, sym, ◌∙◌}
 use Rattle.simulation.specs.Simulation.{held}
 use Rattle.nesting.proofs.OfProperties.{properties_start, properties_stop, objects_call, properties_stop_2, properties_end, skips_call, properties_end_2, properties_again, properties_less}

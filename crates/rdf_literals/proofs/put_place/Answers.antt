@@ -1,5 +1,5 @@
 use mathlib.Core.Path.{refl}
-use Rattle.simulation.proofs.Errors.{numbered}
+use Rattle.limits.proofs.Errors.{numbered}
 use Rattle.rdf_literals.proofs.Adding.{puts_back, puts_adds}
 use Rattle.rdf_literals.proofs.Fitting.{open_asks, open_puts}
 use Rattle.rdf_literals.proofs.put_place.Goals as goal

@@ -1,5 +1,5 @@
 use mathlib.Core.Path.{refl}
-use Rattle.simulation.proofs.Errors.{handed_on, numbered}
+use Rattle.limits.proofs.Errors.{handed_on, numbered}
 use mathlib.Core.Path.{sym, ◌∙◌}
 use Rattle.rdf_literals.proofs.Whole.{string_bad, string_pass, plain_call, string_plain, own_call, place_call, string_stop, suffix_call, string_suffix}
 use Rattle.rdf_literals.proofs.put_string.Goals as goal

@@ -1,5 +1,5 @@
 use mathlib.Core.Path.{refl}
-use Rattle.simulation.proofs.Errors.{handed_on, numbered}
+use Rattle.limits.proofs.Errors.{handed_on, numbered}
 use Rattle.rdf_literals.proofs.Adding.{obeys_stop, obeys_does}
 use Rattle.rdf_literals.proofs.Whole.{tag_call, tag_pass, tag_deep}
 use Rattle.rdf_literals.proofs.put_tagged.Goals as goal

@@ -1,5 +1,5 @@
 use mathlib.Core.Path.{refl}
-use Rattle.simulation.proofs.Errors.{handed_on, numbered}
+use Rattle.limits.proofs.Errors.{handed_on, numbered}
 use Rattle.rdf_literals.proofs.Adding.{obeys_stop, obeys_does}
 use Rattle.rdf_literals.proofs.Whole.{typed_call, typed_pass, typed_deep}
 use Rattle.rdf_literals.proofs.put_typed.Goals as goal

@@ -1,4 +1,4 @@
-use Rattle.simulation.proofs.Errors.{numbered}
+use Rattle.limits.proofs.Errors.{numbered}
 use mathlib.Core.Path.{refl, sym, ap, ◌∙◌}
 use mathlib.Core.List.{[]}
 use Rattle.utf8.specs.Code.{bad_place}

@@ -1,4 +1,4 @@
-use Rattle.simulation.proofs.Errors.{handed_on, numbered}
+use Rattle.limits.proofs.Errors.{handed_on, numbered}
 use mathlib.Core.Path.{refl, ap}
 use native.Mathlib.Omega.{arith}
 use Rattle.token.specs.Kind.{kind_of_code}

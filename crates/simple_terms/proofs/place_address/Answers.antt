@@ -1,7 +1,7 @@
 use mathlib.Core.Path.{refl}
 use Rattle.std.proofs.Common.{Ok, Err}
 use Rattle.token_iri.specs.Addresses.{answered}
-use Rattle.simulation.proofs.Errors.{handed_on, numbered}
+use Rattle.limits.proofs.Errors.{handed_on, numbered}
 use Rattle.simple_terms.proofs.Writing.{back_in_buffer, back_in_token, back_buffer, back_token, address_refused, address_fits, address_put}
 use Rattle.simple_terms.proofs.place_address.Goals as goal
 

@@ -1,7 +1,7 @@
 use Rattle.std.proofs.Common.{refl, ap, sym, arith}
 use Rattle.token.specs.Kind.{kind_of_code}
 use Rattle.state.specs.Writes.{opened_at}
-use Rattle.simulation.proofs.Errors.{handed_on, numbered}
+use Rattle.limits.proofs.Errors.{handed_on, numbered}
 use Rattle.simple_terms.proofs.Refusing.{shallow}
 use Rattle.simple_terms.proofs.Writing.{spot_fits, aimed_put}
 use Rattle.simple_terms.proofs.Leaving.{put_ready, still_there, open_deep, plain_refused, plain_done, below_stays, opening_depth}

@@ -1,5 +1,5 @@
 use mathlib.Core.Path.{refl}
-use Rattle.simulation.proofs.Errors.{handed_on, numbered}
+use Rattle.limits.proofs.Errors.{handed_on, numbered}
 use Rattle.simulation.specs.Simulation.{here}
 use Rattle.simple_terms.proofs.Numbering.{placed_positive}
 use Rattle.simple_terms.proofs.Terms.{term_some, term_readable, rule_positive}

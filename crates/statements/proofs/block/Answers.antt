@@ -1,5 +1,5 @@
 use mathlib.Core.Path.{refl}
-use Rattle.simulation.proofs.Errors.{handed_on, numbered}
+use Rattle.limits.proofs.Errors.{handed_on, numbered}
 use Rattle.token.specs.Kind.{kind_code, dot, close_brace}
 use Rattle.nesting.proofs.Aiming.{unexpected_call}
 use Rattle.statements.proofs.OfMarks.{mark_call, dot_mark, close_mark}

@@ -1,5 +1,5 @@
 use mathlib.Core.Path.{refl}
-use Rattle.simulation.proofs.Errors.{handed_on, numbered}
+use Rattle.limits.proofs.Errors.{handed_on, numbered}
 use Rattle.statements.proofs.OfDocuments.{some_start, some_end, some_stop, some_again, some_less}
 use Rattle.statements.proofs.statements.Goals as goal
 

@@ -1,15 +1,13 @@
 -- The invariant: what was reached is a place in the chain of n, and the node is there if it is there or behind it.
+use mathlib.Core.Path.{◌≡◌}
 use Prim.Native.Nat.{suc}
 use lib.ListN.{length}
 use Rattle.table.specs.Layout.{term_size}
 use Rattle.usable.specs.Lent.{slices_of}
-use Rattle.chains.specs.Chains.{behind, heads, word_at}
+use Rattle.chains.specs.Chains.{heads, word_at}
 use Rattle.chains.proofs.Chains.{At}
 use Rattle.comparison.specs.Code.{is_node}
 use Rattle.comparison.proofs.pairs.has_node.Given as goal
 
-abbrev pub invariant-loop-at : goal.invariant-loop-at
-invariant-loop-at l = At (heads (length l.links.words.now) l.tables.term_count) (word_at l.tables.terms.now 3 term_size) l.n (λ k. is_node (slices_of l.tables) l.n (suc k)) l.tables.term_count l.at
-
-abbrev pub decreases-loop-at : goal.decreases-loop-at
-decreases-loop-at l = behind l.at
+abbrev pub invariant-loop-k : goal.invariant-loop-k
+invariant-loop-k l = (l.k-iterator.links ≡ l.fn.links) × At (heads (length l.fn.links.words.now) l.tables.term_count) (word_at l.tables.terms.now 3 term_size) l.n (λ k. is_node (slices_of l.tables) l.n (suc k)) l.tables.term_count l.k-iterator.at

@@ -10,7 +10,7 @@ find-requires c =
     let l = c.args.links.now in
     let f = word_at n.words.now n.from n.step in
     let h = heads (length l.words.now) l.count in
-    let b = c.before-before.ensures f c.requires.1.1 in
+    let b = c.before-before.ensures.next f c.requires.1.1 in
     (c.requires.1.0, (c.requires.1.1, (omega (arith, before_low h f c.args.i c.word.result c.before-before.result c.word.ensures.0 b, c.requires.0, c.requires.1.0), before_on h f c.args.i c.word.result c.before-before.result c.word.ensures.0 b)))
 
 pub returns : goal.returns
@@ -19,4 +19,4 @@ returns c =
     let l = c.args.links.now in
     let f = word_at n.words.now n.from n.step in
     let h = heads (length l.words.now) l.count in
-    is_fresh h f c.args.i c.word.result c.before-before.result c.word.ensures.0 (c.before-before.ensures f c.requires.1.1) c.find.result c.find.ensures c.is_none.result c.is_none.ensures
+    is_fresh h f c.args.i c.word.result c.before-before.result c.word.ensures.0 (c.before-before.ensures.next f c.requires.1.1) c.find.result c.find.ensures c.is_none.result c.is_none.ensures

@@ -12,7 +12,7 @@ is_found-requires c =
       (r.matched, (r.rows c.args.i c.requires.1, r.rows)),
       (
         sought_within p m o r c.args.i c.unwrap_or-key.result k,
-        (omega (arith, before_low p m o r c.args.i c.unwrap_or-key.result k c.before-before.result c.before-before.ensures, c.requires.1), before_on p m o r c.args.i c.unwrap_or-key.result k c.before-before.result c.before-before.ensures),
+        (omega (arith, before_low p m o r c.args.i c.unwrap_or-key.result k c.before-before.result c.before-before.ensures.next, c.requires.1), before_on p m o r c.args.i c.unwrap_or-key.result k c.before-before.result c.before-before.ensures.next),
       ),
     )
 
@@ -23,7 +23,7 @@ returns-then-is_found c =
     let o = c.args.other.now in
     let r = c.requires.0 in
     let k = own_key p m o r c.args.i c.key_of.result c.key_of.ensures c.unwrap_or-key.result 0 c.unwrap_or-key.ensures in
-    listed_repeated p m o r c.args.i c.unwrap_or-key.result k c.before-before.result c.before-before.ensures c.is_found.result c.is_found.ensures c.if-is_found.true
+    listed_repeated p m o r c.args.i c.unwrap_or-key.result k c.before-before.result c.before-before.ensures.next c.is_found.result c.is_found.ensures c.if-is_found.true
 
 pub is_found-requires-2 : goal.is_found-requires-2
 is_found-requires-2 c =
@@ -46,4 +46,4 @@ returns c =
     let o = c.args.other.now in
     let r = c.requires.0 in
     let k = own_key p m o r c.args.i c.key_of.result c.key_of.ensures c.unwrap_or-key.result 0 c.unwrap_or-key.ensures in
-    listed_first p m o r c.args.i c.unwrap_or-key.result k c.before-before.result c.before-before.ensures c.is_found.result c.is_found.ensures c.if-is_found.false c.first-first.result c.first-first.ensures c.is_found-2.result c.is_found-2.ensures
+    listed_first p m o r c.args.i c.unwrap_or-key.result k c.before-before.result c.before-before.ensures.next c.is_found.result c.is_found.ensures c.if-is_found.false c.first-first.result c.first-first.ensures c.is_found-2.result c.is_found-2.ensures

@@ -1,6 +1,6 @@
 -- `word_or_name` meets its contract.
 use native.Mathlib.Omega.{arith}
-use mathlib.Core.Path.{ap, subst}
+use mathlib.Core.Path.{subst}
 use Prim.Native.Nat.{ℕ}
 use Rattle.std.specs.Prelude.{Option}
 use Rattle.automaton.specs.States.{in_prefix}
