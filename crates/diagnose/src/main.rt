@@ -172,8 +172,29 @@ fn examine<W: Write>(
     }
 }
 
-// 65,536 statements and terms, an index of the terms, and a document's length of text. They stand apart from `examine`: beside
-// arrays so long the proof of a range there runs out of stack.
+// The arrays become slices here, where they are lent: beside the literals themselves the proof of that runs out of stack.
+fn examine_with<W: Write>(
+    out: &mut W,
+    words: &[u8],
+    name: &[u8],
+    page: &mut [u8],
+    n: usize,
+    mode: Mode,
+    work: &mut [u8; 822272],
+    rows: &mut [u32; 327680],
+    terms: &mut [u32; 327680],
+    store: &mut [u8; 1048576],
+) -> io::Result<()> {
+    let mut room = Room {
+        work,
+        rows,
+        terms,
+        store,
+    };
+    examine(out, words, name, page, n, mode, &mut room)
+}
+
+// The tables: 65,536 statements and terms, an index of the terms, and a document's length of text.
 fn examine_page<W: Write>(
     out: &mut W,
     words: &[u8],
@@ -186,13 +207,24 @@ fn examine_page<W: Write>(
     let mut rows = [0u32; 327680];
     let mut terms = [0u32; 327680];
     let mut store = [0u8; 1048576];
-    let mut room = Room {
-        work: &mut work,
-        rows: &mut rows,
-        terms: &mut terms,
-        store: &mut store,
-    };
-    examine(out, words, name, page, n, mode, &mut room)
+    examine_with(
+        out, words, name, page, n, mode, &mut work, &mut rows, &mut terms, &mut store,
+    )
+}
+
+// The same of the page.
+fn examine_open_in<S: Read, W: Write>(
+    out: &mut W,
+    words: &[u8],
+    name: &[u8],
+    source: &mut S,
+    mode: Mode,
+    page: &mut [u8; 1048584],
+) -> io::Result<()> {
+    match input::read_full(source, page) {
+        Ok(n) => examine_page(out, words, name, page, n, mode),
+        Err(_) => print_unreadable(out, words, name),
+    }
 }
 
 // The page: the longest document, and room for a sample after it.
@@ -204,10 +236,7 @@ fn examine_open<S: Read, W: Write>(
     mode: Mode,
 ) -> io::Result<()> {
     let mut page = [0u8; 1048584];
-    match input::read_full(source, &mut page) {
-        Ok(n) => examine_page(out, words, name, &mut page, n, mode),
-        Err(_) => print_unreadable(out, words, name),
-    }
+    examine_open_in(out, words, name, source, mode, &mut page)
 }
 
 // Whether a name stands for standard input.
