@@ -10,10 +10,13 @@ mod source;
 
 ghost use Rattle.std.specs.Prelude.{◌≡◌, ◌↔◌, ◌≤◌, [], ◌∷◌, ◌++◌, if◌then◌else◌, nat_eq, IsTrue, OnOk, decimal, length, take};
 ghost use Rattle.std.specs.Io.KnownBytes.{Appends, Keeps};
+ghost use Rattle.limits.specs.Refusal.{number};
 ghost use Rattle.documents.specs.Places.{place, within};
 ghost use Rattle.diagnose.specs.Phrase.{phrase};
 ghost use Rattle.diagnose.specs.Meaning.{meaning};
 
+use documents::{Choice, Mode};
+use limits::Refusal;
 use phrases::{Phrases, say};
 use reader::{Accepted, Refused};
 use source::Source;
@@ -23,13 +26,71 @@ use std::rt::{Env, Files};
 use std::{fs, io, str};
 use token::Kind;
 
-// What the arguments said so far: a mode, or 2 for the name's ending; whether a file was named; whether standard input was,
-// which is read once.
+// What the arguments said so far: how files are read; whether a file was named; whether standard input was, which is read once.
 #[derive(Clone, Copy)]
 struct Said {
-    mode: u8,
+    choice: Choice,
     named: bool,
     spent: bool,
+}
+
+// What the reader is lent, apart as its interface takes it.
+#[derive(Drop)]
+struct Room<'a> {
+    work: &'a mut [u8],
+    rows: &'a mut [u32],
+    terms: &'a mut [u32],
+    store: &'a mut [u8],
+}
+
+impl<'a> Room<'a> {
+    fn read(&mut self, document: &[u8], mode: Mode) -> Result<Accepted, Refused> {
+        reader::read(
+            document,
+            &document[..0],
+            u8::from(mode),
+            self.work,
+            self.rows,
+            self.terms,
+            self.store,
+        )
+    }
+
+    // Whether the document may end at this place of the page.
+    fn may_end(&mut self, page: &[u8], at: usize, mode: Mode) -> bool {
+        match page.get(..at) {
+            Some(document) => self.read(document, mode).is_ok(),
+            None => false,
+        }
+    }
+
+    // Whether a token of this kind is allowed there, where it is one of those that are told.
+    fn allows(&mut self, page: &mut [u8], at: usize, kind: usize, mode: Mode) -> bool {
+        phrases::is_told(kind)
+            && diagnosis::is_allowed(
+                page,
+                at,
+                kind,
+                u8::from(mode),
+                self.work,
+                self.rows,
+                self.terms,
+                self.store,
+            )
+    }
+
+    // What is expected at a place where the grammar refused. The page is written over from there on.
+    fn expected(&mut self, page: &mut [u8], at: usize, mode: Mode) -> [bool; Phrases::FOUND] {
+        let mut found = [false; Phrases::FOUND];
+        found[Phrases::END] = self.may_end(page, at, mode);
+        for kind in Kind::IRIREF..=Kind::LAST {
+            found[kind] = self.allows(page, at, kind, mode);
+        }
+        if found[Phrases::NAME] {
+            found[Phrases::PREFIX] = false;
+        }
+        found
+    }
 }
 
 // The words file:line:column: refused number at place: meaning
@@ -38,14 +99,15 @@ fn print_refusal<W: Write>(
     words: &[u8],
     name: &[u8],
     document: &[u8],
-    number: u8,
-    at: usize,
+    refused: Refused,
 ) -> io::Result<()>
-    ensures { let p = place document.now (within document.now at) in OnOk result (Appends (W.contents out.old) (W.contents out.new) (name.now ++ phrase words.now Phrases.COLON ++ decimal p.line ++ phrase words.now Phrases.COLON ++ decimal p.column ++ phrase words.now Phrases.REFUSED ++ decimal number ++ phrase words.now Phrases.AT ++ decimal at ++ phrase words.now Phrases.THEN ++ phrase words.now (meaning document.now number at) ++ 10 ∷ [])) }
+    ensures { let at = refused.position in let p = place document.now (within document.now at) in OnOk result (Appends (W.contents out.old) (W.contents out.new) (name.now ++ phrase words.now Phrases.COLON ++ decimal p.line ++ phrase words.now Phrases.COLON ++ decimal p.column ++ phrase words.now Phrases.REFUSED ++ decimal (number refused.refusal) ++ phrase words.now Phrases.AT ++ decimal at ++ phrase words.now Phrases.THEN ++ phrase words.now (meaning document.now (number refused.refusal) at) ++ 10 ∷ [])) }
 {
+    let at = refused.position;
     let p = documents::place_of(document, at);
     let line = p.line;
     let column = p.column;
+    let number = u8::from(refused.refusal);
     out.write_all(name)?;
     say(out, words, Phrases::COLON)?;
     write!(out, "{line}")?;
@@ -56,7 +118,7 @@ fn print_refusal<W: Write>(
     say(out, words, Phrases::AT)?;
     write!(out, "{at}")?;
     say(out, words, Phrases::THEN)?;
-    say(out, words, phrases::meaning(document, number, at))?;
+    say(out, words, phrases::meaning(document, refused))?;
     phrases::end_line(out)
 }
 
@@ -80,93 +142,6 @@ fn print_count<W: Write>(out: &mut W, words: &[u8], name: &[u8], count: usize) -
     phrases::end_line(out)
 }
 
-fn read_document(
-    document: &[u8],
-    mode: u8,
-    work: &mut [u8],
-    rows: &mut [u32],
-    terms: &mut [u32],
-    store: &mut [u8],
-) -> Result<Accepted, Refused> {
-    reader::read(document, &document[..0], mode, work, rows, terms, store)
-}
-
-// Whether the document may end at this place of the page.
-fn may_end(
-    page: &[u8],
-    at: usize,
-    mode: u8,
-    work: &mut [u8],
-    rows: &mut [u32],
-    terms: &mut [u32],
-    store: &mut [u8],
-) -> bool {
-    if page.len() < at {
-        return false;
-    }
-    read_document(&page[..at], mode, work, rows, terms, store).is_ok()
-}
-
-// Notes whether a token of this kind is allowed, where it is one of those that are told.
-fn try_kind(
-    kind: usize,
-    page: &mut [u8],
-    at: usize,
-    mode: u8,
-    work: &mut [u8],
-    rows: &mut [u32],
-    terms: &mut [u32],
-    store: &mut [u8],
-    found: &mut [bool; Phrases::FOUND],
-) {
-    if !phrases::is_told(kind) {
-        return;
-    }
-    let yes = diagnosis::is_allowed(page, at, kind, mode, work, rows, terms, store);
-    if kind < Phrases::FOUND {
-        found[kind] = yes;
-    }
-}
-
-fn try_kinds(
-    page: &mut [u8],
-    at: usize,
-    mode: u8,
-    work: &mut [u8],
-    rows: &mut [u32],
-    terms: &mut [u32],
-    store: &mut [u8],
-    found: &mut [bool; Phrases::FOUND],
-) {
-    let mut kind: usize = Kind::IRIREF;
-    while kind <= Kind::LAST {
-        try_kind(kind, page, at, mode, work, rows, terms, store, found);
-        kind += 1;
-    }
-}
-
-// What is expected at a place where 8 was answered. The page is written over from there on.
-fn print_expected<W: Write>(
-    out: &mut W,
-    words: &[u8],
-    page: &mut [u8],
-    at: usize,
-    mode: u8,
-    work: &mut [u8],
-    rows: &mut [u32],
-    terms: &mut [u32],
-    store: &mut [u8],
-) -> io::Result<()> {
-    let mut found = [false; Phrases::FOUND];
-    let end = may_end(page, at, mode, work, rows, terms, store);
-    try_kinds(page, at, mode, work, rows, terms, store, &mut found);
-    found[Phrases::END] = end;
-    if found[Phrases::NAME] {
-        found[Phrases::PREFIX] = false;
-    }
-    phrases::print_list(out, words, &found)
-}
-
 // Reads the first n bytes of the page, and says what there is to say.
 fn examine<W: Write>(
     out: &mut W,
@@ -174,45 +149,49 @@ fn examine<W: Write>(
     name: &[u8],
     page: &mut [u8],
     n: usize,
-    mode: u8,
-    work: &mut [u8],
-    rows: &mut [u32],
-    terms: &mut [u32],
-    store: &mut [u8],
+    mode: Mode,
+    room: &mut Room<'_>,
 ) -> io::Result<()> {
     if page.len() < n {
         return Ok(());
     }
-    let refused = match read_document(&page[..n], mode, work, rows, terms, store) {
+    let refused = match room.read(&page[..n], mode) {
         Ok(read) => return print_count(out, words, name, read.rows),
         Err(refused) => refused,
     };
-    let number = u8::from(refused.refusal);
-    let at = refused.position;
-    print_refusal(out, words, name, &page[..n], number, at)?;
-    if number < 5 {
-        return Ok(());
+    print_refusal(out, words, name, &page[..n], refused)?;
+    match refused.refusal {
+        // These speak of no place.
+        Refusal::DocumentLength | Refusal::Mode | Refusal::Base | Refusal::Work => Ok(()),
+        Refusal::Grammar => {
+            marks::print_line(out, words, &page[..n], refused)?;
+            let found = room.expected(page, refused.position, mode);
+            phrases::print_list(out, words, &found)
+        }
+        _ => marks::print_line(out, words, &page[..n], refused),
     }
-    marks::print_line(out, words, &page[..n], number, at)?;
-    if number == 8 {
-        print_expected(out, words, page, at, mode, work, rows, terms, store)?;
-    }
-    Ok(())
 }
 
+// The arrays become slices here, where they are lent: beside the literals themselves the proof of that runs out of stack.
 fn examine_with<W: Write>(
     out: &mut W,
     words: &[u8],
     name: &[u8],
     page: &mut [u8],
     n: usize,
-    mode: u8,
+    mode: Mode,
     work: &mut [u8; 822272],
     rows: &mut [u32; 327680],
     terms: &mut [u32; 327680],
     store: &mut [u8; 1048576],
 ) -> io::Result<()> {
-    examine(out, words, name, page, n, mode, work, rows, terms, store)
+    let mut room = Room {
+        work,
+        rows,
+        terms,
+        store,
+    };
+    examine(out, words, name, page, n, mode, &mut room)
 }
 
 // The tables: 65,536 statements and terms, an index of the terms, and a document's length of text.
@@ -222,7 +201,7 @@ fn examine_page<W: Write>(
     name: &[u8],
     page: &mut [u8],
     n: usize,
-    mode: u8,
+    mode: Mode,
 ) -> io::Result<()> {
     let mut work = [0u8; 822272];
     let mut rows = [0u32; 327680];
@@ -233,20 +212,13 @@ fn examine_page<W: Write>(
     )
 }
 
-// The mode of a file: the one that was said, or by its name.
-fn mode_of(said: u8, name: &[u8]) -> u8 {
-    if said == 2 {
-        return documents::mode_by_name(name);
-    }
-    said
-}
-
+// The same of the page.
 fn examine_open_in<S: Read, W: Write>(
     out: &mut W,
     words: &[u8],
     name: &[u8],
     source: &mut S,
-    mode: u8,
+    mode: Mode,
     page: &mut [u8; 1048584],
 ) -> io::Result<()> {
     match input::read_full(source, page) {
@@ -261,7 +233,7 @@ fn examine_open<S: Read, W: Write>(
     words: &[u8],
     name: &[u8],
     source: &mut S,
-    mode: u8,
+    mode: Mode,
 ) -> io::Result<()> {
     let mut page = [0u8; 1048584];
     examine_open_in(out, words, name, source, mode, &mut page)
@@ -271,10 +243,7 @@ fn examine_open<S: Read, W: Write>(
 fn is_dash(name: &[u8]) -> bool
     ensures { IsTrue result ↔ (name.now ≡ 45 ∷ []) }
 {
-    if name.len() == 1 {
-        return name[0] == b'-';
-    }
-    false
+    matches!(name, b"-")
 }
 
 // A file, opened; - is standard input, as long as it is not spent.
@@ -289,10 +258,10 @@ fn open<R: Files + Input>(
         }
         return Ok(Source::Input(rt.reader()));
     }
-    match str::from_utf8(name) {
-        Ok(path) => Ok(Source::File(fs::open(rt, path)?)),
-        Err(_) => Err(io::Error::from(ErrorKind::InvalidFilename)),
-    }
+    let Ok(path) = str::from_utf8(name) else {
+        return Err(io::Error::from(ErrorKind::InvalidFilename));
+    };
+    Ok(Source::File(fs::open(rt, path)?))
 }
 
 // Whether it can be read at all, as a folder cannot: nothing is read.
@@ -324,7 +293,7 @@ fn examine_file<R: Files + Input, W: Write>(
     if !is_readable(&mut source) {
         return print_unreadable(out, words, name);
     }
-    examine_open(out, words, name, &mut source, mode_of(said.mode, name))
+    examine_open(out, words, name, &mut source, said.choice.mode(name))
 }
 
 // One argument: a word that says the mode, or a name.
@@ -335,19 +304,14 @@ fn argument<R: Files + Input, W: Write>(
     name: &[u8],
     said: Said,
 ) -> io::Result<Said> {
-    let mode = documents::mode_by_word(name);
-    if mode <= 2 {
-        return Ok(Said {
-            mode: mode,
-            named: said.named,
-            spent: said.spent,
-        });
+    if let Some(choice) = documents::mode_by_word(name) {
+        return Ok(Said { choice, ..said });
     }
     examine_file(rt, out, words, name, said)?;
     Ok(Said {
-        mode: said.mode,
         named: true,
-        spent: said.spent | is_dash(name),
+        spent: said.spent || is_dash(name),
+        ..said
     })
 }
 
@@ -380,10 +344,7 @@ fn put_argument<R: Env>(rt: &R, i: usize, count: usize, buffer: &mut [u8]) -> us
     ensures prefix { result ≡ length (take result buffer.new) }
 {
     if i < count {
-        return match rt.arg(i, buffer) {
-            Ok(n) => n,
-            Err(_) => 0,
-        };
+        return rt.arg(i, buffer).unwrap_or(0);
     }
     put_dash(buffer)
 }
@@ -397,10 +358,8 @@ fn turn<R: Files + Input + Env, W: Write>(
     count: usize,
     said: Said,
 ) -> io::Result<Said> {
-    if count <= i {
-        if said.named {
-            return Ok(said);
-        }
+    if count <= i && said.named {
+        return Ok(said);
     }
     let mut buffer = [0u8; 4096];
     let n = put_argument(rt, i, count, &mut buffer);
@@ -410,18 +369,12 @@ fn turn<R: Files + Input + Env, W: Write>(
 fn run<R: Files + Input + Env, W: Write>(rt: &R, out: &mut W, words: &[u8]) -> io::Result<()> {
     let count = argument_count(rt);
     let mut said = Said {
-        mode: 2,
+        choice: Choice::ByName,
         named: false,
         spent: false,
     };
-    let mut i: usize = 1;
-    while i <= count {
-        let next = turn(rt, out, words, i, count, said)?;
-        said = next;
-        if i == count {
-            return Ok(());
-        }
-        i += 1;
+    for i in 1..=count {
+        said = turn(rt, out, words, i, count, said)?;
     }
     Ok(())
 }

@@ -1,13 +1,18 @@
-// The phrases that are printed, from one table with a line for each, which main lends to whoever prints.
+// The phrases that are printed, from one table with a line for each, which main lends to whoever prints. The table and the output stay
+// two arguments: a struct of both would have each contract say besides that its table stays.
 ghost use Rattle.std.specs.Prelude.{◌≡◌, ◌<◌, ◌≤◌, [], ◌∷◌, OnOk, drop, length, slice_range};
 ghost use Rattle.std.specs.Io.KnownBytes.{Appends, Keeps};
+ghost use Rattle.limits.specs.Refusal.{number};
 ghost use Rattle.diagnose.specs.Meaning.{meaning, unreadable};
 ghost use Rattle.diagnose.specs.Phrase.{behind, phrase};
 
+use limits::Refusal;
+use reader::Refused;
 use std::io;
 use std::io::Write;
 use token::Kind;
 
+// The phrases by their lines, which stay numbers: a kind of token and a refusal come to theirs by adding.
 #[derive(Drop)]
 pub struct Phrases {}
 
@@ -63,10 +68,7 @@ pub fn print_part<W: Write>(out: &mut W, s: &[u8], from: usize, to: usize) -> io
     ensures within { to ≤ length s.now → OnOk result (Appends (W.contents out.old) (W.contents out.new) (slice_range s.now from to)) }
     ensures past { length s.now < to → OnOk result (Keeps (W.contents out.old) (W.contents out.new)) }
 {
-    if to < from {
-        return Ok(());
-    }
-    if s.len() < to {
+    if to < from || s.len() < to {
         return Ok(());
     }
     out.write_all(&s[from..to])
@@ -84,17 +86,15 @@ fn line_start(words: &[u8], n: usize) -> usize
     ensures line { drop result words.now ≡ behind n words.now }
 {
     let mut left = n;
-    let mut i: usize = 0;
-    while i < words.len() {
+    for i in 0..words.len() {
         if left == 0 {
             return i;
         }
         if words[i] == b'\n' {
             left -= 1;
         }
-        i += 1;
     }
-    i
+    words.len()
 }
 
 pub fn say<W: Write>(out: &mut W, words: &[u8], n: usize) -> io::Result<()>
@@ -116,44 +116,28 @@ fn unreadable(b: u8) -> usize
     }
 }
 
-// The line that says what an answer means.
-pub fn meaning(document: &[u8], number: u8, at: usize) -> usize
-    ensures { result ≡ meaning document.now number at }
+// The line that says what a refusal means.
+pub fn meaning(document: &[u8], refused: Refused) -> usize
+    ensures { result ≡ meaning document.now (number refused.refusal) refused.position }
 {
-    if document.len() <= at {
-        if number == 8 {
-            return Phrases::MAY_NOT_END;
-        }
-        return Phrases::MEANINGS + number as usize;
+    let at = refused.position;
+    match refused.refusal {
+        Refusal::Grammar if document.len() <= at => Phrases::MAY_NOT_END,
+        Refusal::Token if at < document.len() => unreadable(document[at]),
+        refusal => Phrases::MEANINGS + usize::from(u8::from(refusal)),
     }
-    if number == 6 {
-        return unreadable(document[at]);
-    }
-    Phrases::MEANINGS + number as usize
 }
 
 // Whether a kind has a phrase of its own. The productions NumericLiteral and String take their kinds alike, so that one stands for all.
 pub fn is_told(kind: usize) -> bool {
-    match kind {
+    !matches!(
+        kind,
         Kind::DECIMAL
-        | Kind::DOUBLE
-        | Kind::STRING_LITERAL_SINGLE_QUOTE
-        | Kind::STRING_LITERAL_LONG_QUOTE
-        | Kind::STRING_LITERAL_LONG_SINGLE_QUOTE => false,
-        _ => true,
-    }
-}
-
-fn count(found: &[bool; Phrases::FOUND]) -> usize {
-    let mut n: usize = 0;
-    let mut k: usize = 0;
-    while k < Phrases::FOUND {
-        if found[k] {
-            n += 1;
-        }
-        k += 1;
-    }
-    n
+            | Kind::DOUBLE
+            | Kind::STRING_LITERAL_SINGLE_QUOTE
+            | Kind::STRING_LITERAL_LONG_QUOTE
+            | Kind::STRING_LITERAL_LONG_SINGLE_QUOTE
+    )
 }
 
 // What stands before a phrase of a list, behind which `left` are to follow.
@@ -168,35 +152,20 @@ fn separate<W: Write>(out: &mut W, words: &[u8], first: bool, left: usize) -> io
     }
 }
 
-fn print_item<W: Write>(
-    out: &mut W,
-    words: &[u8],
-    k: usize,
-    total: usize,
-    left: usize,
-) -> io::Result<usize> {
-    separate(out, words, left == total, left)?;
-    say(out, words, k)?;
-    if left == 0 {
-        return Ok(0);
-    }
-    Ok(left - 1)
-}
-
 // The phrases of what was found, as a list with commas and 'or'.
 pub fn print_list<W: Write>(
     out: &mut W,
     words: &[u8],
     found: &[bool; Phrases::FOUND],
 ) -> io::Result<()> {
-    let total = count(found);
+    let total = found.iter().filter(|f| **f).count();
     let mut left = total;
-    let mut k: usize = 1;
-    while k < Phrases::FOUND {
+    for k in 1..Phrases::FOUND {
         if found[k] {
-            left = print_item(out, words, k, total, left)?;
+            separate(out, words, left == total, left)?;
+            say(out, words, k)?;
+            left = left.saturating_sub(1);
         }
-        k += 1;
     }
     if total != 0 {
         end_line(out)?;

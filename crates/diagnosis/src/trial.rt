@@ -7,8 +7,11 @@ ghost use Rattle.diagnosis.specs.Samples.{sample, Takes, Tries};
 
 use token::Kind;
 
-// Eight bytes for each kind of token: LF, a sample, blanks.
-const SAMPLES: [u8; 248] =
+// So many bytes a sample has: LF, the token, blanks.
+const SAMPLE: usize = 8;
+
+// A sample for each kind of token, in the order of their numbers.
+const SAMPLES: [u8; SAMPLE * (Kind::LAST + 1)] =
     *b"\n       \n<x:a>  \na:     \na:b    \n_:a    \n@prefix\n@base  \n@en    \n1      \n1.0    \n1e0    \n\"a\"    \n'a'    \na      \ntrue   \nfalse  \nPREFIX \nBASE   \nGRAPH  \n.      \n,      \n;      \n[      \n]      \n(      \n)      \n{      \n}      \n^^     \n\"\"\"a\"\"\"\n'''a'''";
 
 // Puts the sample of a kind at a place.
@@ -17,9 +20,8 @@ fn put_sample(page: &mut [u8], at: usize, kind: usize)
     ensures { page.new ≡ over_at at (sample kind) page.old }
 {
     let samples = SAMPLES;
-    let k = 8 * kind;
-    let e = k + 8;
-    text::copy(&samples[k..e], &mut page[at..]);
+    let k = SAMPLE * kind;
+    text::copy(&samples[k..k + SAMPLE], &mut page[at..]);
 }
 
 // Whether the grammar takes the token at this place of the text.
@@ -36,12 +38,8 @@ fn is_taken(
 {
     match reader::read(text, &text[..0], mode, work, rows, terms, store) {
         Ok(read) => place < read.position,
-        Err(refused) => {
-            if refused.position == place {
-                return 9 <= u8::from(refused.refusal);
-            }
-            place < refused.position
-        }
+        Err(refused) if refused.position == place => 9 <= u8::from(refused.refusal),
+        Err(refused) => place < refused.position,
     }
 }
 
@@ -58,19 +56,13 @@ pub fn is_allowed(
 ) -> bool
     ensures { Tries page.old at kind mode (lent_slices work.old rows.old terms.old store.old) page.new (lent_slices work.new rows.new terms.new store.new) result }
 {
-    if kind < Kind::IRIREF {
+    if !(Kind::IRIREF..=Kind::LAST).contains(&kind) {
         return false;
     }
-    if Kind::LAST < kind {
-        return false;
-    }
-    if page.len() < 8 {
-        return false;
-    }
-    if page.len() - 8 < at {
+    if page.len().saturating_sub(at) < SAMPLE {
         return false;
     }
     put_sample(page, at, kind);
-    let end = at + 8;
+    let end = at + SAMPLE;
     is_taken(&page[..end], at + 1, mode, work, rows, terms, store)
 }

@@ -21,10 +21,14 @@ unfoldable pub place : Text → ℕ → Place
 place doc zero = record { line = 1; column = 1; start = 0 }
 place doc (suc i) = passed i (get_or doc i 0) (ends_line doc i) (place doc i)
 
+-- LF or CR
+abbrev pub breaks : ℕ → Bool
+breaks b = is "\n" b || is "\r" b
+
 -- The text up to the next LF or CR has so many bytes.
 unfoldable pub left_in_line : Text → ℕ
 left_in_line [] = 0
-left_in_line (b ∷ s) = let n = left_in_line s in cond (is "\n" b || is "\r" b) 0 (n + 1)
+left_in_line (b ∷ s) = let n = left_in_line s in cond (breaks b) 0 (n + 1)
 
 -- A place past the end is the end.
 abbrev pub within : Text → ℕ → ℕ

@@ -4,5 +4,5 @@
 mod choice;
 mod places;
 
-pub use choice::{mode_by_name, mode_by_word};
+pub use choice::{Choice, Mode, mode_by_name, mode_by_word};
 pub use places::{Place, line_end, place_of};

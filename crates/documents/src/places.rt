@@ -1,54 +1,49 @@
 // The line and the column of a place.
-ghost use Rattle.std.specs.Prelude.{◌≡◌, ◌+◌, ◌<◌, ◌≤◌, length};
-ghost use Rattle.documents.specs.Places.{ends_line, passed, within, place, line_end};
+ghost use Rattle.std.specs.Prelude.{◌≡◌, ◌+◌, ◌<◌, ◌≤◌, length, not, take_while};
+ghost use Rattle.documents.specs.Places.{ends_line, passed, within, place, breaks, line_end};
 
 // Line and column of a place, from 1 on, and the place where its line begins.
-#[derive(Clone, Copy)]
+#[derive(Clone, Copy, Debug, PartialEq, Eq)]
 pub struct Place {
     pub line: usize,
     pub column: usize,
     pub start: usize,
 }
 
+impl Place {
+    // The place behind one more byte.
+    #[tactic(auto, unfolding(crate::specs::Places::passed))]
+    fn passed(self, i: usize, b: u8, ends: bool) -> Place
+        requires { (self.line ≤ i + 1) × (self.column ≤ i + 1) × (i < 9223372036854775807) }
+        ensures { result ≡ passed i b ends self }
+    {
+        if ends {
+            return Place {
+                line: self.line + 1,
+                column: 1,
+                start: i + 1,
+            };
+        }
+        if (0x80..=0xBF).contains(&b) {
+            return self;
+        }
+        Place {
+            column: self.column + 1,
+            ..self
+        }
+    }
+}
+
 // Whether the byte is the last of a line end.
+#[tactic(auto, unfolding(crate::specs::Places::ends_line))]
 fn ends_line(document: &[u8], i: usize) -> bool
     requires { i < length document.now }
     ensures { result ≡ ends_line document.now i }
 {
-    let b = document[i];
-    if b == b'\n' {
-        return true;
-    }
-    if b != b'\r' {
-        return false;
-    }
-    if document.len() - i <= 1 {
-        return true;
-    }
-    document[i + 1] != b'\n'
-}
-
-// The place behind one more byte.
-fn passed(p: Place, i: usize, b: u8, ends: bool) -> Place
-    requires { (p.line ≤ i + 1) × (p.column ≤ i + 1) × (i < 9223372036854775807) }
-    ensures { result ≡ passed i b ends p }
-{
-    if ends {
-        return Place {
-            line: p.line + 1,
-            column: 1,
-            start: i + 1,
-        };
-    }
-    if 128 <= b {
-        if b <= 191 {
-            return p;
-        }
-    }
-    Place {
-        line: p.line,
-        column: p.column + 1,
-        start: p.start,
+    match document[i] {
+        b'\n' => true,
+        b'\r' => document.get(i + 1) != Some(&b'\n'),
+        _ => false,
     }
 }
 
@@ -61,33 +56,27 @@ pub fn place_of(document: &[u8], at: usize) -> Place
         column: 1,
         start: 0,
     };
-    let mut i: usize = 0;
-    while i < at {
-        if document.len() <= i {
-            return p;
-        }
-        let ends = ends_line(document, i);
-        let next = passed(p, i, document[i], ends);
-        p = next;
-        i += 1;
+    for i in 0..at.min(document.len()) {
+        p = p.passed(i, document[i], ends_line(document, i));
     }
     p
+}
+
+// How many bytes there are up to the next LF or CR.
+fn left_in_line(s: &[u8]) -> usize
+    ensures { result ≡ length (take_while (λ b. not (breaks b)) s.now) }
+{
+    s.iter()
+        .take_while(|b| **b != b'\n' && **b != b'\r')
+        .count()
 }
 
 // Where the line of a place ends: before its LF or CR, or with the document.
 pub fn line_end(document: &[u8], at: usize) -> usize
     ensures { result ≡ line_end document.now at }
 {
-    let mut i = at;
-    while i < document.len() {
-        let b = document[i];
-        if b == b'\n' {
-            return i;
-        }
-        if b == b'\r' {
-            return i;
-        }
-        i += 1;
+    if document.len() < at {
+        return at;
     }
-    i
+    at + left_in_line(&document[at..])
 }

@@ -15,18 +15,15 @@ fn read_some<R: Read>(reader: &mut R, buf: &mut [u8]) -> io::Result<usize>
 {
     for _ in 0..u64::MAX {
         match reader.read(buf) {
-            Ok(n) => return Ok(n),
-            Err(e) => {
-                if e.kind() != ErrorKind::Interrupted {
-                    return Err(e);
-                }
-            }
+            Err(e) if e.kind() == ErrorKind::Interrupted => {}
+            answer => return answer,
         }
     }
     Err(io::Error::from(ErrorKind::TimedOut))
 }
 
-// Reads until the buffer is full or the input ends; how many bytes stand at its front then.
+// Reads until the buffer is full or the input ends; how many bytes stand at its front then. A `while`, since a turn passes as many
+// bytes as one read gives; Read::read_exact does not say how many an input has that ends before.
 pub fn read_full<R: Read>(reader: &mut R, buf: &mut [u8]) -> io::Result<usize>
     ensures bound { IfOk result (λ n. n ≤ length buf.new) }
     ensures bytes { IfOk result (λ n. Consumes (R.remaining reader.old) (R.remaining reader.new) (take n buf.new)) }

@@ -35,7 +35,7 @@ whole_shown true f x w e h = go (ltb (length x) (length f)) e
         (ap (λ (v : Written). take v.position v.output) k ∙ take-append_seam f (drop (length f) x), omega arith)
 
 -- A refusal's number is not that of an accepted call.
-refused_told : (r : Refusal) → number r ≡ 0 → ⊥
+pub refused_told : (r : Refusal) → number r ≡ 0 → ⊥
 refused_told DocumentLength e = omega arith
 refused_told Mode e = omega arith
 refused_told Base e = omega arith

@@ -4,17 +4,20 @@
 
 ghost use Rattle.std.specs.Prelude.{◌≡◌, IfSome, OnOk, length};
 ghost use Rattle.std.specs.Io.KnownBytes.{Appends};
+ghost use Rattle.limits.specs.Refusal.{number};
 ghost use Rattle.usable.specs.Lent.{slices_of};
 ghost use Rattle.machine.specs.Read.{lends};
 ghost use Rattle.printing.specs.Printed.{refusal, tables_printed, narrow, document_printed, printed};
 
+use limits::Refusal;
 use std::io;
 use std::io::{Read, Write};
 use table::Tables;
 
-fn print_refusal<W: Write>(out: &mut W, number: u8, position: usize) -> io::Result<()>
-    ensures { OnOk result (Appends (W.contents out.old) (W.contents out.new) (refusal number position)) }
+fn print_refusal<W: Write>(out: &mut W, why: Refusal, position: usize) -> io::Result<()>
+    ensures { OnOk result (Appends (W.contents out.old) (W.contents out.new) (refusal (number why) position)) }
 {
+    let number = u8::from(why);
     writeln!(out, "refused {number} at {position}")
 }
 
@@ -22,10 +25,7 @@ fn print_refusal<W: Write>(out: &mut W, number: u8, position: usize) -> io::Resu
 fn narrow(n: usize) -> u32
     ensures { result ≡ narrow n }
 {
-    if n <= 4294967295 {
-        return n as u32;
-    }
-    0
+    u32::try_from(n).unwrap_or(0)
 }
 
 fn write_rows<W: Write>(out: &mut W, tables: &Tables, lines: &mut [u8]) -> io::Result<()>
@@ -33,7 +33,7 @@ fn write_rows<W: Write>(out: &mut W, tables: &Tables, lines: &mut [u8]) -> io::R
 {
     match writer::write_long_form(tables, lines) {
         Ok(n) => out.write_all(&lines[..n]),
-        Err(refusal) => print_refusal(out, refusal.into(), 0),
+        Err(refusal) => print_refusal(out, refusal, 0),
     }
 }
 
@@ -66,7 +66,7 @@ fn show<W: Write>(out: &mut W, document: &[u8]) -> io::Result<()>
             };
             write_rows(out, &tables, &mut lines)
         }
-        Err(refused) => print_refusal(out, refused.refusal.into(), refused.position),
+        Err(refused) => print_refusal(out, refused.refusal, refused.position),
     }
 }
 
@@ -77,7 +77,7 @@ pub fn print_long_form<R: Read, W: Write>(source: &mut R, out: &mut W) -> io::Re
     let mut page = [0u8; 65537];
     let n = input::read_full(source, &mut page)?;
     if 65536 < n {
-        return print_refusal(out, 1, 0);
+        return print_refusal(out, Refusal::DocumentLength, 0);
     }
     show(out, &page[..n])
 }

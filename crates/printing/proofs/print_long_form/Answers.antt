@@ -4,7 +4,7 @@ use Rattle.printing.proofs.print_long_form.Goals as goal
 
 pub returns-then-n-gt65536 : goal.returns-then-n-gt65536
 returns-then-n-gt65536 g c =
-    appended_printed _ _ _ _ _ (long_input _ _ c.read_full.new.buf c.in_ok-n.n c.in_ok-n.ensures.bytes c.in_ok-n.ensures.bound c.if-n-gt65536.true) c.refused.ensures
+    appended_printed _ _ _ _ _ (long_input _ _ c.read_full.new.buf c.in_ok-n.n c.in_ok-n.ensures.bytes c.in_ok-n.ensures.bound c.if-n-gt65536.true) c.print_refusal.ensures
 
 pub returns : goal.returns
 returns g c =

@@ -1,9 +1,7 @@
-use Rattle.std.proofs.Common.{◌≡◌, OnOk, Ok, Err, sym, ap, ◌∙◌, subst, length, length-take-le}
+use Rattle.std.proofs.Common.{OnOk, sym, ap, ◌∙◌, subst, length-take-le}
 use Rattle.std.specs.Io.KnownBytes.{Appends}
 use Rattle.table.specs.Written.{answer}
-use Rattle.table.specs.LongForm.{write}
 use Rattle.usable.specs.Lent.{slices_of}
-use Rattle.printing.specs.Printed.{refusal}
 use Rattle.printing.proofs.Tables.{refusal_printed, form_printed, form_within}
 use Rattle.printing.proofs.write_rows.Goals as goal
 
@@ -31,6 +29,6 @@ pub returns-in-Err : goal.returns-in-Err
 returns-in-Err g c =
     let out = c.write_long_form.new.out in
     let e = ap (λ r. answer r out) (sym c.in-Err.is) ∙ c.write_long_form.ensures in
-    subst (λ t. OnOk c.refused.result (Appends (g.W.Write.contents c.args.out.now) (g.W.Write.contents c.refused.new.out) t))
-    (ap (λ n. refusal n 0) c.from.ensures ∙ refusal_printed (slices_of c.args.tables.now) c.args.lines.now out c.in-Err.refusal e)
-    c.refused.ensures
+    subst (λ t. OnOk c.print_refusal.result (Appends (g.W.Write.contents c.args.out.now) (g.W.Write.contents c.print_refusal.new.out) t))
+    (refusal_printed (slices_of c.args.tables.now) c.args.lines.now out c.in-Err.refusal e)
+    c.print_refusal.ensures
