@@ -167,10 +167,12 @@ fn enter_list(st: &mut [usize; Layout::WORDS], at: usize, cell: usize)
 
 // Every call among them is in tail position, so that the compiler can make it a jump and a bracket costs no stack: what is
 // resumed behind it stands in the levels. The measure is the remaining document; where no token is passed, the order is
-// resume, then after_object, contents and element, then the others.
+// resume, then after_object, contents and element, then the others. None is inlined: where the answers of two calls meet in one body, a
+// Result in two registers keeps the calls from being jumps.
 
 // A node where one is awaited; then what is resumed behind it.
 #[cycle(nesting)]
+#[inline(never)]
 fn value(doc: &[u8], held: &mut Held<'_>) -> Result<(), Refusal>
     requires { (Ready doc.now held.old × Spotted held.old) × (Awaited doc.now held.old × SomeLevels held.old.st (depth_in held.old.st)) }
     ensures { Values doc.now held.old held.new (code result) }
@@ -196,6 +198,7 @@ fn value(doc: &[u8], held: &mut Held<'_>) -> Result<(), Refusal>
 
 // What the level of this depth says; nothing where it says that the caller goes on.
 #[cycle(nesting)]
+#[inline(never)]
 fn resume(doc: &[u8], held: &mut Held<'_>) -> Result<(), Refusal>
     requires { Ready doc.now held.old × SomeLevels held.old.st (depth_in held.old.st) }
     ensures { Resumes doc.now held.old held.new (code result) }
@@ -213,6 +216,7 @@ fn resume(doc: &[u8], held: &mut Held<'_>) -> Result<(), Refusal>
 
 // What is in a bracket, behind it.
 #[cycle(nesting)]
+#[inline(never)]
 fn contents(doc: &[u8], held: &mut Held<'_>) -> Result<(), Refusal>
     requires { (Ready doc.now held.old × (node_in held.old.st < word_limit)) × ((0 < node_in held.old.st) × Deep held.old.st) }
     ensures { Contents doc.now held.old held.new (code result) }
@@ -227,6 +231,7 @@ fn contents(doc: &[u8], held: &mut Held<'_>) -> Result<(), Refusal>
 
 // The end of a bracket.
 #[cycle(nesting)]
+#[inline(never)]
 fn close_bracket(doc: &[u8], held: &mut Held<'_>) -> Result<(), Refusal>
     requires { Ready doc.now held.old × Deep held.old.st }
     ensures { Closing doc.now held.old held.new (code result) }
@@ -240,6 +245,7 @@ fn close_bracket(doc: &[u8], held: &mut Held<'_>) -> Result<(), Refusal>
 
 // A predicate of the subject that the level holds; then its first object.
 #[cycle(nesting)]
+#[inline(never)]
 fn predicate(doc: &[u8], held: &mut Held<'_>) -> Result<(), Refusal>
     requires { (Ready doc.now held.old × (level_x held.old.st (depth_in held.old.st) < word_limit)) × (((0 < level_x held.old.st (depth_in held.old.st)) × (code_among verb_kinds (kind_in held.old.st) ≡ true)) × Deep held.old.st) }
     ensures { Predicates doc.now held.old held.new (code result) }
@@ -255,6 +261,7 @@ fn predicate(doc: &[u8], held: &mut Held<'_>) -> Result<(), Refusal>
 
 // Behind an object in a bracket: one more, or a predicate, or the end.
 #[cycle(nesting)]
+#[inline(never)]
 fn after_object(doc: &[u8], held: &mut Held<'_>) -> Result<(), Refusal>
     requires { Ready doc.now held.old × ((0 < level_x held.old.st (depth_in held.old.st)) × SomeLevels held.old.st (depth_in held.old.st)) }
     ensures { Follows doc.now held.old held.new (code result) }
@@ -278,6 +285,7 @@ fn after_object(doc: &[u8], held: &mut Held<'_>) -> Result<(), Refusal>
 
 // The next element of a list, or its end.
 #[cycle(nesting)]
+#[inline(never)]
 fn element(doc: &[u8], held: &mut Held<'_>) -> Result<(), Refusal>
     requires { (Ready doc.now held.old × Spotted held.old) × ((list_in held.old.st ≡ 1) × Deep held.old.st) }
     ensures { Elements doc.now held.old held.new (code result) }
