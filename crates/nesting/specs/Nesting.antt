@@ -1,7 +1,9 @@
 -- What the readers that call each other say of the machine.
-use Rattle.std.specs.Prelude.{◌≡◌, true, List, [], ◌∷◌, ◌⊎◌, ℕ, suc, ◌+◌, ◌*◌, ◌-◌, ◌≤◌, ◌<◌, eqb, length, get_or}
+use Rattle.std.specs.Prelude.{◌≡◌, Bool, true, false, List, [], ◌∷◌, ◌⊎◌, ℕ, suc, ◌+◌, ◌*◌, ◌-◌, ◌≤◌, ◌<◌, eqb, length, get_or}
 use Rattle.std.specs.Borrow.{MutBor}
 use Rattle.text.specs.Text.{Text, cond}
+use Rattle.limits.specs.Refusal.{number}
+use Rattle.limits.specs.declared.Refusal.{Refusal}
 use Rattle.token.specs.Kind.{kind_code, strings, comma, semicolon, close_paren}
 use Rattle.machine.specs.Frame.{Ending, bracket_end, Place, Cells, no_cell, cells, Frame, bracket, list, object, after_object, after_semicolon}
 use Rattle.machine.specs.Rules.{after_node, after_properties}
@@ -10,6 +12,11 @@ use Rattle.simulation.specs.Simulation.{code_among, held, Ready, Reads}
 use Rattle.state.specs.declared.Held.{Held}
 use Rattle.nodes.specs.Nodes.{PutsTerm, Slot, Fills, Verbs, Ends, Steady, Settled, Belongs, InList}
 use Rattle.table.specs.Layout.{word_limit}
+
+-- What a reader that others call has come to: 0 where it has read to its end, and else the number of why not.
+abbrev pub told : Bool → Refusal → ℕ
+told true why = 0
+told false why = number why
 
 -- Semicolons were passed.
 pub record Skips (doc : Text) (st st' : List ℕ) : Type 0 where

@@ -14,7 +14,7 @@ ghost use Rattle.state.specs.Writes.{placed, opened_at};
 ghost use Rattle.simulation.specs.Simulation.{code_among, Ready, Does};
 ghost use Rattle.nodes.specs.Nodes.{spot_of, Spotted, Fills, Numbers, PutsTerm, Closes, Steady, term_kinds, verb_kinds};
 ghost use Rattle.token.specs.Kind.{kind_code, strings, kw_a, semicolon};
-ghost use Rattle.nesting.specs.Nesting.{Skips, Leaf, Awaited, Lists, Objects, Properties, Entered, level_x, level_y, Marked, SomeLevels, Deep, Values, Resumes, Contents, Closing, Predicates, Follows, Elements};
+ghost use Rattle.nesting.specs.Nesting.{told, Skips, Leaf, Awaited, Lists, Objects, Properties, Entered, level_x, level_y, Marked, SomeLevels, Deep, Values, Resumes, Contents, Closing, Predicates, Follows, Elements};
 ghost use Rattle.table.specs.Layout.{word_limit};
 
 use environment::Layout;
@@ -53,7 +53,12 @@ fn node(doc: &[u8], held: &mut Held<'_>) -> Result<(), Refusal>
     ensures { Fills doc.now held.old held.new (code result) × Steady held.old held.new (code result) }
 {
     mark(&mut held.st, 0, 0);
-    value(doc, held)
+    let mut why = Refusal::Grammar;
+    if value(doc, held, &mut why) {
+        Ok(())
+    } else {
+        Err(why)
+    }
 }
 
 // Predicates of s and their objects, from a predicate on to what cannot go on with them.
@@ -167,134 +172,144 @@ fn enter_list(st: &mut [usize; Layout::WORDS], at: usize, cell: usize)
 
 // Every call among them is in tail position, so that the compiler can make it a jump and a bracket costs no stack: what is
 // resumed behind it stands in the levels. The measure is the remaining document; where no token is passed, the order is
-// resume, then after_object, contents and element, then the others. None is inlined: where the answers of two calls meet in one body, a
-// Result in two registers keeps the calls from being jumps.
+// resume, then after_object, contents and element, then the others. Each says whether it has read to its end, and `why` not: a Result is
+// two registers, of which the compiler makes no jump (21,000 bytes of stack at depth 64).
 
 // A node where one is awaited; then what is resumed behind it.
 #[cycle(nesting)]
-#[inline(never)]
-fn value(doc: &[u8], held: &mut Held<'_>) -> Result<(), Refusal>
+fn value(doc: &[u8], held: &mut Held<'_>, why: &mut Refusal) -> bool
     requires { (Ready doc.now held.old × Spotted held.old) × (Awaited doc.now held.old × SomeLevels held.old.st (depth_in held.old.st)) }
-    ensures { Values doc.now held.old held.new (code result) }
+    ensures { Values doc.now held.old held.new (told result why.new) }
 {
     let kind = held.st[Words::KIND];
     if is_leaf(kind) {
-        leaf(doc, held)?;
-        return resume(doc, held);
+        if let Err(refusal) = leaf(doc, held) {
+            *why = refusal;
+            return false;
+        }
+        return resume(doc, held, why);
     }
     if kind == Kind::OPEN_BRACKET {
-        simple_terms::put_bracket(doc, held)?;
-        return contents(doc, held);
+        if let Err(refusal) = simple_terms::put_bracket(doc, held) {
+            *why = refusal;
+            return false;
+        }
+        return contents(doc, held, why);
     }
     if kind == Kind::OPEN_PAREN {
         let at = held.st[Words::AT];
         let cell = held.st[Words::TERMS] + 1;
-        simple_terms::put_paren(doc, held)?;
+        if let Err(refusal) = simple_terms::put_paren(doc, held) {
+            *why = refusal;
+            return false;
+        }
         enter_list(&mut held.st, at, cell);
-        return element(doc, held);
+        return element(doc, held, why);
     }
-    Err(simulation::unexpected(doc, &held.st))
+    *why = simulation::unexpected(doc, &held.st);
+    false
 }
 
 // What the level of this depth says; nothing where it says that the caller goes on.
 #[cycle(nesting)]
-#[inline(never)]
-fn resume(doc: &[u8], held: &mut Held<'_>) -> Result<(), Refusal>
+fn resume(doc: &[u8], held: &mut Held<'_>, why: &mut Refusal) -> bool
     requires { Ready doc.now held.old × SomeLevels held.old.st (depth_in held.old.st) }
-    ensures { Resumes doc.now held.old held.new (code result) }
+    ensures { Resumes doc.now held.old held.new (told result why.new) }
 {
     if level_x(&held.st) != 0 {
-        return after_object(doc, held);
+        return after_object(doc, held, why);
     }
     let last = level_y(&held.st);
     if last == 0 {
-        return Ok(());
+        return true;
     }
     nodes::aim(&mut held.st, 1, 0, 0, 0, last);
-    element(doc, held)
+    element(doc, held, why)
 }
 
 // What is in a bracket, behind it.
 #[cycle(nesting)]
-#[inline(never)]
-fn contents(doc: &[u8], held: &mut Held<'_>) -> Result<(), Refusal>
+fn contents(doc: &[u8], held: &mut Held<'_>, why: &mut Refusal) -> bool
     requires { (Ready doc.now held.old × (node_in held.old.st < word_limit)) × ((0 < node_in held.old.st) × Deep held.old.st) }
-    ensures { Contents doc.now held.old held.new (code result) }
+    ensures { Contents doc.now held.old held.new (told result why.new) }
 {
     if !nodes::is_verb(held.st[Words::KIND]) {
-        return close_bracket(doc, held);
+        return close_bracket(doc, held, why);
     }
     let n = held.st[Words::NODE];
     mark(&mut held.st, n, 0);
-    predicate(doc, held)
+    predicate(doc, held, why)
 }
 
 // The end of a bracket.
 #[cycle(nesting)]
-#[inline(never)]
-fn close_bracket(doc: &[u8], held: &mut Held<'_>) -> Result<(), Refusal>
+fn close_bracket(doc: &[u8], held: &mut Held<'_>, why: &mut Refusal) -> bool
     requires { Ready doc.now held.old × Deep held.old.st }
-    ensures { Closing doc.now held.old held.new (code result) }
+    ensures { Closing doc.now held.old held.new (told result why.new) }
 {
     if held.st[Words::KIND] != Kind::CLOSE_BRACKET {
-        return Err(simulation::unexpected(doc, &held.st));
+        *why = simulation::unexpected(doc, &held.st);
+        return false;
     }
     nodes::leave(doc, &mut held.st);
-    resume(doc, held)
+    resume(doc, held, why)
 }
 
 // A predicate of the subject that the level holds; then its first object.
 #[cycle(nesting)]
-#[inline(never)]
-fn predicate(doc: &[u8], held: &mut Held<'_>) -> Result<(), Refusal>
+fn predicate(doc: &[u8], held: &mut Held<'_>, why: &mut Refusal) -> bool
     requires { (Ready doc.now held.old × (level_x held.old.st (depth_in held.old.st) < word_limit)) × (((0 < level_x held.old.st (depth_in held.old.st)) × (code_among verb_kinds (kind_in held.old.st) ≡ true)) × Deep held.old.st) }
-    ensures { Predicates doc.now held.old held.new (code result) }
+    ensures { Predicates doc.now held.old held.new (told result why.new) }
 {
     let s = level_x(&held.st);
     nodes::aim(&mut held.st, 0, 0, 0, 0, 0);
-    leaf(doc, held)?;
+    if let Err(refusal) = leaf(doc, held) {
+        *why = refusal;
+        return false;
+    }
     let p = held.st[Words::NODE];
     mark(&mut held.st, s, p);
     nodes::aim(&mut held.st, 0, s, p, 0, 0);
-    value(doc, held)
+    value(doc, held, why)
 }
 
 // Behind an object in a bracket: one more, or a predicate, or the end.
 #[cycle(nesting)]
-#[inline(never)]
-fn after_object(doc: &[u8], held: &mut Held<'_>) -> Result<(), Refusal>
+fn after_object(doc: &[u8], held: &mut Held<'_>, why: &mut Refusal) -> bool
     requires { Ready doc.now held.old × ((0 < level_x held.old.st (depth_in held.old.st)) × SomeLevels held.old.st (depth_in held.old.st)) }
-    ensures { Follows doc.now held.old held.new (code result) }
+    ensures { Follows doc.now held.old held.new (told result why.new) }
 {
     if held.st[Words::KIND] == Kind::COMMA {
         nodes::pass(doc, &mut held.st);
         let s = level_x(&held.st);
         let p = level_y(&held.st);
         nodes::aim(&mut held.st, 0, s, p, 0, 0);
-        return value(doc, held);
+        return value(doc, held, why);
     }
     if held.st[Words::KIND] != Kind::SEMICOLON {
-        return close_bracket(doc, held);
+        return close_bracket(doc, held, why);
     }
     skip_semicolons(doc, &mut held.st);
     if nodes::is_verb(held.st[Words::KIND]) {
-        return predicate(doc, held);
+        return predicate(doc, held, why);
     }
-    close_bracket(doc, held)
+    close_bracket(doc, held, why)
 }
 
 // The next element of a list, or its end.
 #[cycle(nesting)]
-#[inline(never)]
-fn element(doc: &[u8], held: &mut Held<'_>) -> Result<(), Refusal>
+fn element(doc: &[u8], held: &mut Held<'_>, why: &mut Refusal) -> bool
     requires { (Ready doc.now held.old × Spotted held.old) × ((list_in held.old.st ≡ 1) × Deep held.old.st) }
-    ensures { Elements doc.now held.old held.new (code result) }
+    ensures { Elements doc.now held.old held.new (told result why.new) }
 {
     if held.st[Words::KIND] == Kind::CLOSE_PAREN {
-        simple_terms::close_list(doc, held)?;
-        return resume(doc, held);
+        if let Err(refusal) = simple_terms::close_list(doc, held) {
+            *why = refusal;
+            return false;
+        }
+        return resume(doc, held, why);
     }
     let cell = held.st[Words::TERMS] + 1;
     mark(&mut held.st, 0, cell);
-    value(doc, held)
+    value(doc, held, why)
 }

@@ -1,4 +1,4 @@
-use Rattle.limits.proofs.Errors.{handed_on, numbered}
+use Rattle.limits.proofs.Errors.{numbered}
 use mathlib.Core.Path.{refl, sym, ◌∙◌}
 use native.Mathlib.Omega.{arith}
 use Rattle.token.specs.Kind.{kind_code, comma, close_bracket}
@@ -87,14 +87,14 @@ contents-returns t c = contents_predicate _ _ _ _ _ _ c.requires.0.0 _ _ refl c.
 pub element-close_list-requires : goal.element-close_list-requires
 element-close_list-requires t c = (c.requires.0, (c.if-held-eq-CLOSE_PAREN.true, c.requires.1.1.0))
 
-pub element-returns-in_err-close_list : goal.element-returns-in_err-close_list
-element-returns-in_err-close_list t c = rw (handed_on _ _ c.from_residual.ensures) (element_stop _ _ c.requires.0.0 c.if-held-eq-CLOSE_PAREN.true _ _ c.in_err-close_list.ensures (numbered _))
+pub element-returns-in-Err : goal.element-returns-in-Err
+element-returns-in-Err t c = element_stop _ _ c.requires.0.0 c.if-held-eq-CLOSE_PAREN.true _ _ c.in-Err.ensures (numbered _)
 
 pub element-resume-requires : goal.element-resume-requires
-element-resume-requires t c = let l = closed_call _ _ c.requires.0.0 c.if-held-eq-CLOSE_PAREN.true _ _ c.in_ok-close_list.ensures refl c.requires.1.1 in (omega (arith, closed_later _ _ c.requires.0.0 c.if-held-eq-CLOSE_PAREN.true _ _ c.in_ok-close_list.ensures refl, l.0.cursor.inside, c.decreases), l)
+element-resume-requires t c = let l = closed_call _ _ c.requires.0.0 c.if-held-eq-CLOSE_PAREN.true _ _ c.in_default.ensures refl c.requires.1.1 in (omega (arith, closed_later _ _ c.requires.0.0 c.if-held-eq-CLOSE_PAREN.true _ _ c.in_default.ensures refl, l.0.cursor.inside, c.decreases), l)
 
 pub element-returns-then-held-eq-CLOSE_PAREN : goal.element-returns-then-held-eq-CLOSE_PAREN
-element-returns-then-held-eq-CLOSE_PAREN t c = element_resumes _ _ c.requires.0.0 c.if-held-eq-CLOSE_PAREN.true _ _ c.in_ok-close_list.ensures refl c.requires.1.1.0 _ _ c.resume.ensures
+element-returns-then-held-eq-CLOSE_PAREN t c = element_resumes _ _ c.requires.0.0 c.if-held-eq-CLOSE_PAREN.true _ _ c.in_default.ensures refl c.requires.1.1.0 _ _ c.resume.ensures
 
 pub element-overflow_add-cell : goal.element-overflow_add-cell
 element-overflow_add-cell t c = omega (arith, next_small _ _ c.requires.0.0)
@@ -117,20 +117,20 @@ predicate-aim-requires t c = ready_words _ _ c.requires.0.0
 pub predicate-leaf-requires : goal.predicate-leaf-requires
 predicate-leaf-requires t c = verb_call _ _ _ _ _ _ _ c.requires.0.0 c.requires.1.0.1 c.aim.ensures
 
-pub predicate-returns-in_err-leaf : goal.predicate-returns-in_err-leaf
-predicate-returns-in_err-leaf t c = rw (handed_on _ _ c.from_residual.ensures) (predicate_stop _ _ _ _ _ _ _ c.requires.0.0 c.requires.1.0.1 c.aim.ensures _ _ c.in_err-leaf.ensures.puts (numbered _))
+pub predicate-returns-in-Err : goal.predicate-returns-in-Err
+predicate-returns-in-Err t c = predicate_stop _ _ _ _ _ _ _ c.requires.0.0 c.requires.1.0.1 c.aim.ensures _ _ c.in-Err.ensures.puts (numbered _)
 
 pub predicate-mark-requires : goal.predicate-mark-requires
-predicate-mark-requires t c = mark_call _ _ (verb_done _ _ _ _ _ _ _ c.requires.0.0 c.requires.1.0.1 c.aim.ensures _ _ c.in_ok-leaf.ensures.puts refl).ready
+predicate-mark-requires t c = mark_call _ _ (verb_done _ _ _ _ _ _ _ c.requires.0.0 c.requires.1.0.1 c.aim.ensures _ _ c.in_default.ensures.puts refl).ready
 
 pub predicate-aim-requires-2 : goal.predicate-aim-requires-2
-predicate-aim-requires-2 t c = c.mark.ensures.words ∙ ready_words _ _ (verb_done _ _ _ _ _ _ _ c.requires.0.0 c.requires.1.0.1 c.aim.ensures _ _ c.in_ok-leaf.ensures.puts refl).ready
+predicate-aim-requires-2 t c = c.mark.ensures.words ∙ ready_words _ _ (verb_done _ _ _ _ _ _ _ c.requires.0.0 c.requires.1.0.1 c.aim.ensures _ _ c.in_default.ensures.puts refl).ready
 
 pub predicate-value-requires : goal.predicate-value-requires
-predicate-value-requires t c = let l = predicate_value_call _ _ _ _ _ _ _ c.requires.0.0 c.requires.1.0.1 c.aim.ensures _ _ _ _ _ _ c.in_ok-leaf.ensures.puts refl _ _ c.level_x-s.ensures refl _ _ c.mark.ensures c.aim-2.ensures c.requires.0.1 c.requires.1.0.0 c.requires.1.1.0 c.requires.1.1.1 in (omega (arith, predicate_later _ _ _ _ _ _ _ c.requires.0.0 c.requires.1.0.1 c.aim.ensures _ _ _ _ _ _ c.in_ok-leaf.ensures.puts refl _ _ c.level_x-s.ensures refl _ _ c.mark.ensures c.aim-2.ensures, l.0.0.cursor.inside, c.decreases), l)
+predicate-value-requires t c = let l = predicate_value_call _ _ _ _ _ _ _ c.requires.0.0 c.requires.1.0.1 c.aim.ensures _ _ _ _ _ _ c.in_default.ensures.puts refl _ _ c.level_x-s.ensures refl _ _ c.mark.ensures c.aim-2.ensures c.requires.0.1 c.requires.1.0.0 c.requires.1.1.0 c.requires.1.1.1 in (omega (arith, predicate_later _ _ _ _ _ _ _ c.requires.0.0 c.requires.1.0.1 c.aim.ensures _ _ _ _ _ _ c.in_default.ensures.puts refl _ _ c.level_x-s.ensures refl _ _ c.mark.ensures c.aim-2.ensures, l.0.0.cursor.inside, c.decreases), l)
 
 pub predicate-returns : goal.predicate-returns
-predicate-returns t c = predicate_value _ _ _ _ _ _ _ c.requires.0.0 c.requires.1.0.1 c.aim.ensures _ _ _ _ _ _ c.in_ok-leaf.ensures.puts refl _ _ c.level_x-s.ensures refl _ _ c.mark.ensures c.aim-2.ensures c.requires.0.1 c.requires.1.0.0 c.requires.1.1.0 _ _ c.value.ensures
+predicate-returns t c = predicate_value _ _ _ _ _ _ _ c.requires.0.0 c.requires.1.0.1 c.aim.ensures _ _ _ _ _ _ c.in_default.ensures.puts refl _ _ c.level_x-s.ensures refl _ _ c.mark.ensures c.aim-2.ensures c.requires.0.1 c.requires.1.0.0 c.requires.1.1.0 _ _ c.value.ensures
 
 pub resume-level_x-requires : goal.resume-level_x-requires
 resume-level_x-requires t c = mark_call _ _ c.requires.0
@@ -159,26 +159,26 @@ resume-returns t c = resumes_list _ _ _ _ _ _ c.requires.0 (sym c.level_x.ensure
 pub value-leaf-requires : goal.value-leaf-requires
 value-leaf-requires t c = (c.requires.0, leaf_call (kind_in c.args.held.now.st) _ c.is_leaf.ensures c.if-is_leaf.true)
 
-pub value-returns-in_err-leaf : goal.value-returns-in_err-leaf
-value-returns-in_err-leaf t c = rw (handed_on _ _ c.from_residual.ensures) (leaf_stop _ _ _ _ (leaf_settled _ _ c.requires.0.0 _ _ _ c.is_leaf.ensures c.if-is_leaf.true c.in_err-leaf.ensures) (numbered _))
+pub value-returns-in-Err : goal.value-returns-in-Err
+value-returns-in-Err t c = leaf_stop _ _ _ _ (leaf_settled _ _ c.requires.0.0 _ _ _ c.is_leaf.ensures c.if-is_leaf.true c.in-Err.ensures) (numbered _)
 
 pub value-resume-requires : goal.value-resume-requires
-value-resume-requires t c = let l = leaf_done _ _ _ _ (leaf_settled _ _ c.requires.0.0 _ _ _ c.is_leaf.ensures c.if-is_leaf.true c.in_ok-leaf.ensures) refl c.requires.1.0 c.requires.1.1 in (omega (arith, (leaf_settled _ _ c.requires.0.0 _ _ _ c.is_leaf.ensures c.if-is_leaf.true c.in_ok-leaf.ensures).1.steady.later refl, l.0.cursor.inside, c.decreases), l)
+value-resume-requires t c = let l = leaf_done _ _ _ _ (leaf_settled _ _ c.requires.0.0 _ _ _ c.is_leaf.ensures c.if-is_leaf.true c.in_default.ensures) refl c.requires.1.0 c.requires.1.1 in (omega (arith, (leaf_settled _ _ c.requires.0.0 _ _ _ c.is_leaf.ensures c.if-is_leaf.true c.in_default.ensures).1.steady.later refl, l.0.cursor.inside, c.decreases), l)
 
 pub value-returns-then-is_leaf : goal.value-returns-then-is_leaf
-value-returns-then-is_leaf t c = leaf_resumes _ _ _ _ (leaf_settled _ _ c.requires.0.0 _ _ _ c.is_leaf.ensures c.if-is_leaf.true c.in_ok-leaf.ensures) refl _ _ c.resume.ensures
+value-returns-then-is_leaf t c = leaf_resumes _ _ _ _ (leaf_settled _ _ c.requires.0.0 _ _ _ c.is_leaf.ensures c.if-is_leaf.true c.in_default.ensures) refl _ _ c.resume.ensures
 
 pub value-put_bracket-requires : goal.value-put_bracket-requires
 value-put_bracket-requires t c = (c.requires.0, c.if-kind-eq-OPEN_BRACKET.true)
 
-pub value-returns-in_err-put_bracket : goal.value-returns-in_err-put_bracket
-value-returns-in_err-put_bracket t c = rw (handed_on _ _ c.from_residual-in_err-put_bracket.ensures) (bracket_stop _ _ c.requires.0.0 c.if-kind-eq-OPEN_BRACKET.true _ _ c.in_err-put_bracket.ensures (numbered _))
+pub value-returns-in-Err-put_bracket : goal.value-returns-in-Err-put_bracket
+value-returns-in-Err-put_bracket t c = bracket_stop _ _ c.requires.0.0 c.if-kind-eq-OPEN_BRACKET.true _ _ c.in-Err-put_bracket.ensures (numbered _)
 
 pub value-contents-requires : goal.value-contents-requires
-value-contents-requires t c = let l = bracket_call _ _ c.requires.0.0 c.if-kind-eq-OPEN_BRACKET.true _ _ c.in_ok-put_bracket.ensures refl c.requires.1.1 in (omega (arith, bracket_later _ _ c.requires.0.0 c.if-kind-eq-OPEN_BRACKET.true _ _ c.in_ok-put_bracket.ensures refl, l.0.0.cursor.inside, c.decreases), l)
+value-contents-requires t c = let l = bracket_call _ _ c.requires.0.0 c.if-kind-eq-OPEN_BRACKET.true _ _ c.in_default-put_bracket.ensures refl c.requires.1.1 in (omega (arith, bracket_later _ _ c.requires.0.0 c.if-kind-eq-OPEN_BRACKET.true _ _ c.in_default-put_bracket.ensures refl, l.0.0.cursor.inside, c.decreases), l)
 
 pub value-returns-then-kind-eq-OPEN_BRACKET : goal.value-returns-then-kind-eq-OPEN_BRACKET
-value-returns-then-kind-eq-OPEN_BRACKET t c = bracket_contents _ _ c.requires.0.0 c.if-kind-eq-OPEN_BRACKET.true _ _ c.in_ok-put_bracket.ensures refl _ _ c.contents.ensures
+value-returns-then-kind-eq-OPEN_BRACKET t c = bracket_contents _ _ c.requires.0.0 c.if-kind-eq-OPEN_BRACKET.true _ _ c.in_default-put_bracket.ensures refl _ _ c.contents.ensures
 
 pub value-overflow_add-cell : goal.value-overflow_add-cell
 value-overflow_add-cell t c = omega (arith, next_small _ _ c.requires.0.0)
@@ -186,17 +186,17 @@ value-overflow_add-cell t c = omega (arith, next_small _ _ c.requires.0.0)
 pub value-put_paren-requires : goal.value-put_paren-requires
 value-put_paren-requires t c = (c.requires.0, c.if-kind-eq-OPEN_PAREN.true)
 
-pub value-returns-in_err-put_paren : goal.value-returns-in_err-put_paren
-value-returns-in_err-put_paren t c = rw (handed_on _ _ c.from_residual-in_err-put_paren.ensures) (list_stop _ _ c.requires.0.0 c.if-kind-eq-OPEN_PAREN.true _ _ _ _ _ _ c.in_err-put_paren.ensures (numbered _))
+pub value-returns-in-Err-put_paren : goal.value-returns-in-Err-put_paren
+value-returns-in-Err-put_paren t c = list_stop _ _ c.requires.0.0 c.if-kind-eq-OPEN_PAREN.true _ _ _ _ _ _ c.in-Err-put_paren.ensures (numbered _)
 
 pub value-enter_list-requires : goal.value-enter_list-requires
-value-enter_list-requires t c = ready_words _ _ (list_open _ _ c.requires.0.0 c.if-kind-eq-OPEN_PAREN.true _ _ _ _ _ _ c.in_ok-put_paren.ensures refl)
+value-enter_list-requires t c = ready_words _ _ (list_open _ _ c.requires.0.0 c.if-kind-eq-OPEN_PAREN.true _ _ _ _ _ _ c.in_default-put_paren.ensures refl)
 
 pub value-element-requires : goal.value-element-requires
-value-element-requires t c = let l = list_call _ _ c.requires.0.0 c.if-kind-eq-OPEN_PAREN.true _ _ _ _ _ _ c.in_ok-put_paren.ensures refl _ _ _ refl refl c.enter_list.ensures c.requires.0.1 c.requires.1.1 in (omega (arith, list_later _ _ c.requires.0.0 c.if-kind-eq-OPEN_PAREN.true _ _ _ _ _ _ c.in_ok-put_paren.ensures refl _ _ _ refl refl c.enter_list.ensures, l.0.0.cursor.inside, c.decreases), l)
+value-element-requires t c = let l = list_call _ _ c.requires.0.0 c.if-kind-eq-OPEN_PAREN.true _ _ _ _ _ _ c.in_default-put_paren.ensures refl _ _ _ refl refl c.enter_list.ensures c.requires.0.1 c.requires.1.1 in (omega (arith, list_later _ _ c.requires.0.0 c.if-kind-eq-OPEN_PAREN.true _ _ _ _ _ _ c.in_default-put_paren.ensures refl _ _ _ refl refl c.enter_list.ensures, l.0.0.cursor.inside, c.decreases), l)
 
 pub value-returns-then-kind-eq-OPEN_PAREN : goal.value-returns-then-kind-eq-OPEN_PAREN
-value-returns-then-kind-eq-OPEN_PAREN t c = list_elements _ _ c.requires.0.0 c.if-kind-eq-OPEN_PAREN.true _ _ _ _ _ _ c.in_ok-put_paren.ensures refl _ _ _ refl refl c.enter_list.ensures _ _ c.element.ensures
+value-returns-then-kind-eq-OPEN_PAREN t c = list_elements _ _ c.requires.0.0 c.if-kind-eq-OPEN_PAREN.true _ _ _ _ _ _ c.in_default-put_paren.ensures refl _ _ _ refl refl c.enter_list.ensures _ _ c.element.ensures
 
 pub value-unexpected-requires : goal.value-unexpected-requires
 value-unexpected-requires t c = unexpected_call _ _ c.requires.0.0

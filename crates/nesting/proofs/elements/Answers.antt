@@ -1,7 +1,6 @@
 use mathlib.Core.Path.{refl}
 use Rattle.limits.proofs.Errors.{handed_on, numbered}
 use native.Mathlib.Omega.{arith}
-use Rattle.simulation.specs.Simulation.{held}
 use Rattle.nesting.proofs.OfElements.{elements_start, elements_small, elements_call, elements_close_call, elements_close, elements_stop, elements_again, elements_less}
 use Rattle.nesting.proofs.Aiming.{ready_words}
 use Rattle.nesting.proofs.elements.Goals as goal

@@ -2,7 +2,6 @@ use mathlib.Core.Path.{refl}
 use Rattle.limits.proofs.Errors.{handed_on, numbered}
 use native.Mathlib.Omega.{arith}
 use Rattle.token.specs.Kind.{kind_code, comma}
-use Rattle.simulation.specs.Simulation.{held}
 use Rattle.nesting.proofs.OfObjects.{objects_start, objects_ready, objects_stop, objects_end, objects_again, objects_less, objects_more_ready}
 use Rattle.nesting.proofs.Aiming.{ready_words, pass_call}
 use Rattle.nesting.proofs.objects.Goals as goal

@@ -1,6 +1,5 @@
 use Rattle.limits.proofs.Errors.{handed_on, numbered}
 use mathlib.Core.Path.{refl, sym, ◌∙◌}
-use Rattle.simulation.specs.Simulation.{held}
 use Rattle.nesting.proofs.OfProperties.{properties_start, properties_stop, objects_call, properties_stop_2, properties_end, skips_call, properties_end_2, properties_again, properties_less}
 use Rattle.nesting.proofs.OfVerbs.{verb_call}
 use Rattle.nesting.proofs.Aiming.{ready_words}
