@@ -1,5 +1,5 @@
 -- What the readers that call each other say of the machine.
-use Rattle.std.specs.Prelude.{◌≡◌, Bool, true, false, List, [], ◌∷◌, ◌⊎◌, ℕ, suc, ◌+◌, ◌*◌, ◌-◌, ◌≤◌, ◌<◌, eqb, length, get_or}
+use Rattle.std.specs.Prelude.{◌≡◌, true, List, [], ◌∷◌, ◌⊎◌, ℕ, suc, ◌+◌, ◌*◌, ◌-◌, ◌≤◌, ◌<◌, eqb, length, get_or}
 use Rattle.std.specs.Borrow.{MutBor}
 use Rattle.text.specs.Text.{Text, cond}
 use Rattle.limits.specs.Refusal.{number}
@@ -10,13 +10,15 @@ use Rattle.machine.specs.Rules.{after_node, after_properties}
 use Rattle.state.specs.Words.{terms_word, list_word, x_word, y_word, opened_word, last_word, level_word, level_size, kind_in, at_in, depth_in, node_in, list_in}
 use Rattle.simulation.specs.Simulation.{code_among, held, Ready, Reads}
 use Rattle.state.specs.declared.Held.{Held}
+use Rattle.nesting.specs.declared.End.{End}
+use Rattle.nesting.specs.declared.End.TheVariants.{Read, Refused}
 use Rattle.nodes.specs.Nodes.{PutsTerm, Slot, Fills, Verbs, Ends, Steady, Settled, Belongs, InList}
 use Rattle.table.specs.Layout.{word_limit}
 
 -- What a reader that others call has come to: 0 where it has read to its end, and else the number of why not.
-abbrev pub told : Bool → Refusal → ℕ
-told true why = 0
-told false why = number why
+abbrev pub told : End → Refusal → ℕ
+told Read why = 0
+told Refused why = number why
 
 -- Semicolons were passed.
 pub record Skips (doc : Text) (st st' : List ℕ) : Type 0 where

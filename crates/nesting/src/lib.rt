@@ -54,10 +54,9 @@ fn node(doc: &[u8], held: &mut Held<'_>) -> Result<(), Refusal>
 {
     mark(&mut held.st, 0, 0);
     let mut why = Refusal::Grammar;
-    if value(doc, held, &mut why) {
-        Ok(())
-    } else {
-        Err(why)
+    match value(doc, held, &mut why) {
+        End::Read => Ok(()),
+        End::Refused => Err(why),
     }
 }
 
@@ -172,12 +171,19 @@ fn enter_list(st: &mut [usize; Layout::WORDS], at: usize, cell: usize)
 
 // Every call among them is in tail position, so that the compiler can make it a jump and a bracket costs no stack: what is
 // resumed behind it stands in the levels. The measure is the remaining document; where no token is passed, the order is
-// resume, then after_object, contents and element, then the others. Each says whether it has read to its end, and `why` not: a Result is
-// two registers, of which the compiler makes no jump (21,000 bytes of stack at depth 64).
+// resume, then after_object, contents and element, then the others.
+
+// How a reader ends; `why` it refuses is said beside it. No Result and no bool: a Result is two registers, and calls do not say that
+// a bool fills its own, so that none of them is a jump. Measured at depth 64: 21,000 and 31,320 bytes of stack.
+#[derive(Clone, Copy, Debug, PartialEq, Eq)]
+pub enum End {
+    Read,
+    Refused,
+}
 
 // A node where one is awaited; then what is resumed behind it.
 #[cycle(nesting)]
-fn value(doc: &[u8], held: &mut Held<'_>, why: &mut Refusal) -> bool
+fn value(doc: &[u8], held: &mut Held<'_>, why: &mut Refusal) -> End
     requires { (Ready doc.now held.old × Spotted held.old) × (Awaited doc.now held.old × SomeLevels held.old.st (depth_in held.old.st)) }
     ensures { Values doc.now held.old held.new (told result why.new) }
 {
@@ -185,14 +191,14 @@ fn value(doc: &[u8], held: &mut Held<'_>, why: &mut Refusal) -> bool
     if is_leaf(kind) {
         if let Err(refusal) = leaf(doc, held) {
             *why = refusal;
-            return false;
+            return End::Refused;
         }
         return resume(doc, held, why);
     }
     if kind == Kind::OPEN_BRACKET {
         if let Err(refusal) = simple_terms::put_bracket(doc, held) {
             *why = refusal;
-            return false;
+            return End::Refused;
         }
         return contents(doc, held, why);
     }
@@ -201,18 +207,18 @@ fn value(doc: &[u8], held: &mut Held<'_>, why: &mut Refusal) -> bool
         let cell = held.st[Words::TERMS] + 1;
         if let Err(refusal) = simple_terms::put_paren(doc, held) {
             *why = refusal;
-            return false;
+            return End::Refused;
         }
         enter_list(&mut held.st, at, cell);
         return element(doc, held, why);
     }
     *why = simulation::unexpected(doc, &held.st);
-    false
+    End::Refused
 }
 
 // What the level of this depth says; nothing where it says that the caller goes on.
 #[cycle(nesting)]
-fn resume(doc: &[u8], held: &mut Held<'_>, why: &mut Refusal) -> bool
+fn resume(doc: &[u8], held: &mut Held<'_>, why: &mut Refusal) -> End
     requires { Ready doc.now held.old × SomeLevels held.old.st (depth_in held.old.st) }
     ensures { Resumes doc.now held.old held.new (told result why.new) }
 {
@@ -221,7 +227,7 @@ fn resume(doc: &[u8], held: &mut Held<'_>, why: &mut Refusal) -> bool
     }
     let last = level_y(&held.st);
     if last == 0 {
-        return true;
+        return End::Read;
     }
     nodes::aim(&mut held.st, 1, 0, 0, 0, last);
     element(doc, held, why)
@@ -229,7 +235,7 @@ fn resume(doc: &[u8], held: &mut Held<'_>, why: &mut Refusal) -> bool
 
 // What is in a bracket, behind it.
 #[cycle(nesting)]
-fn contents(doc: &[u8], held: &mut Held<'_>, why: &mut Refusal) -> bool
+fn contents(doc: &[u8], held: &mut Held<'_>, why: &mut Refusal) -> End
     requires { (Ready doc.now held.old × (node_in held.old.st < word_limit)) × ((0 < node_in held.old.st) × Deep held.old.st) }
     ensures { Contents doc.now held.old held.new (told result why.new) }
 {
@@ -243,13 +249,13 @@ fn contents(doc: &[u8], held: &mut Held<'_>, why: &mut Refusal) -> bool
 
 // The end of a bracket.
 #[cycle(nesting)]
-fn close_bracket(doc: &[u8], held: &mut Held<'_>, why: &mut Refusal) -> bool
+fn close_bracket(doc: &[u8], held: &mut Held<'_>, why: &mut Refusal) -> End
     requires { Ready doc.now held.old × Deep held.old.st }
     ensures { Closing doc.now held.old held.new (told result why.new) }
 {
     if held.st[Words::KIND] != Kind::CLOSE_BRACKET {
         *why = simulation::unexpected(doc, &held.st);
-        return false;
+        return End::Refused;
     }
     nodes::leave(doc, &mut held.st);
     resume(doc, held, why)
@@ -257,7 +263,7 @@ fn close_bracket(doc: &[u8], held: &mut Held<'_>, why: &mut Refusal) -> bool
 
 // A predicate of the subject that the level holds; then its first object.
 #[cycle(nesting)]
-fn predicate(doc: &[u8], held: &mut Held<'_>, why: &mut Refusal) -> bool
+fn predicate(doc: &[u8], held: &mut Held<'_>, why: &mut Refusal) -> End
     requires { (Ready doc.now held.old × (level_x held.old.st (depth_in held.old.st) < word_limit)) × (((0 < level_x held.old.st (depth_in held.old.st)) × (code_among verb_kinds (kind_in held.old.st) ≡ true)) × Deep held.old.st) }
     ensures { Predicates doc.now held.old held.new (told result why.new) }
 {
@@ -265,7 +271,7 @@ fn predicate(doc: &[u8], held: &mut Held<'_>, why: &mut Refusal) -> bool
     nodes::aim(&mut held.st, 0, 0, 0, 0, 0);
     if let Err(refusal) = leaf(doc, held) {
         *why = refusal;
-        return false;
+        return End::Refused;
     }
     let p = held.st[Words::NODE];
     mark(&mut held.st, s, p);
@@ -275,7 +281,7 @@ fn predicate(doc: &[u8], held: &mut Held<'_>, why: &mut Refusal) -> bool
 
 // Behind an object in a bracket: one more, or a predicate, or the end.
 #[cycle(nesting)]
-fn after_object(doc: &[u8], held: &mut Held<'_>, why: &mut Refusal) -> bool
+fn after_object(doc: &[u8], held: &mut Held<'_>, why: &mut Refusal) -> End
     requires { Ready doc.now held.old × ((0 < level_x held.old.st (depth_in held.old.st)) × SomeLevels held.old.st (depth_in held.old.st)) }
     ensures { Follows doc.now held.old held.new (told result why.new) }
 {
@@ -298,14 +304,14 @@ fn after_object(doc: &[u8], held: &mut Held<'_>, why: &mut Refusal) -> bool
 
 // The next element of a list, or its end.
 #[cycle(nesting)]
-fn element(doc: &[u8], held: &mut Held<'_>, why: &mut Refusal) -> bool
+fn element(doc: &[u8], held: &mut Held<'_>, why: &mut Refusal) -> End
     requires { (Ready doc.now held.old × Spotted held.old) × ((list_in held.old.st ≡ 1) × Deep held.old.st) }
     ensures { Elements doc.now held.old held.new (told result why.new) }
 {
     if held.st[Words::KIND] == Kind::CLOSE_PAREN {
         if let Err(refusal) = simple_terms::close_list(doc, held) {
             *why = refusal;
-            return false;
+            return End::Refused;
         }
         return resume(doc, held, why);
     }

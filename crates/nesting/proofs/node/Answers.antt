@@ -8,8 +8,8 @@ mark-requires c = mark_call _ _ c.requires.0.0
 pub value-requires : goal.value-requires
 value-requires c = node_call _ _ _ _ _ _ _ c.requires.0.0 c.mark.ensures c.requires.0.1 c.requires.1
 
-pub returns-then-value : goal.returns-then-value
-returns-then-value c = let t = node_alone _ _ _ _ _ _ _ c.requires.0.0 c.mark.ensures c.requires.1 _ _ c.value.ensures in rw c.if-value.true at t
+pub returns-in-Read : goal.returns-in-Read
+returns-in-Read c = node_alone _ _ _ _ _ _ _ c.requires.0.0 c.mark.ensures c.requires.1 _ _ c.in-Read.ensures
 
-pub returns-else-value : goal.returns-else-value
-returns-else-value c = let t = node_alone _ _ _ _ _ _ _ c.requires.0.0 c.mark.ensures c.requires.1 _ _ c.value.ensures in rw c.if-value.false at t
+pub returns-in-Refused : goal.returns-in-Refused
+returns-in-Refused c = node_alone _ _ _ _ _ _ _ c.requires.0.0 c.mark.ensures c.requires.1 _ _ c.in-Refused.ensures
