@@ -7,6 +7,7 @@ use mathlib.Core.Logic.{inl, inr}
 use Prim.Native.Nat.{ℕ, zero, suc, ◌-◌, ◌≤◌, ◌<◌}
 use native.Mathlib.Omega.{arith}
 use borrow.Author.Tests.{ltb-false, le-leb}
+use denote.Ref.{at_last}
 use lib.Dec.{ltb}
 use lib.ListN.{length, get_or, drop, replicate, length-replicate}
 use Rattle.text.specs.Text.{Text, empty, some_byte, is_none}
@@ -30,7 +31,7 @@ use Rattle.machine.specs.Memory.{start_memory}
 use Rattle.machine.specs.Read.{bad_base}
 use Rattle.state.specs.Words.{counts_of, blanks_word, clear_word, depth_word, graph_word, kind_word, rows_word, terms_word, used_word}
 use Rattle.state.specs.Cursor.{Sought}
-use Rattle.simulation.specs.Simulation.{Holding, tables_of, Ready}
+use Rattle.simulation.specs.Simulation.{Holding, held, tables_of, Same, Ready}
 use Rattle.state.specs.declared.Held.{Held}
 use Rattle.reader.specs.Stages.{Checked, Started}
 
@@ -88,18 +89,34 @@ module _ {doc base work work₁ work₂ : Text} {st st₁ : List ℕ} {b : Resul
       let none_yet : environment_in work₁ st ≡ start_environment [] = ap (environment_in work₁) f ∙ nothing_in_force work₁ in
       set.after ∙ rw (true_is, none_yet)
 
+  long₂ : length work₂ ≡ length work
+  long₂ = set.beside.long ∙ long₁
+
+  -- What is lent stays lent, each in its place.
+  pub lasts : (h : Held) → h.work.now ≡ work → h.st ≡ st → (st₂ : List ℕ) → Sought doc 0 st₁ st₂ → Same h (held (at_last h.work work₂) h.rows h.terms h.store st₂)
+  lasts h w s st₂ Q = record {
+    work = refl;
+    rows = refl;
+    terms = refl;
+    store = refl;
+    work_length = long₂ ∙ ap length (sym w);
+    rows_length = refl;
+    terms_length = refl;
+    store_length = refl;
+    words = Q.words ∙ (set.usable.words ∙ sym (ap length (s ∙ f) ∙ length-replicate {A = ℕ} words_size 0));
+  }
+
   -- The cursor goes to the first token.
   pub started : (st₂ : List ℕ) → Sought doc 0 st₁ st₂ → Started doc base work work₂ st₂
   started st₂ Q =
       let zero_own : (k : ℕ) → rows_word ≤ k → get_or st₁ k 0 ≡ 0 = λ k h. set.beside.own k h ∙ (ap (λ (l : List ℕ). get_or l k 0) f ∙ zero_at words_size k) in
       let before : (k : ℕ) → rows_word ≤ k → k < kind_word → get_or st₂ k 0 ≡ 0 = λ k h g. Q.beside k (inl g) ∙ zero_own k h in
       let behind : (k : ℕ) → clear_word < k → get_or st₂ k 0 ≡ 0 = λ k h. Q.beside k (inr h) ∙ zero_own k (omega arith) in
-      let long : length work₂ ≡ length work = set.beside.long ∙ long₁ in
       record {
-        long = long;
-        usable = record { room = omega (arith, long, K.room); words = Q.words ∙ set.usable.words };
+        long = long₂;
+        usable = record { room = omega (arith, long₂, K.room); words = Q.words ∙ set.usable.words };
         environment = in_force_words work₂ st₁ st₂ (λ k h. Q.beside k (inl (omega arith))) ∙ based;
-        index = set.beside.behind ∙ (ap (drop work_size) e ∙ (drop_zeros work_size (length work) ∙ ap (λ (n : ℕ). zeros (n - work_size)) (sym long)));
+        index = set.beside.behind ∙ (ap (drop work_size) e ∙ (drop_zeros work_size (length work) ∙ ap (λ (n : ℕ). zeros (n - work_size)) (sym long₂)));
         rows = before rows_word (omega arith) (omega arith);
         terms = before terms_word (omega arith) (omega arith);
         used = before used_word (omega arith) (omega arith);

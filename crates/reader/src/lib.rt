@@ -31,14 +31,16 @@ pub struct Refused {
 }
 
 // Makes everything ready: the work slice is zeros but for the base, and the cursor is at the first token.
-fn prepare(document: &[u8], base: &[u8], work: &mut [u8], st: &mut [usize; Layout::WORDS])
-    requires { Checked document.now base.now work.old × (st.old ≡ replicate words_size 0) }
-    ensures { Started document.now base.now work.old work.new st.new }
+fn prepare(document: &[u8], base: &[u8], held: &mut Held<'_>)
+    requires { Checked document.now base.now held.old.work.now × (held.old.st ≡ replicate words_size 0) }
+    ensures same { Same held.old held.new }
+    ensures started { Started document.now base.now held.old.work.now held.new.work.now held.new.st }
+    ensures tables { (held.new.rows.now ≡ held.old.rows.now) × ((held.new.terms.now ≡ held.old.terms.now) × (held.new.store.now ≡ held.old.store.now)) }
 {
-    work.fill(0);
+    held.work.fill(0);
     // The checks have found it short enough.
-    let _ = environment::set_base(work, st, base);
-    cursor::seek(document, st, 0, 0);
+    let _ = environment::set_base(held.work, &mut held.st, base);
+    cursor::seek(document, &mut held.st, 0, 0);
 }
 
 fn clear_all(work: &mut [u8], rows: &mut [u32], terms: &mut [u32], store: &mut [u8])
@@ -85,15 +87,15 @@ fn read_checked(
     requires { Checked document.now base.now work.old × (mode ≤ 1) }
     ensures { Gives (read_tokens document.now mode base.now (lengths (lent_slices work.old rows.old terms.old store.old))) (lent_slices work.old rows.old terms.old store.old) (lent_slices work.new rows.new terms.new store.new) (reading result) }
 {
-    let mut st = Layout::fresh();
-    prepare(document, base, work, &mut st);
+    // The array is made in its place: a second one is two kilobytes of stack.
     let mut held = Held {
         work,
         rows,
         terms,
         store,
-        st,
+        st: Layout::fresh(),
     };
+    prepare(document, base, &mut held);
     let read = statements::statements(document, &mut held, mode);
     finish(read, document.len(), &mut held)
 }
