@@ -1,14 +1,56 @@
--- The order of texts is a strict one.
+-- Laws of the order of texts.
 use mathlib.Core.Path.{◌≡◌, refl, sym, ap, ◌∙◌}
 use mathlib.Core.List.{[], ◌∷◌}
 use mathlib.Core.Bool.{true, false}
-use Prim.Native.Nat.{ℕ, ◌≤◌, ◌<◌}
+use Prim.Native.Nat.{ℕ, ◌+◌, ◌≤◌, ◌<◌}
+use native.Mathlib.Numerals.{add-one}
 use native.Mathlib.Omega.{arith}
 use lib.Dec.{eqb, ltb}
-use borrow.Author.Tests.{lt-ltb, le-ltb, ltb-true, ltb-false, eq-eqb, eqb-true, eqb-false}
+use lib.ListN.{length, get_or, drop, drop_of_length-le}
+use lib.Seq.{drop-cons}
+use borrow.Author.Tests.{lt-ltb, le-ltb, ltb-true, ltb-false, eq-eqb, ne_eqb, eqb-true, eqb-false}
 use Rattle.text.specs.Text.{Text, same_text}
 use Rattle.text.proofs.Compare.{by, contrary, and_left, and_right, same_eq}
 use Rattle.text.specs.Order.{smaller}
+use Rattle.text.proofs.Words.{GoesOn}
+
+-- One byte further in a comparison.
+module _ (s t : Text) (i : ℕ) (h : i < length s) where
+  pub smaller_past : length t ≤ i → smaller (drop i s) (drop i t) ≡ false
+  unfolding smaller
+  smaller_past g = rw (drop-cons s i 0 h, drop_of_length-le t {i = i} g)
+
+  module _ (g : i < length t) where
+    pub smaller_here : get_or s i 0 < get_or t i 0 → smaller (drop i s) (drop i t) ≡ true
+    unfolding smaller
+    smaller_here l = rw (drop-cons s i 0 h, drop-cons t i 0 g, lt-ltb (get_or s i 0) (get_or t i 0) l)
+
+    pub greater_here : get_or t i 0 < get_or s i 0 → smaller (drop i s) (drop i t) ≡ false
+    unfolding smaller
+    greater_here l =
+        rw (
+          drop-cons s i 0 h,
+          drop-cons t i 0 g,
+          le-ltb (get_or s i 0) (get_or t i 0) (omega arith),
+          ne_eqb (get_or s i 0) (get_or t i 0) (λ e. omega (arith, e)),
+        )
+
+    pub smaller_more : get_or t i 0 ≤ get_or s i 0 → get_or s i 0 ≤ get_or t i 0 → smaller (drop i s) (drop i t) ≡ smaller (drop (i + 1) s) (drop (i + 1) t)
+    unfolding smaller
+    smaller_more l k =
+        let e : get_or s i 0 ≡ get_or t i 0 = omega arith in
+        rw (add-one i, drop-cons s i 0 h, drop-cons t i 0 g, le-ltb (get_or s i 0) (get_or t i 0) l, eq-eqb (get_or s i 0) (get_or t i 0) e)
+
+pub smaller_end : (s t : Text) (i : ℕ) → length s ≤ i → smaller (drop i s) (drop i t) ≡ ltb i (length t)
+unfolding smaller
+smaller_end s t i h =
+    by (ltb i (length t)) (λ e. rw (drop_of_length-le s {i = i} h, drop-cons t i 0 (ltb-true i (length t) e), e))
+    (λ e. rw (drop_of_length-le s {i = i} h, drop_of_length-le t {i = i} (ltb-false i (length t) e), e))
+
+pub smaller_on : (s t : Text) → GoesOn smaller s t
+smaller_on s t i h g e = smaller_more s t i h g (omega (arith, e)) (omega (arith, e))
+
+-- ---- A strict order
 
 pub smaller_self : (s : Text) → smaller s s ≡ false
 unfolding smaller

@@ -1,6 +1,6 @@
 -- Comparing four bytes, and eight, at once.
 use mathlib.Core.Path.{◌≡◌, sym, ap, ◌∙◌}
-use mathlib.Core.Bool.{true, false}
+use mathlib.Core.Bool.{Bool, true, false}
 use Prim.Native.Nat.{ℕ, ◌+◌, ◌*◌, ◌-◌, ◌<◌, ◌≤◌}
 use native.Mathlib.Omega.{arith}
 use lib.ListN.{length, get_or, drop, drop_of_length-le}
@@ -22,29 +22,45 @@ four_small s i b = omega (arith, b i, b (i + 1), b (i + 2), b (i + 3))
 low : (a b x y : ℕ) → a < 256 → b < 256 → a + 256 * x ≡ b + 256 * y → (b ≡ a) × (x ≡ y)
 low a b x y h g e = (omega arith, omega arith)
 
--- A comparison goes on behind four bytes that both texts have, and behind eight.
-module _ (s t : Text) (bs : Bytes s) (bt : Bytes t) where
-  pub four_more : (i : ℕ) → i + 4 ≤ length s → i + 4 ≤ length t → four_at s i ≡ four_at t i → same_text (drop i s) (drop i t) ≡ same_text (drop (i + 4) s) (drop (i + 4) t)
+-- A comparison that goes on behind a byte that both texts have.
+abbrev pub GoesOn : (Text → Text → Bool) → Text → Text → Type 0
+GoesOn f s t = (i : ℕ) → i < length s → i < length t → get_or t i 0 ≡ get_or s i 0 → f (drop i s) (drop i t) ≡ f (drop (i + 1) s) (drop (i + 1) t)
+
+-- It goes on behind four, and behind eight.
+module _ (f : Text → Text → Bool) (s t : Text) (bs : Bytes s) (bt : Bytes t) (on : GoesOn f s t) where
+  four_on : (i : ℕ) → i + 4 ≤ length s → i + 4 ≤ length t → four_at s i ≡ four_at t i → f (drop i s) (drop i t) ≡ f (drop (i + 4) s) (drop (i + 4) t)
   unfolding four_at
-  four_more i h g e =
+  four_on i h g e =
       let (p, r) = low (get_or s i 0) (get_or t i 0) (get_or s (i + 1) 0 + 256 * (get_or s (i + 2) 0 + 256 * get_or s (i + 3) 0)) (get_or t (i + 1) 0 + 256 * (get_or t (i + 2) 0 + 256 * get_or t (i + 3) 0)) (bs i) (bt i) (omega (arith, e)) in
       let (q, u) = low (get_or s (i + 1) 0) (get_or t (i + 1) 0) (get_or s (i + 2) 0 + 256 * get_or s (i + 3) 0) (get_or t (i + 2) 0 + 256 * get_or t (i + 3) 0) (bs (i + 1)) (bt (i + 1)) r in
       let (v, w) = low (get_or s (i + 2) 0) (get_or t (i + 2) 0) (get_or s (i + 3) 0) (get_or t (i + 3) 0) (bs (i + 2)) (bt (i + 2)) u in
-      on i (i + 1) (omega arith) (omega arith) (omega arith) p
-      ∙ (on (i + 1) (i + 2) (omega arith) (omega arith) (omega arith) q
-      ∙ (on (i + 2) (i + 3) (omega arith) (omega arith) (omega arith) v
-      ∙ on (i + 3) (i + 4) (omega arith) (omega arith) (omega arith) (sym w)))
+      on i (omega arith) (omega arith) p
+      ∙ (on (i + 1) (omega arith) (omega arith) q
+      ∙ (next (i + 1) (i + 2) (omega arith)
+      ∙ (on (i + 2) (omega arith) (omega arith) v
+      ∙ (next (i + 2) (i + 3) (omega arith)
+      ∙ (on (i + 3) (omega arith) (omega arith) (sym w) ∙ next (i + 3) (i + 4) (omega arith))))))
     where
-      on : (j k : ℕ) → j + 1 ≡ k → j < length s → j < length t → get_or t j 0 ≡ get_or s j 0 → same_text (drop j s) (drop j t) ≡ same_text (drop k s) (drop k t)
-      on j k e l m f = same_more s t j j l m f ∙ ap (λ (n : ℕ). same_text (drop n s) (drop n t)) e
+      next : (j k : ℕ) → j + 1 ≡ k → f (drop (j + 1) s) (drop (j + 1) t) ≡ f (drop k s) (drop k t)
+      next j k e = ap (λ (n : ℕ). f (drop n s) (drop n t)) e
 
-  pub eight_more : (i : ℕ) → i + 8 ≤ length s → i + 8 ≤ length t → eight_at s i ≡ eight_at t i → same_text (drop i s) (drop i t) ≡ same_text (drop (i + 8) s) (drop (i + 8) t)
-  eight_more i h g e =
+  pub eight_on : (i : ℕ) → i + 8 ≤ length s → i + 8 ≤ length t → eight_at s i ≡ eight_at t i → f (drop i s) (drop i t) ≡ f (drop (i + 8) s) (drop (i + 8) t)
+  eight_on i h g e =
       let a = four_small s i bs in
       let b = four_small t i bt in
-      four_more i (omega arith) (omega arith) (omega (arith, e, a, b))
-      ∙ (four_more (i + 4) (omega arith) (omega arith) (omega (arith, e, a, b))
-      ∙ ap (λ (n : ℕ). same_text (drop n s) (drop n t)) (let z : i + 4 + 4 ≡ i + 8 = omega arith in z))
+      four_on i (omega arith) (omega arith) (omega (arith, e, a, b))
+      ∙ (four_on (i + 4) (omega arith) (omega arith) (omega (arith, e, a, b))
+      ∙ ap (λ (n : ℕ). f (drop n s) (drop n t)) (let z : i + 4 + 4 ≡ i + 8 = omega arith in z))
+
+module _ (s t : Text) (bs : Bytes s) (bt : Bytes t) where
+  same_on : GoesOn same_text s t
+  same_on i h g e = same_more s t i i h g e
+
+  pub four_more : (i : ℕ) → i + 4 ≤ length s → i + 4 ≤ length t → four_at s i ≡ four_at t i → same_text (drop i s) (drop i t) ≡ same_text (drop (i + 4) s) (drop (i + 4) t)
+  four_more = four_on same_text s t bs bt same_on
+
+  pub eight_more : (i : ℕ) → i + 8 ≤ length s → i + 8 ≤ length t → eight_at s i ≡ eight_at t i → same_text (drop i s) (drop i t) ≡ same_text (drop (i + 8) s) (drop (i + 8) t)
+  eight_more = eight_on same_text s t bs bt same_on
 
 pub four_drop : (s : Text) (i j : ℕ) → four_at (drop i s) j ≡ four_at s (i + j)
 unfolding four_at

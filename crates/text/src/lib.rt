@@ -1,10 +1,10 @@
 // Texts: comparing, their order, copying, and searches that test a block of bytes at a time.
 #![tactic(auto)]
 
-ghost use Rattle.std.specs.Prelude.{◌≡◌, ℕ, Bool, ◌+◌, ◌≤◌, ◌<◌, length};
+ghost use Rattle.std.specs.Prelude.{◌≡◌, ℕ, Bool, ◌+◌, ◌≤◌, ◌<◌, length, drop};
 ghost use Rattle.text.specs.Text.{same_text, begins, some_byte};
 ghost use Rattle.text.specs.Order.{smaller};
-ghost use Rattle.text.specs.Slice.{over};
+ghost use Rattle.text.specs.Slice.{over, laid};
 ghost use Rattle.text.specs.Words.{four_at, eight_at};
 ghost use Rattle.text.specs.Runs.{Answers, byte, four, high, free, next_at};
 
@@ -60,19 +60,121 @@ pub fn begins(s: &[u8], t: &[u8]) -> bool
     t.starts_with(s)
 }
 
-// Whether a text comes before another in the order of their bytes.
+// Whether a text comes before another in the order of their bytes, from a place on.
+fn smaller_from(s: &[u8], t: &[u8], at: usize) -> bool
+    requires { at ≤ length s.now }
+    ensures { result ≡ smaller (drop at s.now) (drop at t.now) }
+{
+    let mut i = at;
+    while i < s.len() {
+        if t.len() <= i {
+            return false;
+        }
+        if s[i] < t[i] {
+            return true;
+        }
+        if t[i] < s[i] {
+            return false;
+        }
+        i += 1;
+    }
+    i < t.len()
+}
+
+// Texts of so many bytes are long, and their first bytes are compared by eights before longer runs are.
+const LONG: usize = 256;
+
+const NEAR: usize = 64;
+
+// The same of long texts from their front on: texts that differ do so early as a rule, and where they do not the library's longer runs are
+// the faster.
+#[inline(never)]
+fn smaller_long(s: &[u8], t: &[u8]) -> bool
+    requires { (256 ≤ length s.now) × (256 ≤ length t.now) }
+    ensures { result ≡ smaller s.now t.now }
+{
+    let mut i: usize = 0;
+    while 8 <= NEAR - i {
+        if eight(s, i) != eight(t, i) {
+            return smaller_from(s, t, i);
+        }
+        i += 8;
+    }
+    s[i..].cmp(&t[i..]).is_lt()
+}
+
+// Whether a text comes before another in the order of their bytes: eight at a time, as far as they are the same. (`cmp` alone takes a third
+// longer over texts of 64 to 200 bytes that differ early.)
 pub fn smaller(s: &[u8], t: &[u8]) -> bool
     ensures { result ≡ smaller s.now t.now }
 {
-    s.cmp(&t).is_lt()
+    let n = s.len().min(t.len());
+    if LONG <= n {
+        return smaller_long(s, t);
+    }
+    let mut i: usize = 0;
+    while 8 <= n - i {
+        if eight(s, i) != eight(t, i) {
+            return smaller_from(s, t, i);
+        }
+        i += 8;
+    }
+    smaller_from(s, t, i)
 }
 
-// Writes the text over the front of a slice, as far as it goes.
+// Writes eight bytes of the text from a place on where they stand there.
+fn copy_8(s: &[u8], out: &mut [u8], i: usize)
+    requires { (i + 8 ≤ length s.now) × (i + 8 ≤ length out.old) }
+    ensures { out.new ≡ laid s.now i 8 out.old }
+{
+    let a = s[i + 0];
+    let b = s[i + 1];
+    let c = s[i + 2];
+    let d = s[i + 3];
+    let e = s[i + 4];
+    let f = s[i + 5];
+    let g = s[i + 6];
+    let h = s[i + 7];
+    out[i + 0] = a;
+    out[i + 1] = b;
+    out[i + 2] = c;
+    out[i + 3] = d;
+    out[i + 4] = e;
+    out[i + 5] = f;
+    out[i + 6] = g;
+    out[i + 7] = h;
+}
+
+// The same byte by byte.
+fn copy_few(s: &[u8], out: &mut [u8])
+    ensures { out.new ≡ over s.now out.old }
+{
+    let mut i: usize = 0;
+    while i < s.len() {
+        if out.len() <= i {
+            return;
+        }
+        out[i] = s[i];
+        i += 1;
+    }
+}
+
+// Writes the text over the front of a slice, as far as it goes: eight bytes at a time, the last of them
+// up to the end. (`copy_from_slice` becomes a call of C's memcpy or memmove, which an archive would need from outside.)
 pub fn copy(s: &[u8], out: &mut [u8])
     ensures { out.new ≡ over s.now out.old }
 {
     let n = s.len().min(out.len());
-    out[..n].copy_from_slice(&s[..n]);
+    if n < 8 {
+        copy_few(s, out);
+        return;
+    }
+    let mut i: usize = 0;
+    while 8 < n - i {
+        copy_8(s, out, i);
+        i += 8;
+    }
+    copy_8(s, out, n - 8);
 }
 
 // Whether the byte stands in the text.
