@@ -9,7 +9,8 @@ use Rattle.limits.specs.declared.Refusal.TheVariants.{Tables, Pairing}
 use Rattle.table.specs.Layout.{Slices, blank_kind, literal_kind, tagged_kind, word_limit}
 use Rattle.table.specs.Tables.{text_of}
 use Rattle.table.specs.Usable.{for_long_form, the, text, tag, has_kind, usable}
-use Rattle.usable.specs.Lent.{slices_of, Stands, SoundRows}
+use Rattle.table.specs.declared.Tables as lent
+use Rattle.usable.specs.Lent.{slices, slices_of, Stands, SoundRows}
 use Rattle.chains.specs.Chains.{heads, Chained, OnChain}
 use Rattle.comparison.specs.Comparison.{paired, node, alike_quad, carries, statement, lefts, rights, legal, Comparison, refused, told}
 use Rattle.comparison.specs.Partners.{partner, Matched}
@@ -27,6 +28,10 @@ opposite Right = Left
 -- The tables of a side.
 abbrev pub tables_of : Side → Slices
 tables_of s = slices_of s.tables
+
+-- Tables with so many terms.
+abbrev pub with_terms : lent.Tables → ℕ → Slices
+with_terms t count = slices t.rows.now t.row_count t.terms.now count t.store.now t.store_count
 
 -- ---- Blank nodes
 

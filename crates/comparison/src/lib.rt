@@ -60,7 +60,14 @@ fn check(
     if !usable::is_usable(right) {
         return Err(Refusal::Tables);
     }
-    if !pairs::is_legal(pairing, left, right, index) {
+    if !pairs::is_legal(
+        pairing,
+        left,
+        left.term_count as usize,
+        right,
+        right.term_count as usize,
+        index,
+    ) {
         return Err(Refusal::Pairing);
     }
     Ok(())

@@ -6,10 +6,10 @@ ghost use Rattle.usable.specs.Lent.{Stands, slices_of};
 ghost use Rattle.chains.specs.Chains.{behind, word_at, Chained};
 ghost use Rattle.comparison.specs.Comparison.{any, pairs, has_node, known, once, legal};
 ghost use Rattle.comparison.specs.Partners.{partner, ByLeft, ByLeft-prop};
-ghost use Rattle.comparison.specs.Code.{is_node};
+ghost use Rattle.comparison.specs.Code.{with_terms, is_node};
 
 use chains::{Column, Links};
-use table::{Layout, Tables, TermKind, TermWord, wide};
+use table::{Layout, Tables, TermKind, TermWord};
 
 // The words of a pair.
 #[derive(Drop)]
@@ -97,10 +97,10 @@ fn is_node(tables: &Tables<'_>, n: usize, k: usize) -> bool
         && tables.term_word(k, TermWord::FOURTH) == n
 }
 
-// Whether some term is the blank node n. The terms are linked by their fourth words.
-fn has_node(tables: &Tables<'_>, links: &Links<'_>, n: usize) -> bool
-    requires { (term_size * tables.now.term_count ≤ length tables.now.terms.now) × ((links.now.count ≡ tables.now.term_count) × Chained links.now.words.now tables.now.term_count (word_at tables.now.terms.now 3 term_size)) }
-    ensures { result ≡ has_node (slices_of tables.now) n }
+// Whether one of so many terms is the blank node n. The terms are linked by their fourth words.
+fn has_node(tables: &Tables<'_>, count: usize, links: &Links<'_>, n: usize) -> bool
+    requires { (term_size * count ≤ length tables.now.terms.now) × ((links.now.count ≡ count) × Chained links.now.words.now count (word_at tables.now.terms.now 3 term_size)) }
+    ensures { result ≡ has_node (with_terms tables.now count) n }
 {
     for k in links.along(links.first(n)) {
         if is_node(tables, n, k + 1) {
@@ -110,26 +110,33 @@ fn has_node(tables: &Tables<'_>, links: &Links<'_>, n: usize) -> bool
     false
 }
 
-// Whether every number of a side is a blank node of its table.
-fn is_known(numbers: &Column<'_>, tables: &Tables<'_>, index: &mut [u32]) -> bool
-    requires { term_size * tables.now.term_count ≤ length tables.now.terms.now }
-    ensures { (result ≡ known (slices_of tables.now) (word_at numbers.now.words.now numbers.now.from numbers.now.step) numbers.now.count) × (length index.new ≡ length index.old) }
+// Whether every number of a side is a blank node of its table, which has so many terms.
+fn is_known(numbers: &Column<'_>, tables: &Tables<'_>, count: usize, index: &mut [u32]) -> bool
+    requires { term_size * count ≤ length tables.now.terms.now }
+    ensures { (result ≡ known (with_terms tables.now count) (word_at numbers.now.words.now numbers.now.from numbers.now.step) numbers.now.count) × (length index.new ≡ length index.old) }
 {
     let nodes = Column {
         words: tables.terms,
         from: TermWord::FOURTH,
         step: Layout::TERM_WORDS,
-        count: wide(tables.term_count),
+        count,
     };
     nodes.link(index);
     let links = Links::new(index, nodes.count);
-    (0..numbers.count).all(|i| has_node(tables, &links, numbers.word(i)))
+    (0..numbers.count).all(|i| has_node(tables, count, &links, numbers.word(i)))
 }
 
-// Whether the pairing may be lent for these tables.
-pub fn is_legal(pairing: &[u32], left: &Tables<'_>, right: &Tables<'_>, index: &mut [u32]) -> bool
-    requires { (term_size * left.now.term_count ≤ length left.now.terms.now) × (term_size * right.now.term_count ≤ length right.now.terms.now) }
-    ensures { (result ≡ legal (slices_of left.now) (slices_of right.now) pairing.now) × (length index.new ≡ length index.old) }
+// Whether the pairing may be lent for these tables, of which so many terms count.
+pub fn is_legal(
+    pairing: &[u32],
+    left: &Tables<'_>,
+    left_count: usize,
+    right: &Tables<'_>,
+    right_count: usize,
+    index: &mut [u32],
+) -> bool
+    requires { (term_size * left_count ≤ length left.now.terms.now) × (term_size * right_count ≤ length right.now.terms.now) }
+    ensures { (result ≡ legal (with_terms left.now left_count) (with_terms right.now right_count) pairing.now) × (length index.new ≡ length index.old) }
 {
     if pairing.len() % Pair::WORDS != 0 {
         return false;
@@ -142,8 +149,8 @@ pub fn is_legal(pairing: &[u32], left: &Tables<'_>, right: &Tables<'_>, index: &
     if !is_once(&rights, index) {
         return false;
     }
-    if !is_known(&lefts, left, index) {
+    if !is_known(&lefts, left, left_count, index) {
         return false;
     }
-    is_known(&rights, right, index)
+    is_known(&rights, right, right_count, index)
 }

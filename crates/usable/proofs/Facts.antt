@@ -1,15 +1,18 @@
 -- What usable tables have.
-use mathlib.Core.Path.{◌≡◌, sym, ◌∙◌, subst}
+use mathlib.Core.Path.{◌≡◌, refl, sym, ◌∙◌, subst}
 use mathlib.Core.Bool.{Bool, true, ◌&&◌}
+use mathlib.Core.List.{List}
 use Prim.Native.Nat.{ℕ, zero, suc, ◌+◌, ◌*◌, ◌-◌, ◌≤◌, ◌<◌}
 use native.Mathlib.Nat.{suc-add, add-suc, add-zero}
 use native.Mathlib.Omega.{arith}
 use borrow.Author.Tests.{leb-true}
 use lib.ListN.{length}
 use lib.Dec.{leb}
+use Rattle.text.specs.Text.{Text}
 use Rattle.text.proofs.Compare.{and_left, and_right}
 use Rattle.table.specs.Layout.{Slices, row_size, row_at, term_size}
 use Rattle.table.specs.Usable.{each, Takes, counts_fit, good_term, good_row, usable}
+use Rattle.usable.specs.Lent.{slices, lent, row_test}
 
 -- ---- Each number passes
 
@@ -38,6 +41,19 @@ counts_in s e =
       terms = leb-true (term_size * s.term_count) (length s.terms) (and_right a b (and_left (a && b) c e));
       store = leb-true s.store_count (length s.store) (and_right (a && b) c e);
     }
+
+-- ---- The parts of the check
+
+-- A test of terms does not look at rows, and one of rows not at the store.
+pub terms_alone : (w : Takes) (rows : List ℕ) (rc : ℕ) (terms : List ℕ) (tc : ℕ) (store : Text) (sc : ℕ)
+    → each (good_term w (lent terms 0 store sc)) 1 tc ≡ each (good_term w (slices rows rc terms tc store sc)) 1 tc
+unfolding good_term
+terms_alone w rows rc terms tc store sc = refl
+
+pub rows_alone : (rows : List ℕ) (rc : ℕ) (terms : List ℕ) (tc : ℕ) (store : Text) (sc : ℕ)
+    → each (row_test rows terms tc) 0 rc ≡ each (λ i. good_row (slices rows rc terms tc store sc) (row_at rows i)) 0 rc
+unfolding good_row
+rows_alone rows rc terms tc store sc = refl
 
 module _ (w : Takes) (s : Slices) (e : usable w s ≡ true) where
   terms_good : Bool

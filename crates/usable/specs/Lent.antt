@@ -3,7 +3,7 @@ use Rattle.std.specs.Prelude.{◌≡◌, List, [], Bool, ◌&&◌, ◌||◌, ℕ
 use Rattle.text.specs.Text.{Text, is_none}
 use Rattle.utf8.specs.Utf8.{first_bad}
 use Rattle.table.specs.Layout.{Slices, iri_kind, blank_kind, literal_kind, tagged_kind, row_at}
-use Rattle.table.specs.Usable.{Takes, the, text, inside, has_kind, good_iri, good_datatype, good_tag, resource}
+use Rattle.table.specs.Usable.{Takes, the, text, inside, has_kind, good_iri, good_datatype, good_tag, resource, good_row}
 pub use Rattle.table.specs.Lent.{slices, slices_of, Stands, RowStands, word_of}
 
 -- Tables whose counts do not matter.
@@ -30,6 +30,9 @@ SpanIn s n = (the s n).start + (the s n).size ≤ length s.store
 -- "graph 0 is the default graph"
 abbrev pub names_graph : Slices → ℕ → Bool
 names_graph s n = eqb n 0 || resource s n
+
+abbrev pub row_test : List ℕ → List ℕ → ℕ → ℕ → Bool
+row_test rows terms term_count i = good_row (lent terms term_count [] 0) (row_at rows i)
 
 -- ---- Terms and rows that can be read
 

@@ -1,9 +1,9 @@
 // Which tables the writer takes, whatever the lent slices hold.
 #![tactic(auto)]
 
-mod entries;
-mod rows;
-mod tags;
+pub mod entries;
+pub mod rows;
+pub mod tags;
 
 ghost use Rattle.std.specs.Prelude.{◌≡◌};
 ghost use Rattle.table.specs.Usable.{for_long_form, counts_fit, usable};
@@ -22,9 +22,15 @@ fn fit_counts(tables: &Tables) -> bool
 }
 
 // Whether the writer takes the tables.
-#[tactic(auto, unfolding(table::specs::Usable::usable))]
 pub fn is_usable(tables: &Tables) -> bool
     ensures { result ≡ usable for_long_form (slices_of tables.now) }
 {
-    fit_counts(tables) && entries::all_good(tables) && rows::all_good(tables)
+    if !fit_counts(tables) {
+        return false;
+    }
+    let count = tables.term_count as usize;
+    if !entries::all_good(tables, count, tables.store_count as usize) {
+        return false;
+    }
+    rows::all_good(tables, tables.row_count as usize, count)
 }

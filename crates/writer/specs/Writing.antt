@@ -4,7 +4,7 @@ use Rattle.text.specs.Text.{Text, ascii, cond, is}
 use Rattle.text.specs.Slice.{over_at}
 use Rattle.table.specs.LongForm.{hex_digit, iri_byte, string_byte}
 use Rattle.writer.specs.declared.bytes.Rule.{Rule}
-use Rattle.writer.specs.declared.bytes.Rule.TheVariants.{Iri, Literal}
+use Rattle.writer.specs.declared.bytes.Rule.TheVariants.{Plain, Iri, Literal}
 
 -- The place behind the text is a number that the code can hold.
 pub record Countable (at : ℕ) (s : Text) : Type 0 where
@@ -24,5 +24,6 @@ unfoldable pub escape_of : ℕ → Option ℕ
 escape_of c = cond (is "\"" c) (Some 34) (cond (is "\\" c) (Some 92) (cond (is "\n" c) (Some 110) (cond (is "\r" c) (Some 114) None)))
 
 unfoldable pub byte_form : Rule → ℕ → Text
+byte_form Plain c = c ∷ []
 byte_form Iri c = iri_byte c
 byte_form Literal c = string_byte c

@@ -6,9 +6,10 @@ ghost use Rattle.writer.specs.Writing.{Countable, Wrote, code_form, escape_of, b
 
 use characters::bytes::is_iri;
 
-// How a text is escaped: "the characters IRIREF forbids as \u and four capital hex digits"; "only " \ LF CR escaped".
+// How a text is escaped: not at all; "the characters IRIREF forbids as \u and four capital hex digits"; "only " \ LF CR escaped".
 #[derive(Clone, Copy)]
-enum Rule {
+pub enum Rule {
+    Plain,
     Iri,
     Literal,
 }
@@ -34,6 +35,21 @@ pub fn put_all(s: &[u8], out: &mut [u8], at: usize) -> usize
         end = put(out, end, *c);
     }
     end
+}
+
+// Two bytes, and three.
+pub fn put_two(out: &mut [u8], at: usize, c: u8, d: u8) -> usize
+    requires { Countable at (c ∷ d ∷ []) }
+    ensures { Wrote at (c ∷ d ∷ []) out.old out.new result }
+{
+    put_all(&[c, d], out, at)
+}
+
+pub fn put_three(out: &mut [u8], at: usize, c: u8, d: u8, e: u8) -> usize
+    requires { Countable at (c ∷ d ∷ e ∷ []) }
+    ensures { Wrote at (c ∷ d ∷ e ∷ []) out.old out.new result }
+{
+    put_all(&[c, d, e], out, at)
 }
 
 // Whether IRIREF forbids the byte: it has bytes below 128 of its set, and all from there on.
@@ -106,13 +122,14 @@ fn put_byte(rule: Rule, out: &mut [u8], at: usize, c: u8) -> usize
     ensures { Wrote at (byte_form rule c) out.old out.new result }
 {
     match rule {
+        Rule::Plain => put(out, at, c),
         Rule::Iri => put_iri_byte(out, at, c),
         Rule::Literal => put_string_byte(out, at, c),
     }
 }
 
 // Writes the text, escaped by the rule; the place behind it.
-fn put_escaped(rule: Rule, s: &[u8], out: &mut [u8], at: usize) -> usize
+pub fn put_escaped(rule: Rule, s: &[u8], out: &mut [u8], at: usize) -> usize
     requires { Countable at (escaped (byte_form rule) s.now) }
     ensures { Wrote at (escaped (byte_form rule) s.now) out.old out.new result }
 {

@@ -1,9 +1,9 @@
 // The writer: the long form of tables, and the answers 17 and 18.
 #![tactic(auto)]
 
-mod bytes;
-mod forms;
-mod lines;
+pub mod bytes;
+pub mod forms;
+pub mod lines;
 
 ghost use Rattle.std.specs.Prelude.{◌≡◌};
 ghost use Rattle.table.specs.LongForm.{write};
@@ -22,8 +22,9 @@ pub fn write_long_form(tables: &Tables, out: &mut [u8]) -> Result<usize, Refusal
     }
     // So a line is short: its length is a number that the code can hold.
     prove!(tables.store_count <= u32::MAX);
-    if !lines::fit_lines(tables, out.len()) {
+    let count = tables.row_count as usize;
+    if !lines::fit_lines(tables, count, out.len()) {
         return Err(Refusal::Output);
     }
-    Ok(lines::put_lines(tables, out))
+    Ok(lines::put_lines(tables, count, out))
 }

@@ -8,7 +8,7 @@ ghost use Rattle.writer.specs.Drawn.{Writable, part_form, WritableRow, Ready, Sh
 
 use crate::bytes::{put, put_all};
 use crate::forms::put_term;
-use table::{RowWord, Tables, wide};
+use table::{RowWord, Tables};
 
 // A term and a blank.
 fn put_part(tables: &Tables, n: usize, out: &mut [u8], at: usize) -> usize
@@ -51,14 +51,14 @@ fn put_line(tables: &Tables, i: usize, out: &mut [u8], at: usize) -> usize
     put_all(b" }\n", out, close)
 }
 
-// Whether the lines are no longer than the limit.
-pub fn fit_lines(tables: &Tables, limit: usize) -> bool
-    requires { Ready (slices_of tables.now) tables.now.row_count × Short (slices_of tables.now) tables.now.row_count }
-    ensures { result ≡ leb (length (lines_from (slices_of tables.now) 0 tables.now.row_count)) limit }
+// Whether the lines of so many rows are no longer than the limit.
+pub fn fit_lines(tables: &Tables, count: usize, limit: usize) -> bool
+    requires { Ready (slices_of tables.now) count × Short (slices_of tables.now) count }
+    ensures { result ≡ leb (length (lines_from (slices_of tables.now) 0 count)) limit }
 {
     let mut nowhere = [0u8; 1];
     let mut total: usize = 0;
-    for i in 0..wide(tables.row_count) {
+    for i in 0..count {
         let n = put_line(tables, i, &mut nowhere, 0);
         if limit - total < n {
             return false;
@@ -68,13 +68,13 @@ pub fn fit_lines(tables: &Tables, limit: usize) -> bool
     true
 }
 
-// Writes the lines, for which there is room; their length.
-pub fn put_lines(tables: &Tables, out: &mut [u8]) -> usize
-    requires { Ready (slices_of tables.now) tables.now.row_count × Countable 0 (lines_from (slices_of tables.now) 0 tables.now.row_count) }
-    ensures { Wrote 0 (lines_from (slices_of tables.now) 0 tables.now.row_count) out.old out.new result }
+// Writes the lines of so many rows, for which there is room; their length.
+pub fn put_lines(tables: &Tables, count: usize, out: &mut [u8]) -> usize
+    requires { Ready (slices_of tables.now) count × Countable 0 (lines_from (slices_of tables.now) 0 count) }
+    ensures { Wrote 0 (lines_from (slices_of tables.now) 0 count) out.old out.new result }
 {
     let mut at: usize = 0;
-    for i in 0..wide(tables.row_count) {
+    for i in 0..count {
         at = put_line(tables, i, out, at);
     }
     at

@@ -13,7 +13,7 @@ put_line-n-requires c = (c.requires.0 c.loop-i.i (omega arith), c.requires.1 c.l
 
 pub returns-then-limit-total : goal.returns-then-limit-total
 returns-then-limit-total c =
-    too_long (slices_of c.args.tables.now) c.loop-i.i c.args.tables.now.row_count (omega arith) c.loop-i.total c.args.limit c.put_line-n.result c.loop-i.invariant.0 c.put_line-n.ensures.end c.if-limit-total.true
+    too_long (slices_of c.args.tables.now) c.loop-i.i c.args.count (omega arith) c.loop-i.total c.args.limit c.put_line-n.result c.loop-i.invariant.0 c.put_line-n.ensures.end c.if-limit-total.true
 
 pub loop-i-preserved : goal.loop-i-preserved
 loop-i-preserved c =
@@ -21,4 +21,4 @@ loop-i-preserved c =
 
 pub returns : goal.returns
 returns c =
-    all_fit (slices_of c.args.tables.now) c.loop-i.i c.args.tables.now.row_count c.loop-i.total c.args.limit (omega arith) (omega arith) c.loop-i.invariant.0 c.loop-i.invariant.1
+    all_fit (slices_of c.args.tables.now) c.loop-i.i c.args.count c.loop-i.total c.args.limit (omega arith) (omega arith) c.loop-i.invariant.0 c.loop-i.invariant.1
