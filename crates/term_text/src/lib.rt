@@ -11,10 +11,10 @@ use table::{Layout, TermKind, TermWord, wide};
 
 // Terms and the store as they are lent to this call. Unlike those of table::Tables, the counts may be any number.
 #[derive(Clone, Copy)]
-pub struct Terms<'a> {
-    pub terms: &'a [u32],
+pub struct Terms<'t, 's> {
+    pub terms: &'t [u32],
     pub count: usize,
-    pub store: &'a [u8],
+    pub store: &'s [u8],
     pub used: usize,
 }
 
@@ -25,7 +25,7 @@ pub struct Span {
     pub size: usize,
 }
 
-impl<'a> Terms<'a> {
+impl<'t, 's> Terms<'t, 's> {
     // Where the text lies, if the tables and the number are usable; any may be given.
     #[tactic(auto, unfolding(crate::specs::Shown::span_at, table::specs::TermText::shows, table::specs::Layout::entry_at))]
     pub fn find_span(&self, number: usize) -> Option<Span>
@@ -58,7 +58,7 @@ impl<'a> Terms<'a> {
     }
 
     // The text, as that part of the store itself; an empty part where it is refused.
-    pub fn show_text(&self, number: usize) -> &'a [u8]
+    pub fn show_text(&self, number: usize) -> &'s [u8]
         ensures { result.now ≡ text_of (term_text (lent self.now) number) }
     {
         match self.find_span(number) {
