@@ -132,7 +132,7 @@ fn prefix_part(
     namespace_part(doc, work, st, at, at + n, dotted)
 }
 
-// A directive, from its keyword to its end: 0, or the first of the refusals 6 to 8 and 10 to 12.
+// A directive, from its keyword to its end; or the first of the refusals 6 to 8 and 10 to 12.
 pub fn directive(doc: &[u8], held: &mut Held<'_>) -> Result<(), Refusal>
     requires { Ready doc.now held.old × (code_among directive_kinds (kind_in held.old.st) ≡ true) }
     ensures { Directs doc.now held.old held.new (code result) }

@@ -480,7 +480,7 @@ fn is_bad(doc: &[u8], st: &[usize; Layout::WORDS]) -> bool
     escape::has_bad_escape(&doc[at..end])
 }
 
-// The string at the cursor, with its tag or datatype: 0, or the number of the refusal.
+// The string at the cursor, with its tag or datatype.
 pub fn put_string(doc: &[u8], held: &mut Held<'_>) -> Result<(), Refusal>
     requires { (Ready doc.now held.old × Spotted held.old) × (code_among strings (kind_in held.old.st) ≡ true) }
     ensures { Fills doc.now held.old held.new (code result) × Settled held.old held.new (code result) }
