@@ -13,9 +13,9 @@ pub enum Edition {
 
 // An edition's tables, with its rows linked.
 #[derive(Clone, Copy)]
-pub struct Side<'a> {
+pub struct Side<'t, 's> {
     pub edition: Edition,
-    pub tables: Tables<'a>,
-    pub links: Links<'a>,
+    pub tables: Tables<'t, 's>,
+    pub links: Links<'t>,
     ghost counted: { links.count ≡ tables.row_count },
 }

@@ -26,7 +26,7 @@ fn number_key(edition: Edition, pairing: &Pairing<'_>, m: usize) -> usize
 }
 
 // The key of a term.
-fn term_key(edition: Edition, pairing: &Pairing<'_>, tables: &Tables<'_>, n: usize) -> usize
+fn term_key(edition: Edition, pairing: &Pairing<'_>, tables: &Tables<'_, '_>, n: usize) -> usize
     requires { Sound (bare (slices_of tables.now)) n }
     ensures { (result ≡ term_key (number_key edition pairing.now.words.now) (term (slices_of tables.now) n)) × (result < word_limit) }
 {
@@ -37,7 +37,7 @@ fn term_key(edition: Edition, pairing: &Pairing<'_>, tables: &Tables<'_>, n: usi
 }
 
 // The key of a graph.
-fn graph_key(edition: Edition, pairing: &Pairing<'_>, tables: &Tables<'_>, n: usize) -> usize
+fn graph_key(edition: Edition, pairing: &Pairing<'_>, tables: &Tables<'_, '_>, n: usize) -> usize
     requires { (n ≡ 0 → ⊥) → Sound (bare (slices_of tables.now)) n }
     ensures { (result ≡ graph_key (number_key edition pairing.now.words.now) (graph (slices_of tables.now) n)) × (result < word_limit) }
 {
@@ -48,7 +48,7 @@ fn graph_key(edition: Edition, pairing: &Pairing<'_>, tables: &Tables<'_>, n: us
 }
 
 // The key of the statement of the row i.
-fn row_key(edition: Edition, pairing: &Pairing<'_>, tables: &Tables<'_>, i: usize) -> usize
+fn row_key(edition: Edition, pairing: &Pairing<'_>, tables: &Tables<'_, '_>, i: usize) -> usize
     requires { SoundRow (slices_of tables.now) i }
     ensures { (result ≡ row_key edition pairing.now.words.now (slices_of tables.now) i) × (result < word_limit) }
 {
@@ -79,7 +79,12 @@ fn row_key(edition: Edition, pairing: &Pairing<'_>, tables: &Tables<'_>, i: usiz
 }
 
 // Links the rows of one side by their keys.
-pub fn link_rows(edition: Edition, pairing: &Pairing<'_>, tables: &Tables<'_>, chain: &mut [u32])
+pub fn link_rows(
+    edition: Edition,
+    pairing: &Pairing<'_>,
+    tables: &Tables<'_, '_>,
+    chain: &mut [u32],
+)
     requires { SoundRows (slices_of tables.now) tables.now.row_count }
     ensures { (length chain.new ≡ length chain.old) × Chained chain.new tables.now.row_count (row_key edition pairing.now.words.now (slices_of tables.now)) }
 {

@@ -47,8 +47,8 @@ struct Parts {
 
 // 18 for either side, then 25.
 fn check(
-    left: &Tables<'_>,
-    right: &Tables<'_>,
+    left: &Tables<'_, '_>,
+    right: &Tables<'_, '_>,
     pairing: &[u32],
     index: &mut [u32],
 ) -> Result<(), Refusal>
@@ -92,10 +92,10 @@ fn divide(size: usize, pairs: usize, left: usize, right: usize) -> Option<Parts>
 }
 
 // Counts what is only in one of them, and writes it where the lists have room for all.
-fn list<'a>(
+fn list(
     pairing: &Pairing<'_>,
-    left: &Side<'a>,
-    right: &Side<'a>,
+    left: &Side<'_, '_>,
+    right: &Side<'_, '_>,
     left_list: &mut [u32],
     right_list: &mut [u32],
 ) -> Result<Counts, Refusal>
@@ -120,8 +120,8 @@ fn list<'a>(
 
 // The same, once pairs and rows are linked in the parts of the index.
 fn list_by(
-    left: &Tables<'_>,
-    right: &Tables<'_>,
+    left: &Tables<'_, '_>,
+    right: &Tables<'_, '_>,
     pairing: &[u32],
     index: &mut [u32],
     parts: Parts,
@@ -155,8 +155,8 @@ fn list_by(
 
 // The comparison, which leaves the index as it was used.
 fn compare_with(
-    left: &Tables<'_>,
-    right: &Tables<'_>,
+    left: &Tables<'_, '_>,
+    right: &Tables<'_, '_>,
     pairing: &[u32],
     left_list: &mut [u32],
     right_list: &mut [u32],
@@ -182,8 +182,8 @@ fn compare_with(
 
 // Compares two editions, with words for an index, which are zero afterwards.
 pub fn compare_indexed(
-    left: &Tables<'_>,
-    right: &Tables<'_>,
+    left: &Tables<'_, '_>,
+    right: &Tables<'_, '_>,
     pairing: &[u32],
     left_list: &mut [u32],
     right_list: &mut [u32],
@@ -198,8 +198,8 @@ pub fn compare_indexed(
 
 // The same without an index.
 pub fn compare(
-    left: &Tables<'_>,
-    right: &Tables<'_>,
+    left: &Tables<'_, '_>,
+    right: &Tables<'_, '_>,
     pairing: &[u32],
     left_list: &mut [u32],
     right_list: &mut [u32],

@@ -89,7 +89,7 @@ fn is_once(numbers: &Column<'_>, index: &mut [u32]) -> bool
 
 // Whether the term k is the blank node n.
 #[tactic(auto, unfolding(table::specs::Layout::entry_at))]
-fn is_node(tables: &Tables<'_>, n: usize, k: usize) -> bool
+fn is_node(tables: &Tables<'_, '_>, n: usize, k: usize) -> bool
     requires { Stands tables.now.terms.now k }
     ensures { result ≡ is_node (slices_of tables.now) n k }
 {
@@ -98,7 +98,7 @@ fn is_node(tables: &Tables<'_>, n: usize, k: usize) -> bool
 }
 
 // Whether one of so many terms is the blank node n. The terms are linked by their fourth words.
-fn has_node(tables: &Tables<'_>, count: usize, links: &Links<'_>, n: usize) -> bool
+fn has_node(tables: &Tables<'_, '_>, count: usize, links: &Links<'_>, n: usize) -> bool
     requires { (term_size * count ≤ length tables.now.terms.now) × ((links.now.count ≡ count) × Chained links.now.words.now count (word_at tables.now.terms.now 3 term_size)) }
     ensures { result ≡ has_node (with_terms tables.now count) n }
 {
@@ -111,7 +111,7 @@ fn has_node(tables: &Tables<'_>, count: usize, links: &Links<'_>, n: usize) -> b
 }
 
 // Whether every number of a side is a blank node of its table, which has so many terms.
-fn is_known(numbers: &Column<'_>, tables: &Tables<'_>, count: usize, index: &mut [u32]) -> bool
+fn is_known(numbers: &Column<'_>, tables: &Tables<'_, '_>, count: usize, index: &mut [u32]) -> bool
     requires { term_size * count ≤ length tables.now.terms.now }
     ensures { (result ≡ known (with_terms tables.now count) (word_at numbers.now.words.now numbers.now.from numbers.now.step) numbers.now.count) × (length index.new ≡ length index.old) }
 {
@@ -129,9 +129,9 @@ fn is_known(numbers: &Column<'_>, tables: &Tables<'_>, count: usize, index: &mut
 // Whether the pairing may be lent for these tables, of which so many terms count.
 pub fn is_legal(
     pairing: &[u32],
-    left: &Tables<'_>,
+    left: &Tables<'_, '_>,
     left_count: usize,
-    right: &Tables<'_>,
+    right: &Tables<'_, '_>,
     right_count: usize,
     index: &mut [u32],
 ) -> bool

@@ -13,11 +13,11 @@ use crate::pairs::Pairing;
 use crate::values::same_statement;
 
 // Whether the row j has a statement that is alike to that of the row i. Their keys are compared first.
-fn is_match<'a>(
+fn is_match(
     pairing: &Pairing<'_>,
-    mine: &Side<'a>,
+    mine: &Side<'_, '_>,
     i: usize,
-    other: &Side<'a>,
+    other: &Side<'_, '_>,
     j: usize,
     key: usize,
 ) -> bool
@@ -28,11 +28,11 @@ fn is_match<'a>(
 }
 
 // Whether a row of the chain, from a place on, has a statement that is alike to that of the row i.
-fn is_found<'a>(
+fn is_found(
     pairing: &Pairing<'_>,
-    mine: &Side<'a>,
+    mine: &Side<'_, '_>,
     i: usize,
-    other: &Side<'a>,
+    other: &Side<'_, '_>,
     from: Option<usize>,
     key: usize,
 ) -> bool
@@ -48,7 +48,7 @@ fn is_found<'a>(
 }
 
 // Whether the row i is listed: the first row of a statement that is not in both.
-fn is_listed<'a>(pairing: &Pairing<'_>, mine: &Side<'a>, other: &Side<'a>, i: usize) -> bool
+fn is_listed(pairing: &Pairing<'_>, mine: &Side<'_, '_>, other: &Side<'_, '_>, i: usize) -> bool
     requires { Ready pairing.now.words.now mine.now other.now × (i < mine.now.links.count) }
     ensures { result ≡ listed (in_both mine.now.edition pairing.now.words.now) (tables_of mine.now) (tables_of other.now) i }
 {
@@ -78,10 +78,10 @@ fn put_row(listed: bool, i: usize, out: &mut [u32], at: usize) -> usize
 }
 
 // Writes the rows of one side that are listed, as far as the list goes; how many they are.
-pub fn put_listed<'a>(
+pub fn put_listed(
     pairing: &Pairing<'_>,
-    mine: &Side<'a>,
-    other: &Side<'a>,
+    mine: &Side<'_, '_>,
+    other: &Side<'_, '_>,
     out: &mut [u32],
 ) -> usize
     requires { Ready pairing.now.words.now mine.now other.now × (mine.now.links.count < word_limit) }
@@ -95,7 +95,7 @@ pub fn put_listed<'a>(
 }
 
 // How many rows of one side are listed.
-pub fn count_listed<'a>(pairing: &Pairing<'_>, mine: &Side<'a>, other: &Side<'a>) -> usize
+pub fn count_listed(pairing: &Pairing<'_>, mine: &Side<'_, '_>, other: &Side<'_, '_>) -> usize
     requires { Ready pairing.now.words.now mine.now other.now × (mine.now.links.count < word_limit) }
     ensures { result ≡ length (only (in_both mine.now.edition pairing.now.words.now) (tables_of mine.now) (tables_of other.now)) }
 {

@@ -24,7 +24,7 @@ fn same_node(pairing: &Pairing<'_>, mine: Edition, m: usize, other: Edition, n: 
 }
 
 // The text of a term.
-pub fn text_of<'a>(tables: &Tables<'a>, n: usize) -> &'a [u8]
+pub fn text_of<'s>(tables: &Tables<'_, 's>, n: usize) -> &'s [u8]
     requires { Sound (bare (slices_of tables.now)) n }
     ensures { result.now ≡ text (slices_of tables.now) n }
 {
@@ -32,7 +32,7 @@ pub fn text_of<'a>(tables: &Tables<'a>, n: usize) -> &'a [u8]
 }
 
 // The tag of a tagged literal.
-fn tag_of<'a>(tables: &Tables<'a>, n: usize) -> &'a [u8]
+fn tag_of<'s>(tables: &Tables<'_, 's>, n: usize) -> &'s [u8]
     requires { Tagged (slices_of tables.now) n }
     ensures { result.now ≡ tag (slices_of tables.now) n }
 {
@@ -40,7 +40,7 @@ fn tag_of<'a>(tables: &Tables<'a>, n: usize) -> &'a [u8]
 }
 
 // A literal's datatype or its tag.
-fn more_of<'a>(tables: &Tables<'a>, n: usize) -> &'a [u8]
+fn more_of<'s>(tables: &Tables<'_, 's>, n: usize) -> &'s [u8]
     requires { Sound (bare (slices_of tables.now)) n × NoResource (bare (slices_of tables.now)) n }
     ensures { result.now ≡ more (slices_of tables.now) n }
 {
@@ -52,11 +52,11 @@ fn more_of<'a>(tables: &Tables<'a>, n: usize) -> &'a [u8]
 }
 
 // Whether the term n of one side and the term m of another are alike.
-fn same_value<'a>(
+fn same_value(
     pairing: &Pairing<'_>,
-    mine: &Side<'a>,
+    mine: &Side<'_, '_>,
     n: usize,
-    other: &Side<'a>,
+    other: &Side<'_, '_>,
     m: usize,
 ) -> bool
     requires { Matched pairing.now.words.now × (Sound (bare (tables_of mine.now)) n × Sound (bare (tables_of other.now)) m) }
@@ -82,11 +82,11 @@ fn same_value<'a>(
 }
 
 // Whether two graphs are alike: the default graph, 0, is no label.
-fn same_graph<'a>(
+fn same_graph(
     pairing: &Pairing<'_>,
-    mine: &Side<'a>,
+    mine: &Side<'_, '_>,
     n: usize,
-    other: &Side<'a>,
+    other: &Side<'_, '_>,
     m: usize,
 ) -> bool
     requires { Matched pairing.now.words.now × (((n ≡ 0 → ⊥) → Sound (bare (tables_of mine.now)) n) × ((m ≡ 0 → ⊥) → Sound (bare (tables_of other.now)) m)) }
@@ -99,11 +99,11 @@ fn same_graph<'a>(
 }
 
 // Whether the row i of one side and the row j of another have statements that are alike: the object first, in which rows differ most.
-pub fn same_statement<'a>(
+pub fn same_statement(
     pairing: &Pairing<'_>,
-    mine: &Side<'a>,
+    mine: &Side<'_, '_>,
     i: usize,
-    other: &Side<'a>,
+    other: &Side<'_, '_>,
     j: usize,
 ) -> bool
     requires { Matched pairing.now.words.now × (SoundRow (tables_of mine.now) i × SoundRow (tables_of other.now) j) }

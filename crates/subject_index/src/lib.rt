@@ -36,7 +36,7 @@ fn subject_number(tables: &Tables, i: usize) -> Option<usize>
 }
 
 // The text of a term.
-fn text_of<'a>(tables: &Tables<'a>, n: usize) -> &'a [u8]
+fn text_of<'s>(tables: &Tables<'_, 's>, n: usize) -> &'s [u8]
     requires { Readable (slices_of tables.now) n }
     ensures { result.now ≡ text (slices_of tables.now) n }
 {

@@ -68,18 +68,19 @@ pub fn wide(w: u32) -> usize
     w as usize
 }
 
-// Tables as they are lent: slices that may hold anything, and how many rows, terms and bytes of the store are used.
+// Tables as they are lent: slices that may hold anything, and how many rows, terms and bytes of the store are used. A text lives as long as
+// the store, whatever becomes of rows and terms.
 #[derive(Clone, Copy)]
-pub struct Tables<'a> {
-    pub rows: &'a [u32],
+pub struct Tables<'t, 's> {
+    pub rows: &'t [u32],
     pub row_count: u32,
-    pub terms: &'a [u32],
+    pub terms: &'t [u32],
     pub term_count: u32,
-    pub store: &'a [u8],
+    pub store: &'s [u8],
     pub store_count: u32,
 }
 
-impl<'a> Tables<'a> {
+impl<'t, 's> Tables<'t, 's> {
     // The word k of the term n, from 1 on.
     pub fn term_word(&self, n: usize, k: usize) -> usize
         requires { Stands self.now.terms.now n × (k < term_size) }
@@ -97,7 +98,7 @@ impl<'a> Tables<'a> {
     }
 
     // The part of the store with a start and a size.
-    pub fn part(&self, start: usize, size: usize) -> &'a [u8]
+    pub fn part(&self, start: usize, size: usize) -> &'s [u8]
         requires { start + size ≤ length self.now.store.now }
         ensures { result.now ≡ span self.now.store.now start size }
     {
@@ -105,7 +106,7 @@ impl<'a> Tables<'a> {
     }
 
     // The part of the store whose start is the word k of a term, and whose size the word behind it: its text, or its tag.
-    pub fn span_of(&self, n: usize, k: usize) -> &'a [u8]
+    pub fn span_of(&self, n: usize, k: usize) -> &'s [u8]
         requires { Stands self.now.terms.now n × ((k + 1 < term_size) × (word_of self.now.terms.now n k + word_of self.now.terms.now n (k + 1) ≤ length self.now.store.now)) }
         ensures { result.now ≡ span self.now.store.now (word_of self.now.terms.now n k) (word_of self.now.terms.now n (k + 1)) }
     {
