@@ -92,10 +92,10 @@ fn divide(size: usize, pairs: usize, left: usize, right: usize) -> Option<Parts>
 }
 
 // Counts what is only in one of them, and writes it where the lists have room for all.
-fn list(
+fn list<'t, 's>(
     pairing: &Pairing<'_>,
-    left: &Side<'_, '_>,
-    right: &Side<'_, '_>,
+    left: &Side<'t, 's>,
+    right: &Side<'t, 's>,
     left_list: &mut [u32],
     right_list: &mut [u32],
 ) -> Result<Counts, Refusal>

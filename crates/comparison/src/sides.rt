@@ -13,11 +13,11 @@ use crate::pairs::Pairing;
 use crate::values::same_statement;
 
 // Whether the row j has a statement that is alike to that of the row i. Their keys are compared first.
-fn is_match(
+fn is_match<'t, 's>(
     pairing: &Pairing<'_>,
-    mine: &Side<'_, '_>,
+    mine: &Side<'t, 's>,
     i: usize,
-    other: &Side<'_, '_>,
+    other: &Side<'t, 's>,
     j: usize,
     key: usize,
 ) -> bool
@@ -28,11 +28,11 @@ fn is_match(
 }
 
 // Whether a row of the chain, from a place on, has a statement that is alike to that of the row i.
-fn is_found(
+fn is_found<'t, 's>(
     pairing: &Pairing<'_>,
-    mine: &Side<'_, '_>,
+    mine: &Side<'t, 's>,
     i: usize,
-    other: &Side<'_, '_>,
+    other: &Side<'t, 's>,
     from: Option<usize>,
     key: usize,
 ) -> bool
@@ -48,7 +48,12 @@ fn is_found(
 }
 
 // Whether the row i is listed: the first row of a statement that is not in both.
-fn is_listed(pairing: &Pairing<'_>, mine: &Side<'_, '_>, other: &Side<'_, '_>, i: usize) -> bool
+fn is_listed<'t, 's>(
+    pairing: &Pairing<'_>,
+    mine: &Side<'t, 's>,
+    other: &Side<'t, 's>,
+    i: usize,
+) -> bool
     requires { Ready pairing.now.words.now mine.now other.now × (i < mine.now.links.count) }
     ensures { result ≡ listed (in_both mine.now.edition pairing.now.words.now) (tables_of mine.now) (tables_of other.now) i }
 {
@@ -78,10 +83,10 @@ fn put_row(listed: bool, i: usize, out: &mut [u32], at: usize) -> usize
 }
 
 // Writes the rows of one side that are listed, as far as the list goes; how many they are.
-pub fn put_listed(
+pub fn put_listed<'t, 's>(
     pairing: &Pairing<'_>,
-    mine: &Side<'_, '_>,
-    other: &Side<'_, '_>,
+    mine: &Side<'t, 's>,
+    other: &Side<'t, 's>,
     out: &mut [u32],
 ) -> usize
     requires { Ready pairing.now.words.now mine.now other.now × (mine.now.links.count < word_limit) }
@@ -95,7 +100,11 @@ pub fn put_listed(
 }
 
 // How many rows of one side are listed.
-pub fn count_listed(pairing: &Pairing<'_>, mine: &Side<'_, '_>, other: &Side<'_, '_>) -> usize
+pub fn count_listed<'t, 's>(
+    pairing: &Pairing<'_>,
+    mine: &Side<'t, 's>,
+    other: &Side<'t, 's>,
+) -> usize
     requires { Ready pairing.now.words.now mine.now other.now × (mine.now.links.count < word_limit) }
     ensures { result ≡ length (only (in_both mine.now.edition pairing.now.words.now) (tables_of mine.now) (tables_of other.now)) }
 {

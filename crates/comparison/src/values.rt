@@ -52,11 +52,11 @@ fn more_of<'s>(tables: &Tables<'_, 's>, n: usize) -> &'s [u8]
 }
 
 // Whether the term n of one side and the term m of another are alike.
-fn same_value(
+fn same_value<'t, 's>(
     pairing: &Pairing<'_>,
-    mine: &Side<'_, '_>,
+    mine: &Side<'t, 's>,
     n: usize,
-    other: &Side<'_, '_>,
+    other: &Side<'t, 's>,
     m: usize,
 ) -> bool
     requires { Matched pairing.now.words.now × (Sound (bare (tables_of mine.now)) n × Sound (bare (tables_of other.now)) m) }
@@ -82,11 +82,11 @@ fn same_value(
 }
 
 // Whether two graphs are alike: the default graph, 0, is no label.
-fn same_graph(
+fn same_graph<'t, 's>(
     pairing: &Pairing<'_>,
-    mine: &Side<'_, '_>,
+    mine: &Side<'t, 's>,
     n: usize,
-    other: &Side<'_, '_>,
+    other: &Side<'t, 's>,
     m: usize,
 ) -> bool
     requires { Matched pairing.now.words.now × (((n ≡ 0 → ⊥) → Sound (bare (tables_of mine.now)) n) × ((m ≡ 0 → ⊥) → Sound (bare (tables_of other.now)) m)) }
@@ -99,11 +99,11 @@ fn same_graph(
 }
 
 // Whether the row i of one side and the row j of another have statements that are alike: the object first, in which rows differ most.
-pub fn same_statement(
+pub fn same_statement<'t, 's>(
     pairing: &Pairing<'_>,
-    mine: &Side<'_, '_>,
+    mine: &Side<'t, 's>,
     i: usize,
-    other: &Side<'_, '_>,
+    other: &Side<'t, 's>,
     j: usize,
 ) -> bool
     requires { Matched pairing.now.words.now × (SoundRow (tables_of mine.now) i × SoundRow (tables_of other.now) j) }
