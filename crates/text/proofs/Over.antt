@@ -1,18 +1,14 @@
 -- Laws of writing a text over the front of a slice.
-use Prim.Native.Nat.{ℕ, zero, suc, min, ◌+◌, ◌-◌, ◌≤◌, ◌<◌}
+use Prim.Native.Nat.{ℕ, zero, suc, ◌+◌, ◌-◌, ◌≤◌, ◌<◌}
 use mathlib.Core.Path.{◌≡◌, refl, ap, sym, ◌∙◌}
-use mathlib.Core.Logic.{◌⊎◌, inl, inr}
 use mathlib.Core.List.{[], ◌∷◌, ◌++◌, append-nil}
 use native.Mathlib.Numerals.{add-one}
 use native.Mathlib.Nat.{zero-add, suc-add}
 use native.Mathlib.Omega.{arith}
-use lib.ListN.{length, get_or, take, drop, set, length-set, length-drop, drop_of_length-le}
+use lib.ListN.{length, get_or, take, drop, set, length-drop, drop_of_length-le}
 use lib.Seq.{take-nil, take_all, take-append_seam, get_or-drop}
-use lib.Dec.{ltb}
-use borrow.Author.Tests.{ltb-true, ltb-false}
 use Rattle.text.specs.Text.{Text}
-use Rattle.text.specs.Slice.{over, over_at, laid}
-use Rattle.text.proofs.Compare.{by}
+use Rattle.text.specs.Slice.{over, over_at}
 
 pub over_nothing : (s : Text) → over s [] ≡ []
 unfolding over
@@ -164,80 +160,6 @@ over_at_past zero s [] h = over_nothing s
 over_at_past zero s (b ∷ x) h = absurd (omega arith)
 over_at_past (suc at) s [] h = over_nothing s
 over_at_past (suc at) s (b ∷ x) h = ap (λ (l : Text). b ∷ l) (over_at_past at s x (omega arith))
-
--- Writing some bytes of a text where they stand, behind those that are written, or once more.
-over_again : (s x : Text) (i k : ℕ) → k < i → k < length s → set (over (take i s) x) k (get_or s k 0) ≡ over (take i s) x
-unfolding over
-over_again [] x i k h g = absurd (omega arith)
-over_again (a ∷ s) [] zero k h g = absurd (omega arith)
-over_again (a ∷ s) [] (suc i) k h g = refl
-over_again (a ∷ s) (b ∷ x) zero k h g = absurd (omega arith)
-over_again (a ∷ s) (b ∷ x) (suc i) zero h g = refl
-over_again (a ∷ s) (b ∷ x) (suc i) (suc k) h g = ap (λ (l : Text). a ∷ l) (over_again s x i k (omega arith) (omega arith))
-
-pub laid_more : (s x : Text) (i n : ℕ) → i + n ≤ length s → laid s i n (over (take i s) x) ≡ over (take (i + n) s) x
-unfolding laid
-laid_more s x i zero h = ap (λ (k : ℕ). over (take k s) x) (let z : i ≡ i + 0 = omega arith in z)
-laid_more s x i (suc n) h =
-    over_next s x (laid s i n (over (take i s) x)) (i + n) (omega arith) (laid_more s x i n (omega arith))
-    ∙ ap (λ (k : ℕ). over (take k s) x) (let z : i + n + 1 ≡ i + suc n = omega arith in z)
-
-laid_again : (s x : Text) (i j n : ℕ) → j + n ≤ i → i ≤ length s → laid s j n (over (take i s) x) ≡ over (take i s) x
-unfolding laid
-laid_again s x i j zero h g = refl
-laid_again s x i j (suc n) h g =
-    ap (λ (l : Text). set l (j + n) (get_or s (j + n) 0)) (laid_again s x i j n (omega arith) g) ∙ over_again s x i (j + n) (omega arith) (omega arith)
-
-laid_append : (s y : Text) (j d m : ℕ) → laid s j (d + m) y ≡ laid s (j + d) m (laid s j d y)
-unfolding laid
-laid_append s y j d zero = ap (λ (k : ℕ). laid s j k y) (let z : d + 0 ≡ d = omega arith in z)
-laid_append s y j d (suc m) =
-    let z : d + suc m ≡ suc (d + m) = omega arith in
-    let w : j + (d + m) ≡ j + d + m = omega arith in
-    rw (z, w, laid_append s y j d m)
-
--- The last bytes, some of which may be written already.
-pub laid_last : (s x : Text) (i j n : ℕ) → j ≤ i → i ≤ j + n → j + n ≤ length s → laid s j n (over (take i s) x) ≡ over (take (j + n) s) x
-laid_last s x i j n h g l =
-    let d : n ≡ i - j + (n - (i - j)) = omega arith in
-    let e : j + (i - j) ≡ i = omega arith in
-    let f : i + (n - (i - j)) ≡ j + n = omega arith in
-    ap (λ (k : ℕ). laid s j k (over (take i s) x)) d
-    ∙ (laid_append s (over (take i s) x) j (i - j) (n - (i - j))
-    ∙ (rw (e, laid_again s x i j (i - j) (omega arith) (omega arith)) (laid_more s x i (n - (i - j)) (omega arith))
-    ∙ ap (λ (k : ℕ). over (take k s) x) f))
-
-pub over_least : (s x : Text) (n : ℕ) → (length s ≤ n) ⊎ (length x ≤ n) → over (take n s) x ≡ over s x
-over_least s x n (inl h) = over_whole s x n h
-over_least s x n (inr h) = over_enough s x n h
-
--- The smaller of two lengths is one of them.
-pub is_one : (a b n : ℕ) → n ≡ min a b → (a ≤ n) ⊎ (b ≤ n)
-is_one a b n e =
-    by (ltb a b) (λ l. let k = ltb-true a b l in inl (omega (arith, e))) (λ l. let k = ltb-false a b l in inr (omega (arith, e)))
-
-pub laid_length : (s : Text) (i n : ℕ) (x : Text) → length (laid s i n x) ≡ length x
-unfolding laid
-laid_length s i zero x = refl
-laid_length s i (suc n) x = length-set (laid s i n x) (i + n) (get_or s (i + n) 0) ∙ laid_length s i n x
-
-pub laid_below : (s : Text) (i n : ℕ) (x : Text) → i + n < length x → i + n < length (laid s i n x)
-laid_below s i n x h = rw (laid_length s i n x) h
-
--- A loop that writes a text eight bytes at a time: its turn and its end.
-module _ (s x y : Text) (i : ℕ) where
-  pub copied_length : y ≡ over (take i s) x → length y ≡ length x
-  copied_length e = ap length e ∙ over_length (take i s) x
-
-  pub copied_more : (z : Text) → i + 8 ≤ length s → y ≡ over (take i s) x → z ≡ laid s i 8 y → z ≡ over (take (i + 8) s) x
-  copied_more z h e f = f ∙ rw e (laid_more s x i 8 h)
-
-  pub copied_last : (n : ℕ) (z : Text) → 8 ≤ n → n ≤ i + 8 → i ≤ n → n ≤ length s → (length s ≤ n) ⊎ (length x ≤ n) → y ≡ over (take i s) x → z ≡ laid s (n - 8) 8 y → z ≡ over s x
-  copied_last n z a b d g l e f =
-      let k : n - 8 + 8 ≡ n = omega arith in
-      let w : laid s (n - 8) 8 y ≡ over (take (n - 8 + 8) s) x = rw e (laid_last s x i (n - 8) 8 (omega arith) (omega arith) (omega arith)) in
-      let v : over (take (n - 8 + 8) s) x ≡ over s x = rw k (over_least s x n l) in
-      f ∙ (w ∙ v)
 
 -- A text in two parts is written in two.
 pub over_at_append : (at : ℕ) (s t x : Text) → over_at at (s ++ t) x ≡ over_at (at + length s) t (over_at at s x)

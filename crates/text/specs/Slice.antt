@@ -1,5 +1,5 @@
 -- What a slice holds after a text was written over its front.
-use Rattle.std.specs.Prelude.{[], ◌∷◌, ◌++◌, ℕ, zero, suc, ◌+◌, get_or, take, drop, set}
+use Rattle.std.specs.Prelude.{[], ◌∷◌, ◌++◌, ℕ, take, drop}
 use Rattle.text.specs.Text.{Text}
 
 -- The bytes with the text over their front, as far as they go.
@@ -11,8 +11,3 @@ over (a ∷ s) (b ∷ x) = a ∷ over s x
 -- The same from a place on.
 unfoldable pub over_at : ℕ → Text → Text → Text
 over_at at s x = take at x ++ over s (drop at x)
-
--- The bytes with n bytes of the text, from a place on, where they stand there.
-unfoldable pub laid : Text → ℕ → ℕ → Text → Text
-laid s at zero x = x
-laid s at (suc n) x = set (laid s at n x) (at + n) (get_or s (at + n) 0)

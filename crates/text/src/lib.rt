@@ -4,7 +4,7 @@
 ghost use Rattle.std.specs.Prelude.{◌≡◌, ℕ, Bool, ◌+◌, ◌≤◌, ◌<◌, length, drop};
 ghost use Rattle.text.specs.Text.{same_text, begins, some_byte};
 ghost use Rattle.text.specs.Order.{smaller};
-ghost use Rattle.text.specs.Slice.{over, laid};
+ghost use Rattle.text.specs.Slice.{over};
 ghost use Rattle.text.specs.Words.{four_at, eight_at};
 ghost use Rattle.text.specs.Runs.{Answers, byte, four, high, free, next_at};
 
@@ -104,7 +104,7 @@ fn smaller_long(s: &[u8], t: &[u8]) -> bool
 }
 
 // Whether a text comes before another in the order of their bytes: eight at a time, as far as they are the same. (`cmp` alone takes a third
-// longer over texts of 64 to 200 bytes that differ early.)
+// more instructions over texts of 64 to 200 bytes that differ early.)
 pub fn smaller(s: &[u8], t: &[u8]) -> bool
     ensures { result ≡ smaller s.now t.now }
 {
@@ -122,59 +122,18 @@ pub fn smaller(s: &[u8], t: &[u8]) -> bool
     smaller_from(s, t, i)
 }
 
-// Writes eight bytes of the text from a place on where they stand there.
-fn copy_8(s: &[u8], out: &mut [u8], i: usize)
-    requires { (i + 8 ≤ length s.now) × (i + 8 ≤ length out.old) }
-    ensures { out.new ≡ laid s.now i 8 out.old }
-{
-    let a = s[i + 0];
-    let b = s[i + 1];
-    let c = s[i + 2];
-    let d = s[i + 3];
-    let e = s[i + 4];
-    let f = s[i + 5];
-    let g = s[i + 6];
-    let h = s[i + 7];
-    out[i + 0] = a;
-    out[i + 1] = b;
-    out[i + 2] = c;
-    out[i + 3] = d;
-    out[i + 4] = e;
-    out[i + 5] = f;
-    out[i + 6] = g;
-    out[i + 7] = h;
-}
-
-// The same byte by byte.
-fn copy_few(s: &[u8], out: &mut [u8])
-    ensures { out.new ≡ over s.now out.old }
-{
-    let mut i: usize = 0;
-    while i < s.len() {
-        if out.len() <= i {
-            return;
-        }
-        out[i] = s[i];
-        i += 1;
-    }
-}
-
-// Writes the text over the front of a slice, as far as it goes: eight bytes at a time, the last of them
-// up to the end. (`copy_from_slice` becomes a call of C's memcpy or memmove, which an archive would need from outside.)
+// Writes the text over the front of a slice, as far as it goes. Not inlined, for where the two are known to lie apart the compiler makes
+// a call of C's memcpy of it, which the archive would need from outside.
+#[inline(never)]
 pub fn copy(s: &[u8], out: &mut [u8])
     ensures { out.new ≡ over s.now out.old }
 {
-    let n = s.len().min(out.len());
-    if n < 8 {
-        copy_few(s, out);
-        return;
+    for (i, b) in s.iter().enumerate() {
+        if out.len() <= i {
+            return;
+        }
+        out[i] = *b;
     }
-    let mut i: usize = 0;
-    while 8 < n - i {
-        copy_8(s, out, i);
-        i += 8;
-    }
-    copy_8(s, out, n - 8);
 }
 
 // Whether the byte stands in the text.
