@@ -7,10 +7,16 @@ use native.Mathlib.Numerals.{add-one}
 use native.Mathlib.Omega.{arith}
 use lib.ListN.{length, get_or, take, drop, length-drop, drop_of_length-le}
 use lib.Seq.{drop-cons, drop-drop, get_or-drop}
-use borrow.Author.Tests.{not-true}
+use lib.Dec.{ltb}
+use borrow.Author.Tests.{not-true, lt-ltb, le-ltb, ltb-true, ltb-false}
 use Rattle.text.specs.Text.{Text, until, some_byte}
 use Rattle.text.specs.Runs.{free, next_at}
 use Rattle.text.proofs.Compare.{by, and_left, and_right}
+
+pub until_length : (p : ℕ → Bool) (t : Text) → length (until p t) ≤ length t
+unfolding until
+until_length p [] = omega arith
+until_length p (c ∷ t) = by (p c) (λ e. rw e (omega arith)) (λ e. rw e (omega (arith, until_length p t)))
 
 -- The run, and what stands behind it.
 pub until_split : (p : ℕ → Bool) (t : Text) → t ≡ until p t ++ drop (length (until p t)) t
@@ -27,6 +33,14 @@ pub until_free : (p : ℕ → Bool) (t : Text) → some_byte p (until p t) ≡ f
 unfolding until some_byte
 until_free p [] = refl
 until_free p (c ∷ t) = by (p c) (λ e. rw e) (λ e. rw (e, e) (until_free p t))
+
+pub until_some : (p : ℕ → Bool) (t : Text) → some_byte p t ≡ ltb (length (until p t)) (length t)
+unfolding until some_byte
+until_some p [] = refl
+until_some p (c ∷ t) = by (p c) (λ e. rw e (sym (lt-ltb 0 (suc (length t)) (omega arith)))) (λ e. rw e (until_some p t ∙ sym (shift (length (until p t)) (length t))))
+  where
+    shift : (a b : ℕ) → ltb (suc a) (suc b) ≡ ltb a b
+    shift a b = by (ltb a b) (λ e. rw e (lt-ltb (suc a) (suc b) (omega (arith, ltb-true a b e)))) (λ e. rw e (le-ltb (suc a) (suc b) (omega (arith, ltb-false a b e))))
 
 until_stop : (p : ℕ → Bool) (t : Text) → length (until p t) < length t → p (get_or t (length (until p t)) 0) ≡ true
 unfolding until
